@@ -1,0 +1,33 @@
+//! What the front end may refuse.
+ghost use Rattle.std.specs.Prelude.{◌≡◌};
+ghost use Rattle.squawk_events.specs.declared.error.FrontError.TheVariants.{OutOfMemory};
+
+use std::alloc::{AllocError, AllocFailed};
+use thiserror::Error;
+
+/// Why the front end gives no answer.
+#[derive(Clone, Copy, Debug, PartialEq, Eq, Error)]
+pub enum FrontError {
+    /// The text has more than 4294967295 bytes.
+    #[error("too long")]
+    TooLong,
+    /// There was no memory for the answer.
+    #[error("out of memory")]
+    OutOfMemory,
+}
+
+impl From<AllocError> for FrontError {
+    ghost from_gives = { λ _ e. e ≡ OutOfMemory };
+
+    fn from(_: AllocError) -> Self {
+        FrontError::OutOfMemory
+    }
+}
+
+impl<T: Drop> From<AllocFailed<T>> for FrontError {
+    ghost from_gives = { λ _ e. e ≡ OutOfMemory };
+
+    fn from(_: AllocFailed<T>) -> Self {
+        FrontError::OutOfMemory
+    }
+}

@@ -1,0 +1,15 @@
+pub mod Characters
+pub mod Classes
+pub mod Place
+pub mod Runs
+pub mod Quoted
+pub mod Comment
+pub mod CursorModel
+pub mod Lexeme
+pub mod Numbers
+pub mod Symbols
+pub mod Token
+pub mod Tokens
+pub mod TokensModel
+pub mod Dollar
+pub mod Psql

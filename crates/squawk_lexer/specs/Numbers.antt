@@ -1,0 +1,45 @@
+-- Numbers. The text begins with a digit, or with a point and a digit.
+use Rattle.std.specs.Prelude.{ℕ, ◌+◌, Bool, true, false, not, ◌&&◌, ◌||◌, ◌==◌, List, take, slice_index, Option, Some, None, if◌then◌else◌}
+use Rattle.squawk_lexer.specs.declared.token.Base.{Base}
+use Rattle.squawk_lexer.specs.declared.token.Base.TheVariants.{Binary, Octal, Decimal, Hexadecimal}
+use Rattle.squawk_lexer.specs.declared.token.LiteralKind.TheVariants.{Int, Numeric}
+use Rattle.squawk_lexer.specs.Lexeme.{Lexeme, literal}
+use Rattle.squawk_lexer.specs.Characters.{is_digit}
+use Rattle.squawk_lexer.specs.Runs.{digits, hex, junk, bytes, exponent, is_exponent_letter, fraction_digits}
+
+-- an integer whose digits end at n, and junk
+abbrev pub int : Base → Bool → List ℕ → ℕ → Lexeme
+int base empty u n = literal (Int base empty (bytes (take n u))) (junk u n)
+
+-- an integer whose digits begin at 2 and end at n, and junk: it is empty where it has neither
+abbrev pub based_int : Base → List ℕ → ℕ → Lexeme
+based_int base u n = int base (n == 2 && junk u n == n) u n
+
+-- a number with a point or an exponent which ends at n, and junk
+abbrev pub numeric : Option ℕ → List ℕ → ℕ → Lexeme
+numeric empty_exponent u n = literal (Numeric empty_exponent (bytes (take n u))) (junk u n)
+
+-- a number with an exponent whose letter stands at i
+abbrev pub with_exponent : List ℕ → ℕ → Lexeme
+with_exponent u i = numeric (if exponent u i == i + 1 then Some (bytes (take i u)) else None) u (exponent u i)
+
+-- a number whose point stands before i
+abbrev pub fractional : List ℕ → ℕ → Lexeme
+fractional u i =
+    if is_exponent_letter (slice_index u (fraction_digits u i)) then with_exponent u (fraction_digits u i)
+    else numeric None u (fraction_digits u i)
+
+-- a number without a base, whose first digits end at a
+abbrev pub decimal_from : List ℕ → ℕ → Lexeme
+decimal_from u a =
+    if slice_index u a == 46 && not (slice_index u (a + 1) == 46) then fractional u (a + 1)
+    else if is_exponent_letter (slice_index u a) then with_exponent u a
+    else int Decimal false u a
+
+-- a text that begins with a digit
+abbrev pub number : List ℕ → Lexeme
+number u =
+    if slice_index u 0 == 48 && (slice_index u 1 == 98 || slice_index u 1 == 66) then based_int Binary u (digits u 2)
+    else if slice_index u 0 == 48 && (slice_index u 1 == 111 || slice_index u 1 == 79) then based_int Octal u (digits u 2)
+    else if slice_index u 0 == 48 && (slice_index u 1 == 120 || slice_index u 1 == 88) then based_int Hexadecimal u (hex u 2)
+    else decimal_from u (digits u 1)

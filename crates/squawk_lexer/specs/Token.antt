@@ -1,0 +1,90 @@
+-- The token at the front of a text that is not empty: the first row that fits decides.
+use Rattle.std.specs.Prelude.{ℕ, ◌+◌, Bool, true, false, ◌&&◌, ◌||◌, ◌==◌, ◌-◌, List, take, slice_index, if◌then◌else◌}
+use Rattle.std.specs.Char.{to_ascii_lowercase}
+use Rattle.squawk_lexer.specs.declared.token.Token.{Token}
+use Rattle.squawk_lexer.specs.declared.token.TokenKind.{TokenKind}
+use Rattle.squawk_lexer.specs.declared.token.TokenKind.TheVariants as kinds
+use Rattle.squawk_lexer.specs.declared.lexer.Start.{Start}
+use Rattle.squawk_lexer.specs.declared.lexer.Start.TheVariants.{White, LineComment, BlockComment, String, QuotedIdent, Word, Param, Number, DotDot, Fraction, Symbol}
+use Rattle.squawk_lexer.specs.declared.token.LiteralKind.{LiteralKind}
+use Rattle.squawk_lexer.specs.declared.token.LiteralKind.TheVariants.{Str, NationalStr, BitStr, ByteStr, UnicodeEscStr, EscStr}
+use Rattle.squawk_lexer.specs.declared.lexer.Opening.{Opening}
+use Rattle.squawk_lexer.specs.declared.lexer.Opening.TheVariants.{National, Bit, Byte, Escape, UnicodeString, UnicodeIdent, Plain}
+use Rattle.squawk_lexer.specs.Lexeme.{Lexeme, lexeme, literal}
+use Rattle.squawk_lexer.specs.Characters.{is_white, is_id_start, is_id_cont, is_digit, byte_order_mark}
+use Rattle.squawk_lexer.specs.Runs.{run, line, digits, junk, bytes}
+use Rattle.squawk_lexer.specs.Quoted.{quoted, is_terminated}
+use Rattle.squawk_lexer.specs.Comment.{comment_end, is_closed}
+use Rattle.squawk_lexer.specs.Numbers.{number, fractional}
+use Rattle.squawk_lexer.specs.Symbols.{symbol}
+
+abbrev pub string : (Bool → LiteralKind) → Bool → List ℕ → ℕ → Lexeme
+string kind escapes u i = literal (kind (is_terminated escapes 39 u i)) (quoted escapes 39 u i)
+
+abbrev pub quoted_ident : Bool → List ℕ → ℕ → Lexeme
+quoted_ident uescape u i = lexeme (kinds.QuotedIdent (is_terminated false 34 u i) uescape) (quoted false 34 u i)
+
+-- a small letter or its capital
+abbrev pub is_letter : ℕ → ℕ → Bool
+is_letter small c = c == small || c == small - 32
+
+-- what the first three characters open, where the first is an id-start
+unfoldable pub opening : ℕ → ℕ → ℕ → Opening
+opening c d e =
+    if is_letter 110 c && d == 39 then National
+    else if is_letter 98 c && d == 39 then Bit
+    else if is_letter 120 c && d == 39 then Byte
+    else if is_letter 101 c && d == 39 then Escape
+    else if (is_letter 117 c && d == 38) && e == 39 then UnicodeString
+    else if (is_letter 117 c && d == 38) && e == 34 then UnicodeIdent
+    else Plain
+
+abbrev pub opened : Opening → List ℕ → Lexeme
+opened National u = string NationalStr false u 2
+opened Bit u = string BitStr false u 2
+opened Byte u = string ByteStr false u 2
+opened Escape u = string EscStr true u 2
+opened UnicodeString u = string UnicodeEscStr false u 3
+opened UnicodeIdent u = quoted_ident true u 3
+opened Plain u = lexeme kinds.Ident (run is_id_cont u 1)
+
+abbrev pub word : List ℕ → Lexeme
+word u = opened (opening (slice_index u 0) (slice_index u 1) (slice_index u 2)) u
+
+-- what the first two characters begin: the first row that fits decides
+unfoldable pub start : ℕ → ℕ → Start
+start c d =
+    if is_white c then White
+    else if c == 45 && d == 45 then LineComment
+    else if c == 47 && d == 42 then BlockComment
+    else if c == 39 then String
+    else if c == 34 then QuotedIdent
+    else if is_id_start c then Word
+    else if c == 36 then Param
+    else if is_digit c then Number
+    else if c == 46 && d == 46 then DotDot
+    else if c == 46 && is_digit d then Fraction
+    else Symbol
+
+abbrev pub begun : Start → List ℕ → Lexeme
+begun White u = lexeme kinds.Whitespace (run is_white u 0)
+begun LineComment u = lexeme kinds.LineComment (line u 2)
+begun BlockComment u = lexeme (kinds.BlockComment (is_closed 0 u 2)) (comment_end 0 u 2)
+begun String u = string Str false u 1
+begun QuotedIdent u = quoted_ident false u 1
+begun Word u = word u
+begun Param u = lexeme (kinds.PositionalParam (bytes (take (run is_digit u 1) u))) (junk u (run is_digit u 1))
+begun Number u = number u
+begun DotDot u = lexeme kinds.DotDot 2
+begun Fraction u = fractional u 1
+begun Symbol u = lexeme (symbol (slice_index u 0)) 1
+
+abbrev pub lexeme_of : List ℕ → Lexeme
+lexeme_of u = begun (start (slice_index u 0) (slice_index u 1)) u
+
+-- U+FEFF that begins the whole text is white
+abbrev pub lexeme_at : Bool → List ℕ → Lexeme
+lexeme_at start u = if start && slice_index u 0 == byte_order_mark then lexeme kinds.Whitespace 1 else lexeme_of u
+
+abbrev pub token_at : Bool → List ℕ → Token
+token_at start u = record { kind = (lexeme_at start u).kind; len = bytes (take (lexeme_at start u).end u) }
