@@ -1,0 +1,4 @@
+pub mod Steps
+pub mod Ranges
+pub mod Tree
+pub mod Spans
