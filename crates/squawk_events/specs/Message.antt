@@ -1,6 +1,7 @@
--- The messages of errors, by number from 1 to 10.
+-- The messages of errors, by their numbers.
 use Rattle.std.specs.Prelude.{ℕ, ◌-◌, List, [], ◌∷◌, codes, slice_index_or}
 
+-- the messages, in the order of their numbers from 1 to 10
 abbrev pub messages : List (List ℕ)
 messages =
     codes "unknown character" ∷

@@ -8,7 +8,7 @@ use thiserror::Error;
 /// Why the front end gives no answer.
 #[derive(Clone, Copy, Debug, PartialEq, Eq, Error)]
 pub enum FrontError {
-    /// The text has more than 4294967295 bytes.
+    /// The text has more bytes than a `u32` counts.
     #[error("too long")]
     TooLong,
     /// There was no memory for the answer.

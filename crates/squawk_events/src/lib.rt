@@ -2,9 +2,9 @@
 #![tactic(auto)]
 
 mod error;
-mod message;
+mod messages;
 mod steps;
 
 pub use error::FrontError;
-pub use message::message;
+pub use messages::message;
 pub use steps::{ParseError, StrStep};

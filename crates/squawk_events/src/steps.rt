@@ -1,11 +1,13 @@
-//! The steps of a tree over a text, and the errors in it.
+//! The steps of a tree over a text, and the errors in the text. Places are in bytes from the text's start.
 use squawk_kinds::SyntaxKind;
 
-/// A step of a tree over a text. Places are in bytes from the text's start.
+/// A step of a tree over a text: the tree is what its steps enter and leave, in the order of the text.
 #[derive(Clone, Copy, Debug, PartialEq, Eq)]
 pub enum StrStep {
     /// A node of this kind begins.
-    Enter { kind: SyntaxKind },
+    Enter {
+        kind: SyntaxKind,
+    },
     /// A token of this kind lies from `start` to before `end`.
     Token {
         kind: SyntaxKind,
@@ -14,11 +16,14 @@ pub enum StrStep {
     },
     /// The node that was entered last ends.
     Exit,
-    /// A fault with the message of this number stands at a place.
-    Error { number: u8, at: u32 },
+    /// An error stands at the place `at`; its text is the `message` with this number.
+    Error {
+        number: u8,
+        at: u32,
+    },
 }
 
-/// An error in a text: from `start` to before `end`, in bytes, with the message of a number from 1 to 10.
+/// An error in a text, from `start` to before `end`; its text is the `message` with this number.
 #[derive(Clone, Copy, Debug, PartialEq, Eq)]
 pub struct ParseError {
     pub start: u32,

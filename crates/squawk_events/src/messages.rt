@@ -2,9 +2,9 @@
 ghost use Rattle.std.specs.Prelude.{◌≡◌, ◌≤◌, length};
 ghost use Rattle.squawk_events.specs.Message.{message_of};
 
-/// The message with a number from 1 to 10.
+/// The message with this number, at most 40 bytes long.
 ///
-/// Numbers 1 to 9 are faults of tokens, 10 is a statement whose opening words are none that this project knows.
+/// The numbers 1 to 9 are faults of tokens; 10 is a statement whose opening words are not known.
 pub fn message(number: u8) -> &'static str
     requires from_one { 1 ≤ number }
     requires to_ten { number ≤ 10 }
