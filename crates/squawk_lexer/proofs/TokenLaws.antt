@@ -1,0 +1,168 @@
+-- What holds of every token: it has a character at least, and is no `Eof`.
+use Rattle.std.proofs.Common.{◌≡◌, ℕ, zero, suc, ◌+◌, ◌-◌, ◌<◌, ◌≤◌, Bool, true, false, List, [], ◌∷◌, length, get_or, drop, take, Option, None, Some, refl, sym, ap, subst, ◌∙◌, inl, inr, ◌⊎◌, ◌&&◌, eqb, cond, unwrap_or, arith}
+use Rattle.std.proofs.lemmas.Bool.{cases_lt}
+use Rattle.std.proofs.lemmas.Bool.Decides.{nat_tests}
+use Rattle.std.proofs.lemmas.List.Sums.{sum_by-cons}
+use Rattle.std.proofs.lemmas.Str.{len_utf8_bounds}
+use Rattle.std.specs.Char.{len_utf8}
+use Rattle.squawk_lexer.specs.Text.{bytes}
+use Rattle.std.specs.List.{prefix_len}
+use Rattle.squawk_lexer.specs.declared.token.Strings.{Strings}
+use Rattle.squawk_lexer.specs.declared.lexer.Start.{Start}
+use Rattle.squawk_lexer.specs.declared.lexer.Start.TheVariants.{White, LineComment, BlockComment, String, QuotedIdent, Word, Parameter, Number, DotDot, Fraction, Symbol}
+use Rattle.squawk_lexer.specs.declared.word.Opening.{Opening}
+use Rattle.squawk_lexer.specs.declared.word.Opening.TheVariants.{National, Bit, Byte, Escape, UnicodeString, UnicodeIdent, Plain}
+use Rattle.squawk_lexer.specs.Classes.{is_white, is_id_start, is_id_cont, is_digit, is_hex_digit, byte_order_mark}
+use Rattle.squawk_lexer.specs.Runs.{run, junk, digits, hex, exponent, is_exponent_letter, is_sign, fraction_digits}
+use Rattle.squawk_lexer.specs.Kind.{Lexeme}
+use Rattle.squawk_lexer.specs.declared.token.Base.TheVariants.{Binary, Octal, Decimal, Hexadecimal}
+use Rattle.squawk_lexer.specs.Numbers.{number, decimal_from, fractional, with_exponent, numeric, int, based_int}
+use Rattle.squawk_lexer.specs.Symbols.{symbol}
+use Rattle.squawk_lexer.specs.Token.{start, opening, begun, opened, word, lexeme_of, lexeme_at, token_at}
+use Rattle.squawk_lexer.specs.declared.token.TokenKind.{TokenKind}
+use Rattle.squawk_lexer.specs.declared.token.TokenKind.TheVariants as kinds
+use Rattle.squawk_lexer.proofs.Steps.{drop_read}
+use Rattle.squawk_lexer.proofs.StartSteps.{start_white}
+
+junk_on : (u : List ℕ) (i : ℕ) → i ≤ junk u i
+junk_on u i = by (is_id_start (get_or u i 0)) refl
+  where
+    by : (b : Bool) → is_id_start (get_or u i 0) ≡ b → i ≤ junk u i
+    by true e = rw e (omega arith)
+    by false e = rw e (omega arith)
+
+exponent_on : (u : List ℕ) (i : ℕ) → i + 1 ≤ exponent u i
+exponent_on u i = by (is_sign (get_or u (i + 1) 0) && is_digit (get_or u (i + 2) 0)) (is_digit (get_or u (i + 1) 0)) refl refl
+  where
+    by : (b d : Bool) → (is_sign (get_or u (i + 1) 0) && is_digit (get_or u (i + 2) 0)) ≡ b → is_digit (get_or u (i + 1) 0) ≡ d → i + 1 ≤ exponent u i
+    by true d e f = rw e (omega arith)
+    by false true e f = rw (e, f) (omega arith)
+    by false false e f = rw (e, f) (omega arith)
+
+fraction_on : (u : List ℕ) (i : ℕ) → i ≤ fraction_digits u i
+fraction_on u i = by (is_digit (get_or u i 0)) refl
+  where
+    by : (b : Bool) → is_digit (get_or u i 0) ≡ b → i ≤ fraction_digits u i
+    by true e = rw e (omega arith)
+    by false e = rw e (omega arith)
+
+with_exponent_on : (u : List ℕ) (i : ℕ) → i ≤ (with_exponent u i).end
+with_exponent_on u i = omega (arith, exponent_on u i, junk_on u (exponent u i))
+
+fractional_on : (u : List ℕ) (i : ℕ) → i ≤ (fractional u i).end
+fractional_on u i = by (is_exponent_letter (get_or u (fraction_digits u i) 0)) refl
+  where
+    by : (b : Bool) → is_exponent_letter (get_or u (fraction_digits u i) 0) ≡ b → i ≤ (fractional u i).end
+    by true e = rw e (omega (arith, fraction_on u i, with_exponent_on u (fraction_digits u i)))
+    by false e = rw e (omega (arith, fraction_on u i, junk_on u (fraction_digits u i)))
+
+either_on : (b : Bool) (x y : Lexeme) (n : ℕ) → n ≤ x.end → n ≤ y.end → n ≤ (cond b x y).end
+either_on true x y n p q = p
+either_on false x y n p q = q
+
+le_on : (a b c : ℕ) → a ≤ b → b ≤ c → a ≤ c
+le_on a b c p q = omega arith
+
+decimal_on : (u : List ℕ) (a : ℕ) → a ≤ (decimal_from u a).end
+decimal_on u a =
+    either_on _ (fractional u (a + 1)) _ a (le_on a (a + 1) _ (omega arith) (fractional_on u (a + 1)))
+    (either_on _ (with_exponent u a) (int Decimal false u a) a (with_exponent_on u a) (junk_on u a))
+
+number_on : (u : List ℕ) → 1 ≤ (number u).end
+number_on u =
+    either_on _ (based_int Binary u (digits u 2)) _ 1 (le_on 1 (digits u 2) _ (omega arith) (junk_on u (digits u 2)))
+    (either_on _ (based_int Octal u (digits u 2)) _ 1 (le_on 1 (digits u 2) _ (omega arith) (junk_on u (digits u 2)))
+    (either_on _ (based_int Hexadecimal u (hex u 2)) (decimal_from u (digits u 1)) 1 (le_on 1 (hex u 2) _ (omega arith) (junk_on u (hex u 2)))
+    (le_on 1 (digits u 1) _ (omega arith) (decimal_on u (digits u 1)))))
+
+opened_on : (s : Opening) (u : List ℕ) → 1 ≤ (opened s u).end
+opened_on National u = omega arith
+opened_on Bit u = omega arith
+opened_on Byte u = omega arith
+opened_on Escape u = omega arith
+opened_on UnicodeString u = omega arith
+opened_on UnicodeIdent u = omega arith
+opened_on Plain u = omega arith
+
+begun_on : (strings : Strings) (s : Start) (u : List ℕ) → 0 < length u → s ≡ start (get_or u 0 0) (get_or u 1 0) → 1 ≤ (begun strings s u).end
+begun_on strings White u h e = rw (drop_read u 0 h, start_white (get_or u 0 0) (get_or u 1 0) e) (omega arith)
+begun_on strings LineComment u h e = omega arith
+begun_on strings BlockComment u h e = omega arith
+begun_on strings String u h e = omega arith
+begun_on strings QuotedIdent u h e = omega arith
+begun_on strings Word u h e = opened_on (opening (get_or u 0 0) (get_or u 1 0) (get_or u 2 0)) u
+begun_on strings Parameter u h e = omega (arith, junk_on u (run is_digit u 1))
+begun_on strings Number u h e = number_on u
+begun_on strings DotDot u h e = omega arith
+begun_on strings Fraction u h e = fractional_on u 1
+begun_on strings Symbol u h e = omega arith
+
+-- a token has a character
+pub lexeme_at_some : (strings : Strings) (s : Bool) (u : List ℕ) → 0 < length u → 0 < (lexeme_at strings s u).end
+lexeme_at_some strings s u h = by (s && eqb (get_or u 0 0) byte_order_mark) refl
+  where
+    by : (b : Bool) → (s && eqb (get_or u 0 0) byte_order_mark) ≡ b → 0 < (lexeme_at strings s u).end
+    by true e = rw e (omega arith)
+    by false e = rw e (begun_on strings (start (get_or u 0 0) (get_or u 1 0)) u h refl)
+
+-- and a byte
+pub token_positive : (strings : Strings) (s : Bool) (u : List ℕ) → 0 < length u → 0 < (token_at strings s u).len
+token_positive strings s u h = some (lexeme_at strings s u).end u (lexeme_at_some strings s u h) h
+  where
+    some : (n : ℕ) (u : List ℕ) → 0 < n → 0 < length u → 0 < bytes (take n u)
+    some n [] p h = absurd (omega arith)
+    some zero (c ∷ cs) p h = absurd (omega arith)
+    some (suc n) (c ∷ cs) p h = omega (arith, sum_by-cons len_utf8 c (take n cs), len_utf8_bounds c)
+
+-- ---- no token is `Eof`
+
+abbrev is_eof : TokenKind → Bool
+is_eof kinds.Eof = true
+is_eof _ = false
+
+either_kind : (b : Bool) (x y : Lexeme) → is_eof x.kind ≡ false → is_eof y.kind ≡ false → is_eof (cond b x y).kind ≡ false
+either_kind true x y p q = p
+either_kind false x y p q = q
+
+symbol_kind : (c : ℕ) → is_eof (symbol c) ≡ false
+unfolding symbol
+symbol_kind c = grind (arith, nat_tests)
+
+fractional_kind : (u : List ℕ) (i : ℕ) → is_eof (fractional u i).kind ≡ false
+fractional_kind u i = either_kind _ (with_exponent u (fraction_digits u i)) _ refl refl
+
+decimal_kind : (u : List ℕ) (a : ℕ) → is_eof (decimal_from u a).kind ≡ false
+decimal_kind u a = either_kind _ (fractional u (a + 1)) _ (fractional_kind u (a + 1)) (either_kind _ (with_exponent u a) (int Decimal false u a) refl refl)
+
+number_kind : (u : List ℕ) → is_eof (number u).kind ≡ false
+number_kind u =
+    either_kind _ (based_int Binary u (digits u 2)) _ refl
+    (either_kind _ (based_int Octal u (digits u 2)) _ refl
+    (either_kind _ (based_int Hexadecimal u (hex u 2)) (decimal_from u (digits u 1)) refl (decimal_kind u (digits u 1))))
+
+opened_kind : (s : Opening) (u : List ℕ) → is_eof (opened s u).kind ≡ false
+opened_kind National u = refl
+opened_kind Bit u = refl
+opened_kind Byte u = refl
+opened_kind Escape u = refl
+opened_kind UnicodeString u = refl
+opened_kind UnicodeIdent u = refl
+opened_kind Plain u = refl
+
+begun_kind : (strings : Strings) (s : Start) (u : List ℕ) → is_eof (begun strings s u).kind ≡ false
+begun_kind strings White u = refl
+begun_kind strings LineComment u = refl
+begun_kind strings BlockComment u = refl
+begun_kind strings String u = refl
+begun_kind strings QuotedIdent u = refl
+begun_kind strings Word u = opened_kind (opening (get_or u 0 0) (get_or u 1 0) (get_or u 2 0)) u
+begun_kind strings Parameter u = refl
+begun_kind strings Number u = number_kind u
+begun_kind strings DotDot u = refl
+begun_kind strings Fraction u = fractional_kind u 1
+begun_kind strings Symbol u = symbol_kind (get_or u 0 0)
+
+pub token_never_eof : (strings : Strings) (s : Bool) (u : List ℕ) → (token_at strings s u).kind ≡ kinds.Eof → ⊥
+token_never_eof strings s u e =
+    let kind = either_kind (s && eqb (get_or u 0 0) byte_order_mark) _ (lexeme_of strings u) refl (begun_kind strings (start (get_or u 0 0) (get_or u 1 0)) u) in
+    absurd (let same : true ≡ false = sym (ap is_eof e) ∙ kind in cc)
