@@ -1,24 +1,23 @@
 -- What holds of every token: it has a character at least, and is no `Eof`.
-use Rattle.std.proofs.Common.{◌≡◌, ℕ, zero, suc, ◌+◌, ◌-◌, ◌<◌, ◌≤◌, Bool, true, false, List, [], ◌∷◌, length, get_or, drop, take, Option, None, Some, refl, sym, ap, subst, ◌∙◌, inl, inr, ◌⊎◌, ◌&&◌, eqb, cond, unwrap_or, arith}
-use Rattle.std.proofs.lemmas.Bool.{cases_lt}
+use Rattle.std.proofs.Common.{◌≡◌, ℕ, zero, suc, ◌+◌, ◌<◌, ◌≤◌, Bool, true, false, List, [], ◌∷◌, length, get_or, take, None, refl, sym, ap, ◌∙◌, ◌&&◌, eqb, cond, arith}
+use Rattle.std.proofs.lemmas.Bool.{false≢true}
 use Rattle.std.proofs.lemmas.Bool.Decides.{nat_tests}
 use Rattle.std.proofs.lemmas.List.Sums.{sum_by-cons}
 use Rattle.std.proofs.lemmas.Str.{len_utf8_bounds}
 use Rattle.std.specs.Char.{len_utf8}
 use Rattle.squawk_lexer.specs.Text.{bytes}
-use Rattle.std.specs.List.{prefix_len}
 use Rattle.squawk_lexer.specs.declared.token.Strings.{Strings}
 use Rattle.squawk_lexer.specs.declared.lexer.Start.{Start}
 use Rattle.squawk_lexer.specs.declared.lexer.Start.TheVariants.{White, LineComment, BlockComment, String, QuotedIdent, Word, Parameter, Number, DotDot, Fraction, Symbol}
 use Rattle.squawk_lexer.specs.declared.word.Opening.{Opening}
 use Rattle.squawk_lexer.specs.declared.word.Opening.TheVariants.{National, Bit, Byte, Escape, UnicodeString, UnicodeIdent, Plain}
-use Rattle.squawk_lexer.specs.Classes.{is_white, is_id_start, is_id_cont, is_digit, is_hex_digit, byte_order_mark}
+use Rattle.squawk_lexer.specs.Classes.{is_id_start, is_digit, byte_order_mark}
 use Rattle.squawk_lexer.specs.Runs.{run, junk, digits, hex, exponent, is_exponent_letter, is_sign, fraction_digits}
-use Rattle.squawk_lexer.specs.Kind.{Lexeme}
+use Rattle.squawk_lexer.specs.Kind.{Lexeme, lexeme}
 use Rattle.squawk_lexer.specs.declared.token.Base.TheVariants.{Binary, Octal, Decimal, Hexadecimal}
 use Rattle.squawk_lexer.specs.Numbers.{number, decimal_from, fractional, with_exponent, numeric, int, based_int}
 use Rattle.squawk_lexer.specs.Symbols.{symbol}
-use Rattle.squawk_lexer.specs.Token.{start, opening, begun, opened, word, lexeme_of, lexeme_at, token_at}
+use Rattle.squawk_lexer.specs.Token.{start, opening, begun, opened, lexeme_of, lexeme_at, token_at}
 use Rattle.squawk_lexer.specs.declared.token.TokenKind.{TokenKind}
 use Rattle.squawk_lexer.specs.declared.token.TokenKind.TheVariants as kinds
 use Rattle.squawk_lexer.proofs.Steps.{drop_read}
@@ -120,49 +119,57 @@ abbrev is_eof : TokenKind → Bool
 is_eof kinds.Eof = true
 is_eof _ = false
 
-either_kind : (b : Bool) (x y : Lexeme) → is_eof x.kind ≡ false → is_eof y.kind ≡ false → is_eof (cond b x y).kind ≡ false
-either_kind true x y p q = p
-either_kind false x y p q = q
+record IsReal (x : Lexeme) : Type 0 where
+  real : is_eof x.kind ≡ false
 
-symbol_kind : (c : ℕ) → is_eof (symbol c) ≡ false
+either_real : (b : Bool) (x y : Lexeme) → IsReal x → IsReal y → IsReal (cond b x y)
+either_real true x y p q = p
+either_real false x y p q = q
+
+symbol_real : (c : ℕ) → is_eof (symbol c) ≡ false
 unfolding symbol
-symbol_kind c = grind (arith, nat_tests)
+symbol_real c = grind (arith, nat_tests)
 
-fractional_kind : (u : List ℕ) (i : ℕ) → is_eof (fractional u i).kind ≡ false
-fractional_kind u i = either_kind _ (with_exponent u (fraction_digits u i)) _ refl refl
+fractional_real : (u : List ℕ) (i : ℕ) → IsReal (fractional u i)
+fractional_real u i =
+    either_real (is_exponent_letter (get_or u (fraction_digits u i) 0)) (with_exponent u (fraction_digits u i)) (numeric None u (fraction_digits u i)) (record { real = refl }) (record { real = refl })
 
-decimal_kind : (u : List ℕ) (a : ℕ) → is_eof (decimal_from u a).kind ≡ false
-decimal_kind u a = either_kind _ (fractional u (a + 1)) _ (fractional_kind u (a + 1)) (either_kind _ (with_exponent u a) (int Decimal false u a) refl refl)
+decimal_real : (u : List ℕ) (a : ℕ) → IsReal (decimal_from u a)
+decimal_real u a =
+    either_real _ (fractional u (a + 1)) _ (fractional_real u (a + 1))
+    (either_real _ (with_exponent u a) (int Decimal false u a) (record { real = refl }) (record { real = refl }))
 
-number_kind : (u : List ℕ) → is_eof (number u).kind ≡ false
-number_kind u =
-    either_kind _ (based_int Binary u (digits u 2)) _ refl
-    (either_kind _ (based_int Octal u (digits u 2)) _ refl
-    (either_kind _ (based_int Hexadecimal u (hex u 2)) (decimal_from u (digits u 1)) refl (decimal_kind u (digits u 1))))
+number_real : (u : List ℕ) → IsReal (number u)
+number_real u =
+    either_real _ (based_int Binary u (digits u 2)) _ (record { real = refl })
+    (either_real _ (based_int Octal u (digits u 2)) _ (record { real = refl })
+    (either_real _ (based_int Hexadecimal u (hex u 2)) (decimal_from u (digits u 1)) (record { real = refl }) (decimal_real u (digits u 1))))
 
-opened_kind : (s : Opening) (u : List ℕ) → is_eof (opened s u).kind ≡ false
-opened_kind National u = refl
-opened_kind Bit u = refl
-opened_kind Byte u = refl
-opened_kind Escape u = refl
-opened_kind UnicodeString u = refl
-opened_kind UnicodeIdent u = refl
-opened_kind Plain u = refl
+opened_real : (s : Opening) (u : List ℕ) → IsReal (opened s u)
+opened_real National u = record { real = refl }
+opened_real Bit u = record { real = refl }
+opened_real Byte u = record { real = refl }
+opened_real Escape u = record { real = refl }
+opened_real UnicodeString u = record { real = refl }
+opened_real UnicodeIdent u = record { real = refl }
+opened_real Plain u = record { real = refl }
 
-begun_kind : (strings : Strings) (s : Start) (u : List ℕ) → is_eof (begun strings s u).kind ≡ false
-begun_kind strings White u = refl
-begun_kind strings LineComment u = refl
-begun_kind strings BlockComment u = refl
-begun_kind strings String u = refl
-begun_kind strings QuotedIdent u = refl
-begun_kind strings Word u = opened_kind (opening (get_or u 0 0) (get_or u 1 0) (get_or u 2 0)) u
-begun_kind strings Parameter u = refl
-begun_kind strings Number u = number_kind u
-begun_kind strings DotDot u = refl
-begun_kind strings Fraction u = fractional_kind u 1
-begun_kind strings Symbol u = symbol_kind (get_or u 0 0)
+begun_real : (strings : Strings) (s : Start) (u : List ℕ) → IsReal (begun strings s u)
+begun_real strings White u = record { real = refl }
+begun_real strings LineComment u = record { real = refl }
+begun_real strings BlockComment u = record { real = refl }
+begun_real strings String u = record { real = refl }
+begun_real strings QuotedIdent u = record { real = refl }
+begun_real strings Word u = opened_real (opening (get_or u 0 0) (get_or u 1 0) (get_or u 2 0)) u
+begun_real strings Parameter u = record { real = refl }
+begun_real strings Number u = number_real u
+begun_real strings DotDot u = record { real = refl }
+begun_real strings Fraction u = fractional_real u 1
+begun_real strings Symbol u = record { real = symbol_real (get_or u 0 0) }
 
 pub token_never_eof : (strings : Strings) (s : Bool) (u : List ℕ) → (token_at strings s u).kind ≡ kinds.Eof → ⊥
 token_never_eof strings s u e =
-    let kind = either_kind (s && eqb (get_or u 0 0) byte_order_mark) _ (lexeme_of strings u) refl (begun_kind strings (start (get_or u 0 0) (get_or u 1 0)) u) in
-    absurd (let same : true ≡ false = sym (ap is_eof e) ∙ kind in cc)
+    let is_real : IsReal (lexeme_at strings s u) =
+    either_real (s && eqb (get_or u 0 0) byte_order_mark) (lexeme kinds.Whitespace 1) (lexeme_of strings u) (record { real = refl })
+    (begun_real strings (start (get_or u 0 0) (get_or u 1 0)) u) in
+    false≢true (sym is_real.real ∙ ap is_eof e)

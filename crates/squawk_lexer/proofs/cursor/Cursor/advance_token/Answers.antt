@@ -1,4 +1,4 @@
-use Rattle.std.proofs.Common.{◌≡◌, sym, ◌∙◌}
+use Rattle.std.proofs.Common.{sym, ◌∙◌}
 use Rattle.squawk_lexer.specs.declared.lexer.Start.TheVariants.{String, Number}
 use Rattle.squawk_lexer.proofs.Steps.{behind_within}
 use Rattle.squawk_lexer.proofs.StartSteps.{row}
@@ -12,4 +12,4 @@ returns-in-String-clause-gives c =
 pub returns-in-Number-clause-gives : goal.returns-in-Number-clause-gives
 returns-in-Number-clause-gives c =
     let is_row = row c.args.strings c.args.self.now.text _ _ _ Number c.requires.at c.first-first.ensures c.second.ensures (sym c.in-Number.is ∙ c.start_of-start.ensures) in
-    rw c.bump.ensures.text at c.number.ensures.gives ∙ sym is_row
+    rw is_row (rw c.bump.ensures.text at c.number.ensures.gives)
