@@ -1,11 +1,13 @@
 -- What the first characters of a token begin, with the premises that the code has.
 use Rattle.std.proofs.Common.{◌≡◌, ℕ, ◌+◌, ◌<◌, true, List, length, get_or, refl, sym, subst, arith}
 use Rattle.std.proofs.lemmas.Bool.Decides.{nat_tests}
+use Rattle.squawk_lexer.specs.declared.token.Strings.{Strings}
+use Rattle.squawk_lexer.specs.declared.lexer.Start.{Start}
 use Rattle.squawk_lexer.specs.declared.lexer.Start.TheVariants.{White, LineComment, BlockComment, DotDot}
 use Rattle.squawk_lexer.specs.Place.{behind}
 use Rattle.squawk_lexer.specs.Runs.{run}
 use Rattle.squawk_lexer.specs.Classes.{is_white}
-use Rattle.squawk_lexer.specs.Token.{start}
+use Rattle.squawk_lexer.specs.Token.{start, begun, lexeme_of}
 use Rattle.squawk_lexer.proofs.Steps.{behind_read, behind_within, run_first}
 
 pub start_white : (c d : ℕ) → White ≡ start c d → is_white c ≡ true
@@ -46,5 +48,9 @@ begin_dots u i c d none some second e =
     let one : behind u 0 ≡ 1 = behind_within u 0 some in
     let two : behind u 1 ≡ 2 = behind_read u 1 (subst (λ x. 0 < x) (rw none at second) (start_dots c d e)) in
     rw (none, one) (refl, two)
+
+-- the row of a token, with the premises that the code has
+pub row : (strings : Strings) (u : List ℕ) (i c d : ℕ) (s : Start) → i ≡ 0 → c ≡ get_or u i 0 → d ≡ get_or u (i + 1) 0 → s ≡ start c d → lexeme_of strings u ≡ begun strings s u
+row strings u i c d s none first second e = rw (e, first, second, none) refl
 
 pub ruleset start_steps = (begin_white, begin_line, begin_block, begin_dots, behind_within)
