@@ -5,8 +5,8 @@ use Rattle.squawk_tree.proofs.source.parse_divided.Goals as goal
 
 pub steps_of-requires : goal.steps_of-requires
 steps_of-requires c =
-    let is = c.deref.ensures.value ∙ c.in_ok-leaves.ensures.leaves in
-    omega (arith, ap leaves_len is, leaves_len-tiled c.args.text.now 0 _ c.leaves_of.ensures.tiles, c.if-text-gt-LIMIT.false)
+    let leaves_are = c.deref.ensures.value ∙ c.in_ok-leaves.ensures.leaves in
+    omega (arith, ap leaves_len leaves_are, leaves_len-tiled c.args.text.now 0 _ c.leaves_of.ensures.tiles, c.if-text-gt-LIMIT.false)
 
 pub new-requires-2 : goal.new-requires-2
 new-requires-2 c =
