@@ -277,7 +277,7 @@ const CARRIED: [(&str, &str); 51] = [
 #[test]
 fn carried_tests(rt: HostRuntime) -> Result<(), Fail> {
     for (text, want) in CARRIED {
-        assert!(rt; text.len() < 1000);
+        assert!(rt; text.len() < 900);
         let got = shown(rt.alloc(), tokenize(text))?;
         assert_eq!(rt; got.as_str(), want, "{text}");
     }
