@@ -1,6 +1,6 @@
 -- Worked rows of what a `$` begins, computed by its definition.
 use Rattle.std.proofs.Common.{◌≡◌, ℕ, Bool, true, false, refl, codes}
-use Rattle.squawk_lexer.specs.Lexeme.{Lexeme, lexeme, literal}
+use Rattle.squawk_lexer.specs.Kind.{Lexeme, lexeme, literal}
 use Rattle.squawk_lexer.specs.declared.token.TokenKind.TheVariants.{PositionalParam}
 use Rattle.squawk_lexer.specs.declared.token.LiteralKind.TheVariants.{DollarQuotedString}
 use Rattle.squawk_lexer.specs.Dollar.{dollar}

@@ -7,10 +7,12 @@ use Rattle.std.proofs.lemmas.List.{drop-drop, length-drop}
 use Rattle.std.proofs.lemmas.List.Sums.{common_prefix_len-le}
 use Rattle.squawk_lexer.specs.Place.{behind}
 use Rattle.squawk_lexer.specs.Quoted.{end_of}
-use Rattle.squawk_lexer.specs.Runs.{run, junk, bytes}
-use Rattle.squawk_lexer.specs.Characters.{is_id_start, is_id_cont, is_digit}
-use Rattle.squawk_lexer.specs.Dollar.{tag_end, opens_dollar, find_end, is_tag_cont, is_not_dollar, is_delimiter, dollar, dollar_string, param}
-use Rattle.squawk_lexer.specs.Lexeme.{lexeme}
+use Rattle.squawk_lexer.specs.Runs.{run, junk}
+use Rattle.squawk_lexer.specs.Text.{bytes}
+use Rattle.squawk_lexer.specs.Classes.{is_id_start, is_id_cont, is_digit, is_tag_cont, is_not_dollar}
+use Rattle.squawk_lexer.specs.Dollar.{tag_end, opens_dollar, find_end, is_delimiter, dollar, dollar_string}
+use Rattle.squawk_lexer.specs.Numbers.{parameter}
+use Rattle.squawk_lexer.specs.Kind.{lexeme}
 use Rattle.squawk_lexer.specs.declared.token.TokenKind.TheVariants.{PositionalParam}
 use Rattle.squawk_lexer.proofs.Steps.{drop_some, drop_none, drop_read, drop_past, within_some, within_read, behind_some, behind_none, behind_within, behind_on, mapped, ne-eqb, behind_read}
 
@@ -277,10 +279,10 @@ no_digit c e = grind (arith, nat_tests)
 pub opens : (u : List ℕ) (i : ℕ) → i ≡ tag_end u → get_or u i 0 ≡ 36 → (opens_dollar u ≡ true) × (dollar u ≡ dollar_string u)
 opens u i e here = let test : opens_dollar u ≡ true = rw (← e) (eq-eqb _ _ here) in (test, rw test refl)
 
-opens_not : (u : List ℕ) (i : ℕ) → i ≡ tag_end u → (get_or u i 0 ≡ 36 → ⊥) → dollar u ≡ param u
+opens_not : (u : List ℕ) (i : ℕ) → i ≡ tag_end u → (get_or u i 0 ≡ 36 → ⊥) → dollar u ≡ parameter u
 opens_not u i e other = let test : opens_dollar u ≡ false = rw (← e) (ne-eqb _ 36 other) in rw test refl
 
-pub no_tag : (u : List ℕ) (i : ℕ) → is_id_start (get_or u 1 0) ≡ false → i ≡ tag_end u → (get_or u i 0 ≡ 36 → ⊥) → (dollar u ≡ param u) × (i ≡ 1)
+pub no_tag : (u : List ℕ) (i : ℕ) → is_id_start (get_or u 1 0) ≡ false → i ≡ tag_end u → (get_or u i 0 ≡ 36 → ⊥) → (dollar u ≡ parameter u) × (i ≡ 1)
 no_tag u i none e other = (opens_not u i e other, e ∙ rw none refl)
 
 pub junk_tag : (u : List ℕ) (i : ℕ) → get_or u 0 0 ≡ 36 → is_id_start (get_or u 1 0) ≡ true → i ≡ tag_end u → (get_or u i 0 ≡ 36 → ⊥) → lexeme (PositionalParam 1) i ≡ dollar u
@@ -294,7 +296,7 @@ junk_tag (c ∷ x ∷ v) i first tag e other =
     let digits : run is_digit u 1 ≡ 1 = ap (λ b. 1 + cond b (1 + prefix_len is_digit v) 0) (no_digit x tag) in
     let one : bytes (take 1 u) ≡ 1 = ap (λ y. bytes (take 1 (y ∷ x ∷ v))) first in
     let end : junk u 1 ≡ i = ap (λ b. cond b (1 + prefix_len is_id_cont (x ∷ v)) 1) tag ∙ omega arith in
-    let param_is : param u ≡ lexeme (PositionalParam 1) i = ap (λ k. lexeme (PositionalParam (bytes (take k u))) (junk u k)) digits ∙ rw (one, end) refl in
+    let param_is : parameter u ≡ lexeme (PositionalParam 1) i = ap (λ k. lexeme (PositionalParam (bytes (take k u))) (junk u k)) digits ∙ rw (one, end) refl in
     sym (opens_not u i e other ∙ param_is)
 
 pub ruleset dollar_steps = (opens, no_tag, junk_tag, behind_read, nat_tests)

@@ -1,14 +1,15 @@
 //! Dollar strings and positional parameters.
-ghost use Rattle.std.specs.Prelude.{◌≡◌, ℕ, ◌+◌, ◌<◌, ◌^◌, ◌==◌, drop, length, slice_index, is_some, nat_eq, true};
+ghost use Rattle.std.specs.Prelude.{◌≡◌, ◌+◌, ◌<◌, ◌^◌, ◌==◌, drop, length, slice_index, is_some, nat_eq, true};
 ghost use Rattle.std.specs.List.{common_prefix_len};
 ghost use Rattle.std.specs.Str.{chars};
-ghost use Rattle.squawk_lexer.specs.Characters.{is_id_start};
-ghost use Rattle.squawk_lexer.specs.Lexeme.{lexeme};
+ghost use Rattle.squawk_lexer.specs.Kind.{lexeme};
+ghost use Rattle.squawk_lexer.specs.Classes.{is_id_start, dollar_sign};
 ghost use Rattle.squawk_lexer.specs.Quoted.{end_of};
-ghost use Rattle.squawk_lexer.specs.Dollar.{tag_end, delimiter, find_end, is_delimiter, dollar_sign, dollar_string, param, dollar, opens_dollar};
+ghost use Rattle.squawk_lexer.specs.Dollar.{tag_end, find_end, is_delimiter, dollar_string, dollar, opens_dollar};
 
-use crate::cursor::{Class, Cursor, is_id_start};
-use crate::token::{LiteralKind, TokenKind};
+use crate::classes::{Class, is_id_start};
+use crate::cursor::Cursor;
+use crate::token::{LiteralKind, TokenKind, literal};
 
 impl<'a> Cursor<'a> {
     /// Moves behind what a `$` begins, from behind it.
@@ -30,7 +31,7 @@ impl<'a> Cursor<'a> {
                 trailing_junk_start: 1,
             };
         }
-        self.param()
+        self.parameter()
     }
 
     /// Moves behind the tag that may follow a `$`, from behind it, and tells whether there is one.
@@ -58,9 +59,7 @@ impl<'a> Cursor<'a> {
     {
         let delimiter = self.taken();
         let terminated = self.eat_through(delimiter);
-        TokenKind::Literal {
-            kind: LiteralKind::DollarQuotedString { terminated },
-        }
+        literal(LiteralKind::DollarQuotedString { terminated })
     }
 
     /// Moves behind the first place where the delimiter stands, or to the text's end, and tells whether it stands anywhere.
@@ -97,19 +96,5 @@ impl<'a> Cursor<'a> {
             self.bump();
         }
         true
-    }
-
-    /// Moves behind a positional parameter, from behind its `$`.
-    fn param(&mut self) -> TokenKind
-        requires at { self.old.at ≡ 1 }
-        ensures text { self.new.text ≡ self.old.text }
-        ensures gives { lexeme result self.new.at ≡ param self.old.text }
-    {
-        self.eat_while(Class::Digit);
-        let trailing_junk_start = self.position();
-        self.eat_junk();
-        TokenKind::PositionalParam {
-            trailing_junk_start,
-        }
     }
 }
