@@ -13,16 +13,22 @@ pub(crate) fn numbers() -> &'static [u16]
 
 #[rattlefmt::skip]
 static NUMBERS: [u16; 2068] = [
-    SyntaxKind::TOMBSTONE.number, SyntaxKind::EOF.number, SyntaxKind::DOLLAR.number, SyntaxKind::SEMICOLON.number,
-    SyntaxKind::COMMA.number, SyntaxKind::L_PAREN.number, SyntaxKind::R_PAREN.number, SyntaxKind::L_BRACK.number,
-    SyntaxKind::R_BRACK.number, SyntaxKind::L_CURLY.number, SyntaxKind::R_CURLY.number, SyntaxKind::L_ANGLE.number,
-    SyntaxKind::LESS_LESS.number, SyntaxKind::LTEQ.number, SyntaxKind::NEQB.number, SyntaxKind::R_ANGLE.number,
-    SyntaxKind::GREATER_GREATER.number, SyntaxKind::GTEQ.number, SyntaxKind::AT.number, SyntaxKind::POUND.number,
-    SyntaxKind::TILDE.number, SyntaxKind::QUESTION.number, SyntaxKind::AMP.number, SyntaxKind::PIPE.number,
-    SyntaxKind::PLUS.number, SyntaxKind::STAR.number, SyntaxKind::SLASH.number, SyntaxKind::CARET.number,
-    SyntaxKind::PERCENT.number, SyntaxKind::UNDERSCORE.number, SyntaxKind::DOT.number, SyntaxKind::DOT_DOT.number,
-    SyntaxKind::COLON.number, SyntaxKind::COLON_EQ.number, SyntaxKind::EQ.number, SyntaxKind::FAT_ARROW.number,
-    SyntaxKind::BANG.number, SyntaxKind::NEQ.number, SyntaxKind::MINUS.number, SyntaxKind::BACKTICK.number,
+    // Neither tokens nor nodes.
+    SyntaxKind::TOMBSTONE.number, SyntaxKind::EOF.number,
+
+    // Signs.
+    SyntaxKind::DOLLAR.number, SyntaxKind::SEMICOLON.number, SyntaxKind::COMMA.number, SyntaxKind::L_PAREN.number,
+    SyntaxKind::R_PAREN.number, SyntaxKind::L_BRACK.number, SyntaxKind::R_BRACK.number, SyntaxKind::L_CURLY.number,
+    SyntaxKind::R_CURLY.number, SyntaxKind::L_ANGLE.number, SyntaxKind::LESS_LESS.number, SyntaxKind::LTEQ.number,
+    SyntaxKind::NEQB.number, SyntaxKind::R_ANGLE.number, SyntaxKind::GREATER_GREATER.number, SyntaxKind::GTEQ.number,
+    SyntaxKind::AT.number, SyntaxKind::POUND.number, SyntaxKind::TILDE.number, SyntaxKind::QUESTION.number,
+    SyntaxKind::AMP.number, SyntaxKind::PIPE.number, SyntaxKind::PLUS.number, SyntaxKind::STAR.number,
+    SyntaxKind::SLASH.number, SyntaxKind::CARET.number, SyntaxKind::PERCENT.number, SyntaxKind::UNDERSCORE.number,
+    SyntaxKind::DOT.number, SyntaxKind::DOT_DOT.number, SyntaxKind::COLON.number, SyntaxKind::COLON_EQ.number,
+    SyntaxKind::EQ.number, SyntaxKind::FAT_ARROW.number, SyntaxKind::BANG.number, SyntaxKind::NEQ.number,
+    SyntaxKind::MINUS.number, SyntaxKind::BACKTICK.number,
+
+    // Keywords.
     SyntaxKind::ABORT_KW.number, SyntaxKind::ABSENT_KW.number, SyntaxKind::ABSOLUTE_KW.number,
     SyntaxKind::ACCESS_KW.number, SyntaxKind::ACTION_KW.number, SyntaxKind::ADD_KW.number,
     SyntaxKind::ADMIN_KW.number, SyntaxKind::AFTER_KW.number, SyntaxKind::AGGREGATE_KW.number,
@@ -203,12 +209,17 @@ static NUMBERS: [u16; 2068] = [
     SyntaxKind::ROWTYPE_KW.number, SyntaxKind::SCHEMA_NAME_KW.number, SyntaxKind::SLICE_KW.number,
     SyntaxKind::SQLSTATE_KW.number, SyntaxKind::STACKED_KW.number, SyntaxKind::TABLE_NAME_KW.number,
     SyntaxKind::USE_COLUMN_KW.number, SyntaxKind::USE_VARIABLE_KW.number, SyntaxKind::VARIABLE_CONFLICT_KW.number,
-    SyntaxKind::WARNING_KW.number, SyntaxKind::WHILE_KW.number, SyntaxKind::BIT_STRING.number,
-    SyntaxKind::BYTE_STRING.number, SyntaxKind::DOLLAR_QUOTED_STRING.number, SyntaxKind::ESC_STRING.number,
-    SyntaxKind::INT_NUMBER.number, SyntaxKind::NATIONAL_STRING.number, SyntaxKind::NULL.number,
-    SyntaxKind::NUMERIC_NUMBER.number, SyntaxKind::POSITIONAL_PARAM.number, SyntaxKind::PSQL_COMMAND_TEXT.number,
-    SyntaxKind::PSQL_TERMINATOR_TEXT.number, SyntaxKind::STRING.number, SyntaxKind::UNICODE_ESC_STRING.number,
-    SyntaxKind::COMMENT.number, SyntaxKind::ERROR.number, SyntaxKind::IDENT.number, SyntaxKind::WHITESPACE.number,
+    SyntaxKind::WARNING_KW.number, SyntaxKind::WHILE_KW.number,
+
+    // Literals and other tokens.
+    SyntaxKind::BIT_STRING.number, SyntaxKind::BYTE_STRING.number, SyntaxKind::DOLLAR_QUOTED_STRING.number,
+    SyntaxKind::ESC_STRING.number, SyntaxKind::INT_NUMBER.number, SyntaxKind::NATIONAL_STRING.number,
+    SyntaxKind::NULL.number, SyntaxKind::NUMERIC_NUMBER.number, SyntaxKind::POSITIONAL_PARAM.number,
+    SyntaxKind::PSQL_COMMAND_TEXT.number, SyntaxKind::PSQL_TERMINATOR_TEXT.number, SyntaxKind::STRING.number,
+    SyntaxKind::UNICODE_ESC_STRING.number, SyntaxKind::COMMENT.number, SyntaxKind::ERROR.number,
+    SyntaxKind::IDENT.number, SyntaxKind::WHITESPACE.number,
+
+    // Nodes.
     SyntaxKind::ABSOLUTE.number, SyntaxKind::ACCESS_EXCLUSIVE.number, SyntaxKind::ACCESS_METHOD.number,
     SyntaxKind::ACCESS_METHOD_REF.number, SyntaxKind::ACCESS_METHOD_TYPE_INDEX.number,
     SyntaxKind::ACCESS_METHOD_TYPE_TABLE.number, SyntaxKind::ACCESS_SHARE.number, SyntaxKind::ADD_ATTRIBUTE.number,
@@ -756,5 +767,8 @@ static NUMBERS: [u16; 2068] = [
     SyntaxKind::XML_ROOT_FN.number, SyntaxKind::XML_ROW_PASSING_CLAUSE.number, SyntaxKind::XML_SERIALIZE_FN.number,
     SyntaxKind::XML_TABLE.number, SyntaxKind::XML_TABLE_COLUMN.number, SyntaxKind::XML_TABLE_COLUMN_LIST.number,
     SyntaxKind::XML_TABLE_FROM_ITEM.number, SyntaxKind::XML_VERSION_EXPR.number,
-    SyntaxKind::XML_VERSION_NO_VALUE.number, SyntaxKind::__LAST.number,
+    SyntaxKind::XML_VERSION_NO_VALUE.number,
+
+    // The end of the list.
+    SyntaxKind::__LAST.number,
 ];
