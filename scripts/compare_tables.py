@@ -61,7 +61,9 @@ def listed():
 
 def in_order():
     """The names in the table of the constants' numbers."""
-    return re.findall(r"\bSyntaxKind::(\w+)\.number,", source("squawk_kinds", "src", "order.rt"))
+    text = source("squawk_kinds", "src", "order.rt")
+    body = re.search(r"numbers_of!\[(.*)\];", text, re.S).group(1)
+    return re.findall(r"\w+", re.sub(r"//.*", "", body))
 
 
 def starts_of(texts):
