@@ -1,5 +1,5 @@
 //! Reads a source to its end.
-ghost use Rattle.std.specs.Prelude.{◌≡◌, ◌≢◌, ◌≤◌, ◌+◌, length, IfOk, OnOk, IsErrOf, IfErr, Err};
+ghost use Rattle.std.specs.Prelude.{◌≡◌, ◌≢◌, ◌≤◌, ◌<◌, ◌+◌, length, IfOk, OnOk, IsErrOf, IfErr, Err};
 ghost use Rattle.std.specs.Io.KnownBytes.{Consumes, IsAtEnd};
 ghost use Rattle.squawk_show.specs.Causes.{Rose};
 ghost use Rattle.squawk_show.specs.Outcome.{IsReadRefusal};
@@ -7,7 +7,7 @@ ghost use Rattle.squawk_show.specs.Reading.{TakesExactly, TakesAtMost};
 
 use crate::{RunError, Source};
 use squawk_events::FrontError;
-use std::alloc::Global;
+use std::alloc::{AllocError, Global};
 
 /// The most bytes of a text.
 pub const LIMIT: u64 = 4294967295;
@@ -33,10 +33,39 @@ pub fn read_all<S: Source>(alloc: Global, source: &mut S, limit: u64) -> Result<
     ensures refusals { IfErr result IsReadRefusal }
     ensures later { S.faults source.old ≤ S.faults source.new }
 {
+    let mut chunk = buffer(alloc, CHUNK)?;
+    read_by(alloc, source, &mut chunk, limit)
+}
+
+// A buffer of so many bytes.
+fn buffer(alloc: Global, size: usize) -> Result<Vec<u8>, AllocError>
+    ensures { IfOk result (λ buffer. length buffer.items ≡ size) }
+{
+    vec![in alloc; 0u8; size]
+}
+
+// Reads a source to its end by the calls that fill a buffer.
+fn read_by<S: Source>(
+    alloc: Global,
+    source: &mut S,
+    chunk: &mut [u8],
+    limit: u64,
+) -> Result<Vec<u8>, RunError>
+    requires { (0 < length chunk.old) × (limit ≤ LIMIT) }
+    ensures bytes { IfOk result (λ bytes. Consumes (S.left source.old) (S.left source.new) bytes.items) }
+    ensures end { OnOk result (IsAtEnd (S.left source.new)) }
+    ensures within { IfOk result (λ bytes. length bytes.items ≤ limit) }
+    ensures read_fault { IsErrOf result RunError.ReadFault → Rose (S.faults source.old) (S.faults source.new) }
+    ensures too_long { IsErrOf result (RunError.Front FrontError.TooLong)
+        → TakesExactly (S.left source.old) (S.left source.new) (limit + 1) }
+    ensures not_too_long { result ≢ Err (RunError.Front FrontError.TooLong)
+        → TakesAtMost (S.left source.old) (S.left source.new) limit }
+    ensures refusals { IfErr result IsReadRefusal }
+    ensures later { S.faults source.old ≤ S.faults source.new }
+{
     let mut bytes = Vec::new(alloc);
-    let mut chunk = vec![in alloc; 0u8; CHUNK]?;
     loop {
-        let room = (limit as usize + 1 - bytes.len()).min(CHUNK);
+        let room = (limit as usize + 1 - bytes.len()).min(chunk.len());
         let Ok(count) = source.read(&mut chunk[..room]) else {
             return Err(RunError::ReadFault);
         };

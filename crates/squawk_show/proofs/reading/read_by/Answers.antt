@@ -2,7 +2,7 @@ use Rattle.std.proofs.Common.{arith, ℕ}
 use Rattle.std.proofs.lemmas.List.{length-take}
 use Rattle.std.proofs.lemmas.Result.{err_from_is_err_and}
 use Rattle.squawk_show.proofs.Transfer.{takes-exactly, takes-at-most}
-use Rattle.squawk_show.proofs.reading.read_all.Goals as goal
+use Rattle.squawk_show.proofs.reading.read_by.Goals as goal
 
 pub returns-then-len-count-clause-too_long : goal.returns-then-len-count-clause-too_long
 returns-then-len-count-clause-too_long g c = λ is.
