@@ -1,11 +1,13 @@
--- Numbers. The text begins with a digit, or with a point and a digit.
+-- Numbers, and parameters. A flag that names a place counts the bytes before it.
 use Rattle.std.specs.Prelude.{ℕ, ◌+◌, Bool, true, false, not, ◌&&◌, ◌||◌, ◌==◌, List, take, slice_index, Option, Some, None, if◌then◌else◌}
 use Rattle.squawk_lexer.specs.declared.token.Base.{Base}
 use Rattle.squawk_lexer.specs.declared.token.Base.TheVariants.{Binary, Octal, Decimal, Hexadecimal}
 use Rattle.squawk_lexer.specs.declared.token.LiteralKind.TheVariants.{Int, Numeric}
-use Rattle.squawk_lexer.specs.Lexeme.{Lexeme, literal}
-use Rattle.squawk_lexer.specs.Characters.{is_digit}
-use Rattle.squawk_lexer.specs.Runs.{digits, hex, junk, bytes, exponent, is_exponent_letter, fraction_digits}
+use Rattle.squawk_lexer.specs.declared.token.TokenKind.TheVariants.{PositionalParam}
+use Rattle.squawk_lexer.specs.Kind.{Lexeme, lexeme, literal}
+use Rattle.squawk_lexer.specs.Classes.{is_digit}
+use Rattle.squawk_lexer.specs.Text.{bytes}
+use Rattle.squawk_lexer.specs.Runs.{run, digits, hex, junk, exponent, is_exponent_letter, fraction_digits}
 
 -- an integer whose digits end at n, and junk
 abbrev pub int : Base → Bool → List ℕ → ℕ → Lexeme
@@ -43,3 +45,7 @@ number u =
     else if slice_index u 0 == 48 && (slice_index u 1 == 111 || slice_index u 1 == 79) then based_int Octal u (digits u 2)
     else if slice_index u 0 == 48 && (slice_index u 1 == 120 || slice_index u 1 == 88) then based_int Hexadecimal u (hex u 2)
     else decimal_from u (digits u 1)
+
+-- a text that begins with `$` and no delimiter: digits without `_`, and junk
+abbrev pub parameter : List ℕ → Lexeme
+parameter u = lexeme (PositionalParam (bytes (take (run is_digit u 1) u))) (junk u (run is_digit u 1))

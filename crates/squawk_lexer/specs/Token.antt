@@ -1,28 +1,36 @@
 -- The token at the front of a text that is not empty: the first row that fits decides.
-use Rattle.std.specs.Prelude.{ℕ, ◌+◌, Bool, true, false, ◌&&◌, ◌||◌, ◌==◌, ◌-◌, List, take, slice_index, if◌then◌else◌}
-use Rattle.std.specs.Char.{to_ascii_lowercase}
+use Rattle.std.specs.Prelude.{ℕ, ◌-◌, Bool, true, false, ◌&&◌, ◌||◌, ◌==◌, List, take, slice_index, if◌then◌else◌}
 use Rattle.squawk_lexer.specs.declared.token.Token.{Token}
-use Rattle.squawk_lexer.specs.declared.token.TokenKind.{TokenKind}
 use Rattle.squawk_lexer.specs.declared.token.TokenKind.TheVariants as kinds
-use Rattle.squawk_lexer.specs.declared.lexer.Start.{Start}
-use Rattle.squawk_lexer.specs.declared.lexer.Start.TheVariants.{White, LineComment, BlockComment, String, QuotedIdent, Word, Param, Number, DotDot, Fraction, Symbol}
 use Rattle.squawk_lexer.specs.declared.token.LiteralKind.{LiteralKind}
 use Rattle.squawk_lexer.specs.declared.token.LiteralKind.TheVariants.{Str, NationalStr, BitStr, ByteStr, UnicodeEscStr, EscStr}
-use Rattle.squawk_lexer.specs.declared.lexer.Opening.{Opening}
-use Rattle.squawk_lexer.specs.declared.lexer.Opening.TheVariants.{National, Bit, Byte, Escape, UnicodeString, UnicodeIdent, Plain}
-use Rattle.squawk_lexer.specs.Lexeme.{Lexeme, lexeme, literal}
-use Rattle.squawk_lexer.specs.Characters.{is_white, is_id_start, is_id_cont, is_digit, byte_order_mark}
-use Rattle.squawk_lexer.specs.Runs.{run, line, digits, junk, bytes}
+use Rattle.squawk_lexer.specs.declared.token.Strings.{Strings}
+use Rattle.squawk_lexer.specs.declared.token.Strings.TheVariants.{Standard, Backslash}
+use Rattle.squawk_lexer.specs.declared.lexer.Start.{Start}
+use Rattle.squawk_lexer.specs.declared.lexer.Start.TheVariants.{White, LineComment, BlockComment, String, QuotedIdent, Word, Parameter, Number, DotDot, Fraction, Symbol}
+use Rattle.squawk_lexer.specs.declared.word.Opening.{Opening}
+use Rattle.squawk_lexer.specs.declared.word.Opening.TheVariants.{National, Bit, Byte, Escape, UnicodeString, UnicodeIdent, Plain}
+use Rattle.squawk_lexer.specs.Kind.{Lexeme, lexeme, literal}
+use Rattle.squawk_lexer.specs.Text.{bytes}
+use Rattle.squawk_lexer.specs.Classes.{is_white, is_id_start, is_id_cont, is_digit, apostrophe, quotation_mark, byte_order_mark}
+use Rattle.squawk_lexer.specs.Runs.{run, line}
 use Rattle.squawk_lexer.specs.Quoted.{quoted, is_terminated}
 use Rattle.squawk_lexer.specs.Comment.{comment_end, is_closed}
-use Rattle.squawk_lexer.specs.Numbers.{number, fractional}
+use Rattle.squawk_lexer.specs.Numbers.{number, fractional, parameter}
 use Rattle.squawk_lexer.specs.Symbols.{symbol}
 
-abbrev pub string : (Bool → LiteralKind) → Bool → List ℕ → ℕ → Lexeme
-string kind escapes u i = literal (kind (is_terminated escapes 39 u i)) (quoted escapes 39 u i)
+-- whether a backslash and the character behind it are a pair in a string without a prefix
+abbrev pub has_escapes : Strings → Bool
+has_escapes Standard = false
+has_escapes Backslash = true
 
+-- a string in `'` whose inside begins at i
+abbrev pub string : (Bool → LiteralKind) → Bool → List ℕ → ℕ → Lexeme
+string kind escapes u i = literal (kind (is_terminated escapes apostrophe u i)) (quoted escapes apostrophe u i)
+
+-- an identifier in `"` whose inside begins at i
 abbrev pub quoted_ident : Bool → List ℕ → ℕ → Lexeme
-quoted_ident uescape u i = lexeme (kinds.QuotedIdent (is_terminated false 34 u i) uescape) (quoted false 34 u i)
+quoted_ident uescape u i = lexeme (kinds.QuotedIdent (is_terminated false quotation_mark u i) uescape) (quoted false quotation_mark u i)
 
 -- a small letter or its capital
 abbrev pub is_letter : ℕ → ℕ → Bool
@@ -39,6 +47,7 @@ opening c d e =
     else if (is_letter 117 c && d == 38) && e == 34 then UnicodeIdent
     else Plain
 
+-- N'..', B'..', X'..', E'..', U&'..', U&".." and identifiers without quotes
 abbrev pub opened : Opening → List ℕ → Lexeme
 opened National u = string NationalStr false u 2
 opened Bit u = string BitStr false u 2
@@ -48,6 +57,7 @@ opened UnicodeString u = string UnicodeEscStr false u 3
 opened UnicodeIdent u = quoted_ident true u 3
 opened Plain u = lexeme kinds.Ident (run is_id_cont u 1)
 
+-- a text that begins with an id-start
 abbrev pub word : List ℕ → Lexeme
 word u = opened (opening (slice_index u 0) (slice_index u 1) (slice_index u 2)) u
 
@@ -60,31 +70,38 @@ start c d =
     else if c == 39 then String
     else if c == 34 then QuotedIdent
     else if is_id_start c then Word
-    else if c == 36 then Param
+    else if c == 36 then Parameter
     else if is_digit c then Number
     else if c == 46 && d == 46 then DotDot
     else if c == 46 && is_digit d then Fraction
     else Symbol
 
-abbrev pub begun : Start → List ℕ → Lexeme
-begun White u = lexeme kinds.Whitespace (run is_white u 0)
-begun LineComment u = lexeme kinds.LineComment (line u 2)
-begun BlockComment u = lexeme (kinds.BlockComment (is_closed 0 u 2)) (comment_end 0 u 2)
-begun String u = string Str false u 1
-begun QuotedIdent u = quoted_ident false u 1
-begun Word u = word u
-begun Param u = lexeme (kinds.PositionalParam (bytes (take (run is_digit u 1) u))) (junk u (run is_digit u 1))
-begun Number u = number u
-begun DotDot u = lexeme kinds.DotDot 2
-begun Fraction u = fractional u 1
-begun Symbol u = lexeme (symbol (slice_index u 0)) 1
+-- the token of each row
+abbrev pub begun : Strings → Start → List ℕ → Lexeme
+begun strings White u = lexeme kinds.Whitespace (run is_white u 0)
+begun strings LineComment u = lexeme kinds.LineComment (line u 2)
+begun strings BlockComment u = lexeme (kinds.BlockComment (is_closed 0 u 2)) (comment_end 0 u 2)
+begun strings String u = string Str (has_escapes strings) u 1
+begun strings QuotedIdent u = quoted_ident false u 1
+begun strings Word u = word u
+begun strings Parameter u = parameter u
+begun strings Number u = number u
+begun strings DotDot u = lexeme kinds.DotDot 2
+begun strings Fraction u = fractional u 1
+begun strings Symbol u = lexeme (symbol (slice_index u 0)) 1
 
-abbrev pub lexeme_of : List ℕ → Lexeme
-lexeme_of u = begun (start (slice_index u 0) (slice_index u 1)) u
+-- the token at the front of a text
+abbrev pub lexeme_of : Strings → List ℕ → Lexeme
+lexeme_of strings u = begun strings (start (slice_index u 0) (slice_index u 1)) u
 
--- U+FEFF that begins the whole text is white
-abbrev pub lexeme_at : Bool → List ℕ → Lexeme
-lexeme_at start u = if start && slice_index u 0 == byte_order_mark then lexeme kinds.Whitespace 1 else lexeme_of u
+-- the same, where `start` says that the whole text begins here: U+FEFF is then white by itself
+abbrev pub lexeme_at : Strings → Bool → List ℕ → Lexeme
+lexeme_at strings start u =
+    if start && slice_index u 0 == byte_order_mark then lexeme kinds.Whitespace 1 else lexeme_of strings u
 
-abbrev pub token_at : Bool → List ℕ → Token
-token_at start u = record { kind = (lexeme_at start u).kind; len = bytes (take (lexeme_at start u).end u) }
+-- its kind and its length in bytes
+abbrev pub token_at : Strings → Bool → List ℕ → Token
+token_at strings start u = record {
+  kind = (lexeme_at strings start u).kind;
+  len = bytes (take (lexeme_at strings start u).end u);
+}

@@ -1,13 +1,20 @@
 //! The token at the front of a text.
-ghost use Rattle.std.specs.Prelude.{◌≡◌, ℕ, ◌+◌, ◌<◌, ◌≤◌, ◌==◌, ◌^◌, length, drop, slice_index, true};
+ghost use Rattle.std.specs.Prelude.{◌≡◌, ◌≢◌, ◌+◌, ◌<◌, ◌==◌, ◌^◌, length, drop, true};
 ghost use Rattle.std.specs.Str.{chars, is_utf8, IsCharBoundary};
-ghost use Rattle.squawk_lexer.specs.Lexeme.{lexeme};
+ghost use Rattle.squawk_lexer.specs.Kind.{lexeme};
+ghost use Rattle.squawk_lexer.specs.Place.{behind};
+ghost use Rattle.squawk_lexer.specs.Classes.{is_white, apostrophe};
 ghost use Rattle.squawk_lexer.specs.Symbols.{symbol};
-ghost use Rattle.squawk_lexer.specs.Token.{opening, word, start, lexeme_of, lexeme_at, token_at};
+ghost use Rattle.squawk_lexer.specs.Token.{start, lexeme_of, lexeme_at, token_at};
 
-use crate::cursor::{Class, Cursor, is_digit, is_id_start, is_white};
-use crate::token::{LiteralKind, Token, TokenKind};
+use crate::classes::{Class, is_digit, is_id_start, is_white};
+use crate::cursor::Cursor;
+use crate::token::{LiteralKind, Strings, Token, TokenKind, literal};
 
+/// The byte order mark, which is white where it begins a text: three bytes.
+pub const BOM: &str = "\u{feff}";
+
+/// A token of one character.
 #[tactic(auto, unfolding(crate::specs::Symbols::symbol))]
 fn symbol(c: char) -> TokenKind
     ensures { result ≡ symbol c }
@@ -44,32 +51,6 @@ fn symbol(c: char) -> TokenKind
     }
 }
 
-/// What an identifier's first letters open.
-enum Opening {
-    National,
-    Bit,
-    Byte,
-    Escape,
-    UnicodeString,
-    UnicodeIdent,
-    Plain,
-}
-
-#[tactic(auto, unfolding(crate::specs::Token::opening))]
-fn opening_of(first: char, second: char, third: char) -> Opening
-    ensures { result ≡ opening first second third }
-{
-    match (first, second) {
-        ('n' | 'N', '\'') => Opening::National,
-        ('b' | 'B', '\'') => Opening::Bit,
-        ('x' | 'X', '\'') => Opening::Byte,
-        ('e' | 'E', '\'') => Opening::Escape,
-        ('u' | 'U', '&') if third == '\'' => Opening::UnicodeString,
-        ('u' | 'U', '&') if third == '"' => Opening::UnicodeIdent,
-        _ => Opening::Plain,
-    }
-}
-
 /// What the first two characters of a token begin.
 enum Start {
     White,
@@ -78,7 +59,7 @@ enum Start {
     String,
     QuotedIdent,
     Word,
-    Param,
+    Parameter,
     Number,
     DotDot,
     Fraction,
@@ -96,7 +77,7 @@ fn start_of(first: char, second: char) -> Start
         ('\'', _) => Start::String,
         ('"', _) => Start::QuotedIdent,
         (c, _) if is_id_start(c) => Start::Word,
-        ('$', _) => Start::Param,
+        ('$', _) => Start::Parameter,
         (c, _) if is_digit(c) => Start::Number,
         ('.', '.') => Start::DotDot,
         ('.', d) if is_digit(d) => Start::Fraction,
@@ -105,74 +86,13 @@ fn start_of(first: char, second: char) -> Start
 }
 
 impl<'a> Cursor<'a> {
-    /// Moves behind a word or what its first letters open, from behind the first.
-    #[tactic(auto, using(crate::proofs::WordSteps::word_steps))]
-    fn word(&mut self, first: char) -> TokenKind
-        requires first { first ≡ slice_index self.old.text 0 }
-        requires at { self.old.at ≡ 1 }
-        ensures text { self.new.text ≡ self.old.text }
-        ensures gives { lexeme result self.new.at ≡ word self.old.text }
-    {
-        match opening_of(first, self.first(), self.second()) {
-            Opening::National => {
-                self.bump();
-                let terminated = self.quoted('\'', false);
-                TokenKind::Literal {
-                    kind: LiteralKind::NationalStr { terminated },
-                }
-            }
-            Opening::Bit => {
-                self.bump();
-                let terminated = self.quoted('\'', false);
-                TokenKind::Literal {
-                    kind: LiteralKind::BitStr { terminated },
-                }
-            }
-            Opening::Byte => {
-                self.bump();
-                let terminated = self.quoted('\'', false);
-                TokenKind::Literal {
-                    kind: LiteralKind::ByteStr { terminated },
-                }
-            }
-            Opening::Escape => {
-                self.bump();
-                let terminated = self.quoted('\'', true);
-                TokenKind::Literal {
-                    kind: LiteralKind::EscStr { terminated },
-                }
-            }
-            Opening::UnicodeString => {
-                self.bump();
-                self.bump();
-                let terminated = self.quoted('\'', false);
-                TokenKind::Literal {
-                    kind: LiteralKind::UnicodeEscStr { terminated },
-                }
-            }
-            Opening::UnicodeIdent => {
-                self.bump();
-                self.bump();
-                let terminated = self.quoted('"', false);
-                TokenKind::QuotedIdent {
-                    terminated,
-                    uescape: true,
-                }
-            }
-            Opening::Plain => {
-                self.eat_while(Class::IdCont);
-                TokenKind::Ident
-            }
-        }
-    }
-
     /// Moves behind the token at the front.
-    #[tactic(auto, using(crate::proofs::WordSteps::token_steps))]
-    pub(crate) fn advance_token(&mut self) -> TokenKind
+    #[tactic(auto, using(crate::proofs::StartSteps::start_steps))]
+    fn advance_token(&mut self, strings: Strings) -> TokenKind
         requires at { self.old.at ≡ 0 }
         requires some { 0 < length self.old.text }
         ensures text { self.new.text ≡ self.old.text }
-        ensures gives { lexeme result self.new.at ≡ lexeme_of self.old.text }
+        ensures gives { lexeme result self.new.at ≡ lexeme_of strings self.old.text }
     {
         let first = self.first();
         let start = start_of(first, self.second());
@@ -193,27 +113,12 @@ impl<'a> Cursor<'a> {
                 TokenKind::BlockComment { terminated }
             }
             Start::String => {
-                let terminated = self.quoted('\'', false);
-                TokenKind::Literal {
-                    kind: LiteralKind::Str { terminated },
-                }
+                let terminated = self.quoted('\'', strings.has_escapes());
+                literal(LiteralKind::Str { terminated })
             }
-            Start::QuotedIdent => {
-                let terminated = self.quoted('"', false);
-                TokenKind::QuotedIdent {
-                    terminated,
-                    uescape: false,
-                }
-            }
+            Start::QuotedIdent => self.quoted_ident(false),
             Start::Word => self.word(first),
-            Start::Param => {
-                self.eat_while(Class::Digit);
-                let trailing_junk_start = self.position();
-                self.eat_junk();
-                TokenKind::PositionalParam {
-                    trailing_junk_start,
-                }
-            }
+            Start::Parameter => self.parameter(),
             Start::Number => self.number(first),
             Start::DotDot => {
                 self.bump();
@@ -225,27 +130,22 @@ impl<'a> Cursor<'a> {
     }
 }
 
-pub const BOM: &str = "\u{feff}";
-
-/// The token at the front of a text, and what follows it.
-pub(crate) fn cut(text: &str, start: bool) -> (Token, &str)
+/// The token at the front of a text, and what follows it. `start` says that the whole text begins here.
+pub(crate) fn cut(text: &str, start: bool, strings: Strings) -> (Token, &str)
     requires some { 0 < length text.now }
     requires fits { length text.now < 2 ^ 32 }
-    ensures token { result.0 ≡ token_at start (chars text.now) }
+    ensures token { result.0 ≡ token_at strings start (chars text.now) }
     ensures small { length result.1.now < 2 ^ 32 }
     ensures utf8 { is_utf8 result.1.now ≡ true }
-    ensures rest { chars result.1.now ≡ drop (lexeme_at start (chars text.now)).end (chars text.now) }
+    ensures rest { chars result.1.now ≡ drop (lexeme_at strings start (chars text.now)).end (chars text.now) }
 {
     let mut cursor = Cursor::new(text);
-    if start && cursor.first() == '\u{FEFF}' {
+    let kind = if start && cursor.first() == '\u{FEFF}' {
         cursor.bump();
-        let token = Token {
-            kind: TokenKind::Whitespace,
-            len: cursor.position(),
-        };
-        return (token, cursor.rest());
-    }
-    let kind = cursor.advance_token();
+        TokenKind::Whitespace
+    } else {
+        cursor.advance_token(strings)
+    };
     let token = Token {
         kind,
         len: cursor.position(),
@@ -253,12 +153,29 @@ pub(crate) fn cut(text: &str, start: bool) -> (Token, &str)
     (token, cursor.rest())
 }
 
-/// The token that begins at the place.
+/// The token that begins at the byte `at`, with plain strings as the standard reads them. The byte order mark is white
+/// exactly where `at` is 0.
 pub fn cut_at(input: &str, at: usize) -> Token
     requires inside { at < length input.now }
     requires boundary { IsCharBoundary input.now at }
     requires fits { length input.now < 2 ^ 32 }
-    ensures { result ≡ token_at (at == 0) (chars (drop at input.now)) }
+    ensures token { result ≡ token_at Strings.Standard (at == 0) (chars (drop at input.now)) }
+    ensures positive { 0 < result.len }
+    ensures ends_between { IsCharBoundary input.now (at + result.len) }
+    ensures never_eof { result.kind ≢ TokenKind.Eof }
 {
-    cut(&input[at..], at == 0).0
+    cut_at_in(input, at, Strings::Standard)
+}
+
+/// The same, with plain strings as `strings` reads them.
+pub fn cut_at_in(input: &str, at: usize, strings: Strings) -> Token
+    requires inside { at < length input.now }
+    requires boundary { IsCharBoundary input.now at }
+    requires fits { length input.now < 2 ^ 32 }
+    ensures token { result ≡ token_at strings (at == 0) (chars (drop at input.now)) }
+    ensures positive { 0 < result.len }
+    ensures ends_between { IsCharBoundary input.now (at + result.len) }
+    ensures never_eof { result.kind ≢ TokenKind.Eof }
+{
+    cut(&input[at..], at == 0, strings).0
 }

@@ -1,12 +1,13 @@
-//! Numbers.
-ghost use Rattle.std.specs.Prelude.{◌≡◌, ℕ, ◌+◌, ◌<◌, ◌≤◌, ◌==◌, Some, None, take, if◌then◌else◌, slice_index, ◌&&◌, not, length, true};
-ghost use Rattle.squawk_lexer.specs.Lexeme.{lexeme, literal};
-ghost use Rattle.squawk_lexer.specs.Numbers.{int, based_int, numeric, with_exponent, fractional, decimal_from, number};
-ghost use Rattle.squawk_lexer.specs.Runs.{digits, hex, junk, bytes, exponent, fraction_digits, is_sign, is_exponent_letter};
-ghost use Rattle.squawk_lexer.specs.Characters.{is_digit};
+//! Numbers and parameters.
+ghost use Rattle.std.specs.Prelude.{◌≡◌, ◌+◌, ◌<◌, ◌==◌, slice_index, ◌&&◌, not, length, true};
+ghost use Rattle.squawk_lexer.specs.Kind.{lexeme};
+ghost use Rattle.squawk_lexer.specs.Numbers.{based_int, with_exponent, fractional, decimal_from, number, parameter};
+ghost use Rattle.squawk_lexer.specs.Runs.{exponent, fraction_digits, is_sign, is_exponent_letter};
+ghost use Rattle.squawk_lexer.specs.Classes.{is_digit};
 
-use crate::cursor::{Class, Cursor, is_digit};
-use crate::token::{Base, LiteralKind, TokenKind};
+use crate::classes::{Class, is_digit};
+use crate::cursor::Cursor;
+use crate::token::{Base, LiteralKind, TokenKind, literal};
 
 fn is_sign(c: char) -> bool
     ensures { result ≡ is_sign c }
@@ -69,12 +70,10 @@ impl<'a> Cursor<'a> {
         let has_digits = self.eat_exponent();
         let trailing_junk_start = self.position();
         self.eat_junk();
-        TokenKind::Literal {
-            kind: LiteralKind::Numeric {
-                empty_exponent_start: if has_digits { None } else { Some(start) },
-                trailing_junk_start,
-            },
-        }
+        literal(LiteralKind::Numeric {
+            empty_exponent_start: if has_digits { None } else { Some(start) },
+            trailing_junk_start,
+        })
     }
 
     /// Moves behind a number, whose point stands before the place.
@@ -88,12 +87,10 @@ impl<'a> Cursor<'a> {
         }
         let trailing_junk_start = self.position();
         self.eat_junk();
-        TokenKind::Literal {
-            kind: LiteralKind::Numeric {
-                empty_exponent_start: None,
-                trailing_junk_start,
-            },
-        }
+        literal(LiteralKind::Numeric {
+            empty_exponent_start: None,
+            trailing_junk_start,
+        })
     }
 
     /// Moves behind a number without a base, whose first digits end at the place.
@@ -111,13 +108,11 @@ impl<'a> Cursor<'a> {
         }
         let trailing_junk_start = self.position();
         self.eat_junk();
-        TokenKind::Literal {
-            kind: LiteralKind::Int {
-                base: Base::Decimal,
-                empty_int: false,
-                trailing_junk_start,
-            },
-        }
+        literal(LiteralKind::Int {
+            base: Base::Decimal,
+            empty_int: false,
+            trailing_junk_start,
+        })
     }
 
     /// Moves behind junk after the digits of a number with a base.
@@ -128,13 +123,11 @@ impl<'a> Cursor<'a> {
     {
         let trailing_junk_start = self.position();
         let has_junk = self.eat_junk();
-        TokenKind::Literal {
-            kind: LiteralKind::Int {
-                base,
-                empty_int: !has_digits && !has_junk,
-                trailing_junk_start,
-            },
-        }
+        literal(LiteralKind::Int {
+            base,
+            empty_int: !has_digits && !has_junk,
+            trailing_junk_start,
+        })
     }
 
     /// Moves behind a number, from behind its first digit.
@@ -167,5 +160,19 @@ impl<'a> Cursor<'a> {
         }
         self.eat_decimal_digits();
         self.decimal()
+    }
+
+    /// Moves behind a parameter, from behind its `$`.
+    pub(crate) fn parameter(&mut self) -> TokenKind
+        requires { self.old.at ≡ 1 }
+        ensures text { self.new.text ≡ self.old.text }
+        ensures gives { lexeme result self.new.at ≡ parameter self.old.text }
+    {
+        self.eat_while(Class::Digit);
+        let trailing_junk_start = self.position();
+        self.eat_junk();
+        TokenKind::PositionalParam {
+            trailing_junk_start,
+        }
     }
 }

@@ -1,22 +1,23 @@
--- A token has a character at least, and what follows it.
+-- What holds of every token and of the tokens of every text.
 use Rattle.std.proofs.Common.{◌≡◌, ℕ, zero, suc, ◌+◌, ◌-◌, ◌<◌, ◌≤◌, Bool, true, false, List, [], ◌∷◌, length, get_or, drop, Option, None, Some, refl, sym, ap, subst, ◌∙◌, inl, inr, ◌⊎◌, ◌&&◌, eqb, cond, unwrap_or, arith}
 use Rattle.std.proofs.lemmas.Bool.{cases_lt}
 use Rattle.std.proofs.lemmas.Bool.Decides.{nat_tests}
 use Rattle.std.specs.List.{prefix_len}
+use Rattle.squawk_lexer.specs.declared.token.Strings.{Strings}
 use Rattle.squawk_lexer.specs.declared.lexer.Start.{Start}
-use Rattle.squawk_lexer.specs.declared.lexer.Start.TheVariants.{White, LineComment, BlockComment, String, QuotedIdent, Word, Param, Number, DotDot, Fraction, Symbol}
-use Rattle.squawk_lexer.specs.declared.lexer.Opening.{Opening}
-use Rattle.squawk_lexer.specs.declared.lexer.Opening.TheVariants.{National, Bit, Byte, Escape, UnicodeString, UnicodeIdent, Plain}
-use Rattle.squawk_lexer.specs.Characters.{is_white, is_id_start, is_id_cont, is_digit, is_hex_digit, byte_order_mark}
+use Rattle.squawk_lexer.specs.declared.lexer.Start.TheVariants.{White, LineComment, BlockComment, String, QuotedIdent, Word, Parameter, Number, DotDot, Fraction, Symbol}
+use Rattle.squawk_lexer.specs.declared.word.Opening.{Opening}
+use Rattle.squawk_lexer.specs.declared.word.Opening.TheVariants.{National, Bit, Byte, Escape, UnicodeString, UnicodeIdent, Plain}
+use Rattle.squawk_lexer.specs.Classes.{is_white, is_id_start, is_id_cont, is_digit, is_hex_digit, byte_order_mark}
 use Rattle.squawk_lexer.specs.Runs.{run, junk, digits, hex, exponent, is_exponent_letter, is_sign, fraction_digits}
-use Rattle.squawk_lexer.specs.Lexeme.{Lexeme}
+use Rattle.squawk_lexer.specs.Kind.{Lexeme}
 use Rattle.squawk_lexer.specs.declared.token.Base.TheVariants.{Binary, Octal, Decimal, Hexadecimal}
 use Rattle.squawk_lexer.specs.Numbers.{number, decimal_from, fractional, with_exponent, numeric, int, based_int}
 use Rattle.squawk_lexer.specs.Token.{start, opening, begun, opened, lexeme_of, lexeme_at, token_at}
-use Rattle.squawk_lexer.specs.Tokens.{tokens_from}
+use Rattle.squawk_lexer.specs.Cut.{tokens_from}
 use Rattle.squawk_lexer.specs.declared.token.Token.{Token}
 use Rattle.squawk_lexer.proofs.Steps.{drop_read}
-use Rattle.squawk_lexer.proofs.WordSteps.{start_white}
+use Rattle.squawk_lexer.proofs.StartSteps.{start_white}
 
 junk_on : (u : List ℕ) (i : ℕ) → i ≤ junk u i
 junk_on u i = by (is_id_start (get_or u i 0)) refl
@@ -78,42 +79,44 @@ opened_on UnicodeString u = omega arith
 opened_on UnicodeIdent u = omega arith
 opened_on Plain u = omega arith
 
-begun_on : (s : Start) (u : List ℕ) → 0 < length u → s ≡ start (get_or u 0 0) (get_or u 1 0) → 1 ≤ (begun s u).end
-begun_on White u h e = rw (drop_read u 0 h, start_white (get_or u 0 0) (get_or u 1 0) e) (omega arith)
-begun_on LineComment u h e = omega arith
-begun_on BlockComment u h e = omega arith
-begun_on String u h e = omega arith
-begun_on QuotedIdent u h e = omega arith
-begun_on Word u h e = opened_on (opening (get_or u 0 0) (get_or u 1 0) (get_or u 2 0)) u
-begun_on Param u h e = omega (arith, junk_on u (run is_digit u 1))
-begun_on Number u h e = number_on u
-begun_on DotDot u h e = omega arith
-begun_on Fraction u h e = fractional_on u 1
-begun_on Symbol u h e = omega arith
+begun_on : (strings : Strings) (s : Start) (u : List ℕ) → 0 < length u → s ≡ start (get_or u 0 0) (get_or u 1 0) → 1 ≤ (begun strings s u).end
+begun_on strings White u h e = rw (drop_read u 0 h, start_white (get_or u 0 0) (get_or u 1 0) e) (omega arith)
+begun_on strings LineComment u h e = omega arith
+begun_on strings BlockComment u h e = omega arith
+begun_on strings String u h e = omega arith
+begun_on strings QuotedIdent u h e = omega arith
+begun_on strings Word u h e = opened_on (opening (get_or u 0 0) (get_or u 1 0) (get_or u 2 0)) u
+begun_on strings Parameter u h e = omega (arith, junk_on u (run is_digit u 1))
+begun_on strings Number u h e = number_on u
+begun_on strings DotDot u h e = omega arith
+begun_on strings Fraction u h e = fractional_on u 1
+begun_on strings Symbol u h e = omega arith
 
-pub lexeme_at_some : (s : Bool) (u : List ℕ) → 0 < length u → 0 < (lexeme_at s u).end
-lexeme_at_some s u h = by (s && eqb (get_or u 0 0) byte_order_mark) refl
+pub lexeme_at_some : (strings : Strings) (s : Bool) (u : List ℕ) → 0 < length u → 0 < (lexeme_at strings s u).end
+lexeme_at_some strings s u h = by (s && eqb (get_or u 0 0) byte_order_mark) refl
   where
-    by : (b : Bool) → (s && eqb (get_or u 0 0) byte_order_mark) ≡ b → 0 < (lexeme_at s u).end
+    by : (b : Bool) → (s && eqb (get_or u 0 0) byte_order_mark) ≡ b → 0 < (lexeme_at strings s u).end
     by true e = rw e (omega arith)
-    by false e = rw e (begun_on (start (get_or u 0 0) (get_or u 1 0)) u h refl)
+    by false e = rw e (begun_on strings (start (get_or u 0 0) (get_or u 1 0)) u h refl)
 
-tokens_inside : (n : ℕ) (u : List ℕ) → tokens_from n false u ≡ tokens_from 0 false (drop n u)
-tokens_inside zero [] = refl
-tokens_inside (suc n) [] = refl
-tokens_inside zero (c ∷ cs) = refl
-tokens_inside (suc n) (c ∷ cs) = tokens_inside n cs
+tokens_inside : (strings : Strings) (n : ℕ) (u : List ℕ) → tokens_from strings n false u ≡ tokens_from strings 0 false (drop n u)
+tokens_inside strings zero [] = refl
+tokens_inside strings (suc n) [] = refl
+tokens_inside strings zero (c ∷ cs) = refl
+tokens_inside strings (suc n) (c ∷ cs) = tokens_inside strings n cs
 
 drop_end : (n c : ℕ) (cs : List ℕ) → 0 < n → drop (n - 1) cs ≡ drop n (c ∷ cs)
 drop_end zero c cs h = absurd (omega arith)
 drop_end (suc n) c cs h = ap (λ m. drop m cs) (omega arith)
 
 -- the first token, and those of what follows it
-pub tokens_first : (s : Bool) (u : List ℕ) → 0 < length u → tokens_from 0 s u ≡ token_at s u ∷ tokens_from 0 false (drop (lexeme_at s u).end u)
-tokens_first s [] h = absurd (omega arith)
-tokens_first s (c ∷ cs) h =
-    ap (λ ts. token_at s (c ∷ cs) ∷ ts) (tokens_inside ((lexeme_at s (c ∷ cs)).end - 1) cs ∙ ap (tokens_from 0 false) (drop_end (lexeme_at s (c ∷ cs)).end c cs (lexeme_at_some s (c ∷ cs) h)))
+pub tokens_first : (strings : Strings) (s : Bool) (u : List ℕ) → 0 < length u
+    → tokens_from strings 0 s u ≡ token_at strings s u ∷ tokens_from strings 0 false (drop (lexeme_at strings s u).end u)
+tokens_first strings s [] h = absurd (omega arith)
+tokens_first strings s (c ∷ cs) h =
+    ap (λ ts. token_at strings s (c ∷ cs) ∷ ts) (tokens_inside strings ((lexeme_at strings s (c ∷ cs)).end - 1) cs
+        ∙ ap (tokens_from strings 0 false) (drop_end (lexeme_at strings s (c ∷ cs)).end c cs (lexeme_at_some strings s (c ∷ cs) h)))
 
-pub tokens_none : (s : Bool) (u : List ℕ) → length u ≡ 0 → tokens_from 0 s u ≡ []
-tokens_none s [] h = refl
-tokens_none s (c ∷ cs) h = absurd (omega arith)
+pub tokens_none : (strings : Strings) (s : Bool) (u : List ℕ) → length u ≡ 0 → tokens_from strings 0 s u ≡ []
+tokens_none strings s [] h = refl
+tokens_none strings s (c ∷ cs) h = absurd (omega arith)

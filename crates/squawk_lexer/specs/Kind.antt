@@ -1,15 +1,18 @@
--- What the grammar says of the token at the front of a text: its kind, and how many characters it has.
-use Rattle.std.specs.Prelude.{ℕ, Bool, List}
+-- What the grammar says of the token at the front of a text: its kind with the flags, and how many characters it has.
+use Rattle.std.specs.Prelude.{ℕ}
 use Rattle.squawk_lexer.specs.declared.token.TokenKind.{TokenKind}
 use Rattle.squawk_lexer.specs.declared.token.TokenKind.TheVariants.{Literal}
 use Rattle.squawk_lexer.specs.declared.token.LiteralKind.{LiteralKind}
 
+-- a token's kind, and the place behind its last character
 pub record Lexeme : Type 0 where
   pub kind : TokenKind
   pub end : ℕ
 
+-- a token of the kind that ends there
 abbrev pub lexeme : TokenKind → ℕ → Lexeme
 lexeme kind end = record { kind = kind; end = end }
 
+-- a literal of the kind that ends there
 abbrev pub literal : LiteralKind → ℕ → Lexeme
 literal kind end = lexeme (Literal kind) end

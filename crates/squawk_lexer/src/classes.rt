@@ -1,0 +1,57 @@
+//! Sets of characters.
+ghost use Rattle.std.specs.Prelude.{◌≡◌};
+ghost use Rattle.squawk_lexer.specs.Classes.{class_test, is_white, is_id_cont, is_digit, is_hex_digit, is_id_start};
+
+/// A set of characters that a cursor can pass over.
+#[derive(Clone, Copy)]
+pub(crate) enum Class {
+    White,
+    IdCont,
+    Digit,
+    NotLineEnd,
+}
+
+/// Space, TAB, LF, VT, FF or CR.
+pub(crate) fn is_white(c: char) -> bool
+    ensures { result ≡ is_white c }
+{
+    matches!(c, ' ' | '\t' | '\n' | '\r' | '\u{B}' | '\u{C}')
+}
+
+/// What an identifier begins with.
+pub(crate) fn is_id_start(c: char) -> bool
+    ensures { result ≡ is_id_start c }
+{
+    matches!(c, 'a'..='z' | 'A'..='Z' | '_' | '\u{80}'..)
+}
+
+/// What an identifier goes on with.
+pub(crate) fn is_id_cont(c: char) -> bool
+    ensures { result ≡ is_id_cont c }
+{
+    matches!(c, 'a'..='z' | 'A'..='Z' | '_' | '\u{80}'.. | '0'..='9' | '$')
+}
+
+pub(crate) fn is_digit(c: char) -> bool
+    ensures { result ≡ is_digit c }
+{
+    c.is_ascii_digit()
+}
+
+pub(crate) fn is_hex_digit(c: char) -> bool
+    ensures { result ≡ is_hex_digit c }
+{
+    c.is_ascii_hexdigit()
+}
+
+/// Whether the set has the character.
+pub(crate) fn is_in(class: Class, c: char) -> bool
+    ensures { result ≡ class_test class c }
+{
+    match class {
+        Class::White => is_white(c),
+        Class::IdCont => is_id_cont(c),
+        Class::Digit => is_digit(c),
+        Class::NotLineEnd => c != '\n' && c != '\r',
+    }
+}

@@ -1,0 +1,42 @@
+//! Block comments, which nest.
+ghost use Rattle.std.specs.Prelude.{◌≡◌};
+ghost use Rattle.squawk_lexer.specs.Comment.{comment_end, is_closed, opens, closes};
+
+use crate::cursor::Cursor;
+
+fn opens(c: char, next: char) -> bool
+    ensures { result ≡ opens c next }
+{
+    c == '/' && next == '*'
+}
+
+fn closes(c: char, next: char) -> bool
+    ensures { result ≡ closes c next }
+{
+    c == '*' && next == '/'
+}
+
+impl<'a> Cursor<'a> {
+    /// Moves behind a block comment, from behind its opening, and tells whether it was closed.
+    #[tactic(auto, using(crate::proofs::CommentSteps::comment_steps))]
+    pub(crate) fn block_comment(&mut self) -> bool
+        ensures text { self.new.text ≡ self.old.text }
+        ensures at { self.new.at ≡ comment_end 0 self.old.text self.old.at }
+        ensures closed { result ≡ is_closed 0 self.old.text self.old.at }
+    {
+        let mut inner = 0usize;
+        while let Some(c) = self.bump() {
+            if opens(c, self.first()) {
+                self.bump();
+                inner += 1;
+            } else if closes(c, self.first()) {
+                self.bump();
+                if inner == 0 {
+                    return true;
+                }
+                inner -= 1;
+            }
+        }
+        false
+    }
+}

@@ -1,0 +1,32 @@
+-- One more child: its steps, and the bytes of its leaves.
+use Rattle.std.proofs.Common.{◌≡◌, ℕ, zero, suc, ◌+◌, ◌-◌, ◌≤◌, ◌<◌, List, [], ◌∷◌, ◌++◌, length, take, drop, map, ap, refl, sym, ◌∙◌, append_assoc, arith}
+use Rattle.std.proofs.lemmas.List.{length-drop, take_rest, drop-drop}
+use Rattle.std.proofs.lemmas.List.Sums.{sum_by-take-drop}
+use Rattle.squawk_events.specs.declared.steps.StrStep.{StrStep}
+use Rattle.squawk_tree.specs.Children.{parts, first_of}
+use Rattle.squawk_tree.specs.Leaf.{leaf_form}
+use Rattle.squawk_tree.specs.ParseOf.{leaves_len, child_steps, children_steps}
+use Rattle.squawk_tree.specs.declared.division.Division.{Division}
+use Rattle.squawk_tree.specs.declared.leaves.Leaf.{Leaf}
+use Rattle.squawk_tree.proofs.PartsLemmas.{parts_step}
+
+-- a slice of some leaves from a place on
+pub part_is : (leaves : List Leaf) (done n : ℕ) → take (done + n - done) (drop done leaves) ≡ take n (drop done leaves)
+part_is leaves done n = ap (λ m. take m (drop done leaves)) (let h : done + n - done ≡ n = omega arith in h)
+
+-- the leaves of the next child and those behind it
+pub leaves_len-split : (leaves : List Leaf) (done n : ℕ) → leaves_len (drop done leaves) ≡ leaves_len (take n (drop done leaves)) + leaves_len (drop (done + n) leaves)
+leaves_len-split leaves done n =
+    sym (sum_by-take-drop (λ (l : Leaf). l.len) n (drop done leaves)) ∙ ap (λ ls. leaves_len (take n (drop done leaves)) + leaves_len ls) (drop-drop n done leaves)
+
+-- the children that are left are the next one and those behind it
+pub children_more : (d : Division) (leaves rest : List Leaf) (done n at : ℕ) → done < length leaves → rest ≡ take (length leaves - done) (drop done leaves)
+    → n ≡ (first_of d (map leaf_form rest)).more + 1
+    → children_steps at (parts leaf_form d (drop done leaves)) ≡ child_steps at (take n (drop done leaves)) ++ children_steps (at + leaves_len (take n (drop done leaves))) (parts leaf_form d (drop (done + n) leaves))
+children_more d leaves rest done n at some rest_is n_is =
+    let whole : rest ≡ drop done leaves = rest_is ∙ take_rest leaves done in
+    let size : length (drop done leaves) ≡ length leaves - done = length-drop done leaves in
+    let count : n ≡ (first_of d (map leaf_form (drop done leaves))).more + 1 = rw whole at n_is in
+    let step = parts_step leaf_form d (drop done leaves) n (omega arith) count in
+    ap (children_steps at) step
+    ∙ ap (λ ls. child_steps at (take n (drop done leaves)) ++ children_steps (at + leaves_len (take n (drop done leaves))) (parts leaf_form d ls)) (drop-drop n done leaves)

@@ -1,0 +1,6 @@
+pub mod SpanLemmas
+pub mod RangeLemmas
+pub mod StatementLen
+pub mod PartsLemmas
+pub mod ChildSteps
+pub mod TreeSteps

@@ -1,0 +1,37 @@
+-- The parts of a list: the first child's, and then those of what is left.
+use Rattle.std.proofs.Common.{◌≡◌, ℕ, zero, suc, ◌+◌, ◌-◌, ◌<◌, List, [], ◌∷◌, ◌++◌, length, take, drop, map, ap, refl, sym, ◌∙◌, add-one, arith}
+use Rattle.std.proofs.lemmas.List.{take-append-drop}
+use Rattle.std.specs.List.{flat_map}
+use Rattle.squawk_lexer.specs.Cut.{Form}
+use Rattle.squawk_tree.specs.Children.{parts_from, parts, more_of, first_of}
+use Rattle.squawk_tree.specs.declared.division.Division.{Division}
+
+-- what is inside a child is passed over
+parts_from_skip : {A : Type 0} (form_of : A → Form) (n : ℕ) (d : Division) (xs : List A) → parts_from form_of n d xs ≡ parts_from form_of 0 d (drop n xs)
+parts_from_skip form_of zero d xs = refl
+parts_from_skip form_of (suc n) d [] = refl
+parts_from_skip form_of (suc n) d (x ∷ xs) = parts_from_skip form_of n d xs
+
+parts_more : {A : Type 0} (form_of : A → Form) (d : Division) (x : A) (xs : List A) → parts form_of d (x ∷ xs) ≡ (x ∷ take (more_of form_of d x xs) xs) ∷ parts form_of d (drop (more_of form_of d x xs) xs)
+parts_more form_of d x xs = ap (λ rest. (x ∷ take (more_of form_of d x xs) xs) ∷ rest) (parts_from_skip form_of (more_of form_of d x xs) d xs)
+
+-- the first child has as many as its shape says
+pub parts_step : {A : Type 0} (form_of : A → Form) (d : Division) (xs : List A) (n : ℕ) → 0 < length xs → n ≡ (first_of d (map form_of xs)).more + 1 → parts form_of d xs ≡ take n xs ∷ parts form_of d (drop n xs)
+parts_step form_of d [] n some is = absurd (omega arith)
+parts_step form_of d (x ∷ xs) n some is = rw (is, add-one) (parts_more form_of d x xs)
+
+-- the lists in one
+abbrev pub joined : {A : Type 0} → List (List A) → List A
+joined xss = flat_map (λ xs. xs) xss
+
+joined-parts_from : {A : Type 0} (form_of : A → Form) (n : ℕ) (d : Division) (xs : List A) → joined (parts_from form_of n d xs) ≡ drop n xs
+joined-parts_from form_of zero d [] = refl
+joined-parts_from form_of (suc n) d [] = refl
+joined-parts_from form_of zero d (x ∷ xs) =
+    ap (λ ys. x ∷ take (more_of form_of d x xs) xs ++ ys) (joined-parts_from form_of (more_of form_of d x xs) d xs)
+    ∙ ap (λ ys. x ∷ ys) (take-append-drop (more_of form_of d x xs) xs)
+joined-parts_from form_of (suc n) d (x ∷ xs) = joined-parts_from form_of n d xs
+
+-- the parts in order are the whole
+pub joined-parts : {A : Type 0} (form_of : A → Form) (d : Division) (xs : List A) → joined (parts form_of d xs) ≡ xs
+joined-parts form_of d xs = joined-parts_from form_of 0 d xs

@@ -1,0 +1,31 @@
+-- What a parse is seen as, and what holds of it.
+use Rattle.std.specs.Prelude.{ℕ, ◌≡◌, ◌≤◌, List, All, IsTrue}
+use Rattle.squawk_events.specs.declared.steps.StrStep.{StrStep}
+use Rattle.squawk_events.specs.declared.steps.ParseError.{ParseError}
+use Rattle.squawk_tree.specs.Steps.{is_balanced, has_no_errors, leaves, tiles}
+use Rattle.squawk_tree.specs.Ranges.{ranges}
+
+-- the steps of a tree, its errors, and the length of its text in bytes
+pub record Tree : Type 0 where
+  pub steps : List StrStep
+  pub errors : List ParseError
+  pub len : ℕ
+
+-- an error with one of the ten messages, within a text of this length
+pub record IsErrorWithin (len : ℕ) (e : ParseError) : Type 0 where
+  pub first_number : 1 ≤ e.number
+  pub last_number : e.number ≤ 10
+  pub ordered : e.start ≤ e.end
+  pub within : e.end ≤ len
+
+-- the steps are balanced, their tokens cover a text of this length, and the errors lie in it
+pub record IsTree (t : Tree) : Type 0 where
+  pub balanced : IsTrue (is_balanced t.steps)
+  pub no_errors : IsTrue (has_no_errors t.steps)
+  pub tiled : IsTrue (tiles 0 (leaves t.steps) t.len)
+  pub errors_within : All (IsErrorWithin t.len) t.errors
+
+-- what is kept: a tree, and the range of each step
+pub record IsKept (t : Tree) (spans : List (ℕ × ℕ)) : Type 0 where
+  pub tree : IsTree t
+  pub spans_are : spans ≡ ranges t.steps
