@@ -2,3 +2,5 @@ pub mod Causes
 pub mod Memory
 pub mod Outcome
 pub mod Reading
+pub mod Report
+pub mod Run
