@@ -12,6 +12,8 @@ mod report;
 mod sink;
 mod source;
 mod telling;
+#[cfg(test)]
+mod tests;
 mod writing;
 
 pub use error::RunError;
@@ -23,11 +25,10 @@ pub use reading::{LIMIT, read_all};
 pub use report::make_report;
 pub use sink::Sink;
 pub use source::{Failed, Source};
-pub use writing::write_whole;
-
 use std::env;
 use std::io::ErrorKind;
 use std::process::ExitCode;
+pub use writing::write_whole;
 
 // The status where there is no memory for the words of the command line.
 const NO_MEMORY: u8 = 6;

@@ -51,7 +51,13 @@ impl MemorySink {
     ) -> Result<MemorySink, FrontError>
         requires { 0 < largest }
         ensures made { IfOk result (λ s. s ≡ record {
-          taken = []; room = room; largest = largest; failing = failing.now; calls = 0; faults = 0 }) }
+          taken = [];
+          room = room;
+          largest = largest;
+          failing = failing.now;
+          calls = 0;
+          faults = 0;
+        }) }
         ensures refusal { OnErr result (IsErrOf result FrontError.OutOfMemory) }
     {
         Ok(MemorySink {

@@ -49,7 +49,12 @@ impl MemorySource {
     ) -> Result<MemorySource, FrontError>
         requires { 0 < largest }
         ensures made { IfOk result (λ s. s ≡ record {
-          left = bytes.now; largest = largest; failing = failing.now; calls = 0; faults = 0 }) }
+          left = bytes.now;
+          largest = largest;
+          failing = failing.now;
+          calls = 0;
+          faults = 0;
+        }) }
         ensures refusal { OnErr result (IsErrOf result FrontError.OutOfMemory) }
     {
         Ok(MemorySource {
