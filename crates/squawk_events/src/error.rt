@@ -28,6 +28,6 @@ impl<T: Drop> From<AllocFailed<T>> for FrontError {
     ghost from_gives = { λ _ e. e ≡ OutOfMemory };
 
     fn from(_: AllocFailed<T>) -> Self {
-        FrontError::OutOfMemory
+        FrontError::from(AllocError)
     }
 }

@@ -4,6 +4,8 @@
 mod error;
 mod messages;
 mod steps;
+#[cfg(test)]
+mod tests;
 
 pub use error::FrontError;
 pub use messages::message;

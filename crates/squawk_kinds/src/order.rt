@@ -11,750 +11,313 @@ pub(crate) fn numbers() -> &'static [u16]
     &NUMBERS
 }
 
+/// The numbers that these constants hold.
+macro_rules! numbers_of {
+    ($($name:ident)*) => {
+        [$(SyntaxKind::$name.number),*]
+    };
+}
+
 #[rattlefmt::skip]
-static NUMBERS: [u16; 2068] = [
-    SyntaxKind::TOMBSTONE.number, SyntaxKind::EOF.number, SyntaxKind::DOLLAR.number, SyntaxKind::SEMICOLON.number,
-    SyntaxKind::COMMA.number, SyntaxKind::L_PAREN.number, SyntaxKind::R_PAREN.number, SyntaxKind::L_BRACK.number,
-    SyntaxKind::R_BRACK.number, SyntaxKind::L_CURLY.number, SyntaxKind::R_CURLY.number, SyntaxKind::L_ANGLE.number,
-    SyntaxKind::LESS_LESS.number, SyntaxKind::LTEQ.number, SyntaxKind::NEQB.number, SyntaxKind::R_ANGLE.number,
-    SyntaxKind::GREATER_GREATER.number, SyntaxKind::GTEQ.number, SyntaxKind::AT.number, SyntaxKind::POUND.number,
-    SyntaxKind::TILDE.number, SyntaxKind::QUESTION.number, SyntaxKind::AMP.number, SyntaxKind::PIPE.number,
-    SyntaxKind::PLUS.number, SyntaxKind::STAR.number, SyntaxKind::SLASH.number, SyntaxKind::CARET.number,
-    SyntaxKind::PERCENT.number, SyntaxKind::UNDERSCORE.number, SyntaxKind::DOT.number, SyntaxKind::DOT_DOT.number,
-    SyntaxKind::COLON.number, SyntaxKind::COLON_EQ.number, SyntaxKind::EQ.number, SyntaxKind::FAT_ARROW.number,
-    SyntaxKind::BANG.number, SyntaxKind::NEQ.number, SyntaxKind::MINUS.number, SyntaxKind::BACKTICK.number,
-    SyntaxKind::ABORT_KW.number, SyntaxKind::ABSENT_KW.number, SyntaxKind::ABSOLUTE_KW.number,
-    SyntaxKind::ACCESS_KW.number, SyntaxKind::ACTION_KW.number, SyntaxKind::ADD_KW.number,
-    SyntaxKind::ADMIN_KW.number, SyntaxKind::AFTER_KW.number, SyntaxKind::AGGREGATE_KW.number,
-    SyntaxKind::ALL_KW.number, SyntaxKind::ALSO_KW.number, SyntaxKind::ALTER_KW.number, SyntaxKind::ALWAYS_KW.number,
-    SyntaxKind::ANALYSE_KW.number, SyntaxKind::ANALYZE_KW.number, SyntaxKind::AND_KW.number,
-    SyntaxKind::ANY_KW.number, SyntaxKind::ARRAY_KW.number, SyntaxKind::AS_KW.number, SyntaxKind::ASC_KW.number,
-    SyntaxKind::ASENSITIVE_KW.number, SyntaxKind::ASSERTION_KW.number, SyntaxKind::ASSIGNMENT_KW.number,
-    SyntaxKind::ASYMMETRIC_KW.number, SyntaxKind::AT_KW.number, SyntaxKind::ATOMIC_KW.number,
-    SyntaxKind::ATTACH_KW.number, SyntaxKind::ATTRIBUTE_KW.number, SyntaxKind::AUTHORIZATION_KW.number,
-    SyntaxKind::BACKWARD_KW.number, SyntaxKind::BEFORE_KW.number, SyntaxKind::BEGIN_KW.number,
-    SyntaxKind::BETWEEN_KW.number, SyntaxKind::BIGINT_KW.number, SyntaxKind::BINARY_KW.number,
-    SyntaxKind::BIT_KW.number, SyntaxKind::BOOLEAN_KW.number, SyntaxKind::BOTH_KW.number,
-    SyntaxKind::BREADTH_KW.number, SyntaxKind::BY_KW.number, SyntaxKind::CACHE_KW.number, SyntaxKind::CALL_KW.number,
-    SyntaxKind::CALLED_KW.number, SyntaxKind::CASCADE_KW.number, SyntaxKind::CASCADED_KW.number,
-    SyntaxKind::CASE_KW.number, SyntaxKind::CAST_KW.number, SyntaxKind::CATALOG_KW.number,
-    SyntaxKind::CHAIN_KW.number, SyntaxKind::CHAR_KW.number, SyntaxKind::CHARACTER_KW.number,
-    SyntaxKind::CHARACTERISTICS_KW.number, SyntaxKind::CHECK_KW.number, SyntaxKind::CHECKPOINT_KW.number,
-    SyntaxKind::CLASS_KW.number, SyntaxKind::CLOSE_KW.number, SyntaxKind::CLUSTER_KW.number,
-    SyntaxKind::COALESCE_KW.number, SyntaxKind::COLLATE_KW.number, SyntaxKind::COLLATION_KW.number,
-    SyntaxKind::COLUMN_KW.number, SyntaxKind::COLUMNS_KW.number, SyntaxKind::COMMENT_KW.number,
-    SyntaxKind::COMMENTS_KW.number, SyntaxKind::COMMIT_KW.number, SyntaxKind::COMMITTED_KW.number,
-    SyntaxKind::COMPRESSION_KW.number, SyntaxKind::CONCURRENTLY_KW.number, SyntaxKind::CONDITIONAL_KW.number,
-    SyntaxKind::CONFIGURATION_KW.number, SyntaxKind::CONFLICT_KW.number, SyntaxKind::CONNECTION_KW.number,
-    SyntaxKind::CONSTRAINT_KW.number, SyntaxKind::CONSTRAINTS_KW.number, SyntaxKind::CONTENT_KW.number,
-    SyntaxKind::CONTINUE_KW.number, SyntaxKind::CONVERSION_KW.number, SyntaxKind::COPY_KW.number,
-    SyntaxKind::COST_KW.number, SyntaxKind::CREATE_KW.number, SyntaxKind::CROSS_KW.number, SyntaxKind::CSV_KW.number,
-    SyntaxKind::CUBE_KW.number, SyntaxKind::CURRENT_KW.number, SyntaxKind::CURRENT_CATALOG_KW.number,
-    SyntaxKind::CURRENT_DATE_KW.number, SyntaxKind::CURRENT_ROLE_KW.number, SyntaxKind::CURRENT_SCHEMA_KW.number,
-    SyntaxKind::CURRENT_TIME_KW.number, SyntaxKind::CURRENT_TIMESTAMP_KW.number, SyntaxKind::CURRENT_USER_KW.number,
-    SyntaxKind::CURSOR_KW.number, SyntaxKind::CYCLE_KW.number, SyntaxKind::DATA_KW.number,
-    SyntaxKind::DATABASE_KW.number, SyntaxKind::DAY_KW.number, SyntaxKind::DEALLOCATE_KW.number,
-    SyntaxKind::DEC_KW.number, SyntaxKind::DECIMAL_KW.number, SyntaxKind::DECLARE_KW.number,
-    SyntaxKind::DEFAULT_KW.number, SyntaxKind::DEFAULTS_KW.number, SyntaxKind::DEFERRABLE_KW.number,
-    SyntaxKind::DEFERRED_KW.number, SyntaxKind::DEFINER_KW.number, SyntaxKind::DELETE_KW.number,
-    SyntaxKind::DELIMITER_KW.number, SyntaxKind::DELIMITERS_KW.number, SyntaxKind::DEPENDS_KW.number,
-    SyntaxKind::DEPTH_KW.number, SyntaxKind::DESC_KW.number, SyntaxKind::DESTINATION_KW.number,
-    SyntaxKind::DETACH_KW.number, SyntaxKind::DICTIONARY_KW.number, SyntaxKind::DISABLE_KW.number,
-    SyntaxKind::DISCARD_KW.number, SyntaxKind::DISTINCT_KW.number, SyntaxKind::DO_KW.number,
-    SyntaxKind::DOCUMENT_KW.number, SyntaxKind::DOMAIN_KW.number, SyntaxKind::DOUBLE_KW.number,
-    SyntaxKind::DROP_KW.number, SyntaxKind::EACH_KW.number, SyntaxKind::EDGE_KW.number, SyntaxKind::ELSE_KW.number,
-    SyntaxKind::EMPTY_KW.number, SyntaxKind::ENABLE_KW.number, SyntaxKind::ENCODING_KW.number,
-    SyntaxKind::ENCRYPTED_KW.number, SyntaxKind::END_KW.number, SyntaxKind::ENFORCED_KW.number,
-    SyntaxKind::ENUM_KW.number, SyntaxKind::ERROR_KW.number, SyntaxKind::ESCAPE_KW.number,
-    SyntaxKind::EVENT_KW.number, SyntaxKind::EXCEPT_KW.number, SyntaxKind::EXCLUDE_KW.number,
-    SyntaxKind::EXCLUDING_KW.number, SyntaxKind::EXCLUSIVE_KW.number, SyntaxKind::EXECUTE_KW.number,
-    SyntaxKind::EXISTS_KW.number, SyntaxKind::EXPLAIN_KW.number, SyntaxKind::EXPRESSION_KW.number,
-    SyntaxKind::EXTENSION_KW.number, SyntaxKind::EXTERNAL_KW.number, SyntaxKind::EXTRACT_KW.number,
-    SyntaxKind::FALSE_KW.number, SyntaxKind::FAMILY_KW.number, SyntaxKind::FETCH_KW.number,
-    SyntaxKind::FILTER_KW.number, SyntaxKind::FINALIZE_KW.number, SyntaxKind::FIRST_KW.number,
-    SyntaxKind::FLOAT_KW.number, SyntaxKind::FOLLOWING_KW.number, SyntaxKind::FOR_KW.number,
-    SyntaxKind::FORCE_KW.number, SyntaxKind::FOREIGN_KW.number, SyntaxKind::FORMAT_KW.number,
-    SyntaxKind::FORWARD_KW.number, SyntaxKind::FREEZE_KW.number, SyntaxKind::FROM_KW.number,
-    SyntaxKind::FULL_KW.number, SyntaxKind::FUNCTION_KW.number, SyntaxKind::FUNCTIONS_KW.number,
-    SyntaxKind::GENERATED_KW.number, SyntaxKind::GLOBAL_KW.number, SyntaxKind::GRANT_KW.number,
-    SyntaxKind::GRANTED_KW.number, SyntaxKind::GRAPH_KW.number, SyntaxKind::GRAPH_TABLE_KW.number,
-    SyntaxKind::GREATEST_KW.number, SyntaxKind::GROUP_KW.number, SyntaxKind::GROUPING_KW.number,
-    SyntaxKind::GROUPS_KW.number, SyntaxKind::HANDLER_KW.number, SyntaxKind::HAVING_KW.number,
-    SyntaxKind::HEADER_KW.number, SyntaxKind::HOLD_KW.number, SyntaxKind::HOUR_KW.number,
-    SyntaxKind::IDENTITY_KW.number, SyntaxKind::IF_KW.number, SyntaxKind::IGNORE_KW.number,
-    SyntaxKind::ILIKE_KW.number, SyntaxKind::IMMEDIATE_KW.number, SyntaxKind::IMMUTABLE_KW.number,
-    SyntaxKind::IMPLICIT_KW.number, SyntaxKind::IMPORT_KW.number, SyntaxKind::IN_KW.number,
-    SyntaxKind::INCLUDE_KW.number, SyntaxKind::INCLUDING_KW.number, SyntaxKind::INCREMENT_KW.number,
-    SyntaxKind::INDENT_KW.number, SyntaxKind::INDEX_KW.number, SyntaxKind::INDEXES_KW.number,
-    SyntaxKind::INHERIT_KW.number, SyntaxKind::INHERITS_KW.number, SyntaxKind::INITIALLY_KW.number,
-    SyntaxKind::INLINE_KW.number, SyntaxKind::INNER_KW.number, SyntaxKind::INOUT_KW.number,
-    SyntaxKind::INPUT_KW.number, SyntaxKind::INSENSITIVE_KW.number, SyntaxKind::INSERT_KW.number,
-    SyntaxKind::INSTEAD_KW.number, SyntaxKind::INT_KW.number, SyntaxKind::INTEGER_KW.number,
-    SyntaxKind::INTERSECT_KW.number, SyntaxKind::INTERVAL_KW.number, SyntaxKind::INTO_KW.number,
-    SyntaxKind::INVOKER_KW.number, SyntaxKind::IS_KW.number, SyntaxKind::ISNULL_KW.number,
-    SyntaxKind::ISOLATION_KW.number, SyntaxKind::JOIN_KW.number, SyntaxKind::JSON_KW.number,
-    SyntaxKind::JSON_ARRAY_KW.number, SyntaxKind::JSON_ARRAYAGG_KW.number, SyntaxKind::JSON_EXISTS_KW.number,
-    SyntaxKind::JSON_OBJECT_KW.number, SyntaxKind::JSON_OBJECTAGG_KW.number, SyntaxKind::JSON_QUERY_KW.number,
-    SyntaxKind::JSON_SCALAR_KW.number, SyntaxKind::JSON_SERIALIZE_KW.number, SyntaxKind::JSON_TABLE_KW.number,
-    SyntaxKind::JSON_VALUE_KW.number, SyntaxKind::KEEP_KW.number, SyntaxKind::KEY_KW.number,
-    SyntaxKind::KEYS_KW.number, SyntaxKind::LABEL_KW.number, SyntaxKind::LANGUAGE_KW.number,
-    SyntaxKind::LARGE_KW.number, SyntaxKind::LAST_KW.number, SyntaxKind::LATERAL_KW.number,
-    SyntaxKind::LEADING_KW.number, SyntaxKind::LEAKPROOF_KW.number, SyntaxKind::LEAST_KW.number,
-    SyntaxKind::LEFT_KW.number, SyntaxKind::LEVEL_KW.number, SyntaxKind::LIKE_KW.number, SyntaxKind::LIMIT_KW.number,
-    SyntaxKind::LISTEN_KW.number, SyntaxKind::LOAD_KW.number, SyntaxKind::LOCAL_KW.number,
-    SyntaxKind::LOCALTIME_KW.number, SyntaxKind::LOCALTIMESTAMP_KW.number, SyntaxKind::LOCATION_KW.number,
-    SyntaxKind::LOCK_KW.number, SyntaxKind::LOCKED_KW.number, SyntaxKind::LOGGED_KW.number, SyntaxKind::LSN_KW.number,
-    SyntaxKind::MAPPING_KW.number, SyntaxKind::MATCH_KW.number, SyntaxKind::MATCHED_KW.number,
-    SyntaxKind::MATERIALIZED_KW.number, SyntaxKind::MAXVALUE_KW.number, SyntaxKind::MERGE_KW.number,
-    SyntaxKind::MERGE_ACTION_KW.number, SyntaxKind::METHOD_KW.number, SyntaxKind::MINUTE_KW.number,
-    SyntaxKind::MINVALUE_KW.number, SyntaxKind::MODE_KW.number, SyntaxKind::MONTH_KW.number,
-    SyntaxKind::MOVE_KW.number, SyntaxKind::NAME_KW.number, SyntaxKind::NAMES_KW.number,
-    SyntaxKind::NATIONAL_KW.number, SyntaxKind::NATURAL_KW.number, SyntaxKind::NCHAR_KW.number,
-    SyntaxKind::NESTED_KW.number, SyntaxKind::NEW_KW.number, SyntaxKind::NEXT_KW.number, SyntaxKind::NFC_KW.number,
-    SyntaxKind::NFD_KW.number, SyntaxKind::NFKC_KW.number, SyntaxKind::NFKD_KW.number, SyntaxKind::NO_KW.number,
-    SyntaxKind::NODE_KW.number, SyntaxKind::NONE_KW.number, SyntaxKind::NORMALIZE_KW.number,
-    SyntaxKind::NORMALIZED_KW.number, SyntaxKind::NOT_KW.number, SyntaxKind::NOTHING_KW.number,
-    SyntaxKind::NOTIFY_KW.number, SyntaxKind::NOTNULL_KW.number, SyntaxKind::NOWAIT_KW.number,
-    SyntaxKind::NULL_KW.number, SyntaxKind::NULLIF_KW.number, SyntaxKind::NULLS_KW.number,
-    SyntaxKind::NUMERIC_KW.number, SyntaxKind::OBJECT_KW.number, SyntaxKind::OBJECTS_KW.number,
-    SyntaxKind::OF_KW.number, SyntaxKind::OFF_KW.number, SyntaxKind::OFFSET_KW.number, SyntaxKind::OIDS_KW.number,
-    SyntaxKind::OLD_KW.number, SyntaxKind::OMIT_KW.number, SyntaxKind::ON_KW.number, SyntaxKind::ONLY_KW.number,
-    SyntaxKind::OPERATOR_KW.number, SyntaxKind::OPTION_KW.number, SyntaxKind::OPTIONS_KW.number,
-    SyntaxKind::OR_KW.number, SyntaxKind::ORDER_KW.number, SyntaxKind::ORDINALITY_KW.number,
-    SyntaxKind::OTHERS_KW.number, SyntaxKind::OUT_KW.number, SyntaxKind::OUTER_KW.number, SyntaxKind::OVER_KW.number,
-    SyntaxKind::OVERLAPS_KW.number, SyntaxKind::OVERLAY_KW.number, SyntaxKind::OVERRIDING_KW.number,
-    SyntaxKind::OWNED_KW.number, SyntaxKind::OWNER_KW.number, SyntaxKind::PARALLEL_KW.number,
-    SyntaxKind::PARAMETER_KW.number, SyntaxKind::PARSER_KW.number, SyntaxKind::PARTIAL_KW.number,
-    SyntaxKind::PARTITION_KW.number, SyntaxKind::PARTITIONS_KW.number, SyntaxKind::PASSING_KW.number,
-    SyntaxKind::PASSWORD_KW.number, SyntaxKind::PATH_KW.number, SyntaxKind::PERIOD_KW.number,
-    SyntaxKind::PLACING_KW.number, SyntaxKind::PLAN_KW.number, SyntaxKind::PLANS_KW.number,
-    SyntaxKind::POLICY_KW.number, SyntaxKind::PORTION_KW.number, SyntaxKind::POSITION_KW.number,
-    SyntaxKind::PRECEDING_KW.number, SyntaxKind::PRECISION_KW.number, SyntaxKind::PREPARE_KW.number,
-    SyntaxKind::PREPARED_KW.number, SyntaxKind::PRESERVE_KW.number, SyntaxKind::PRIMARY_KW.number,
-    SyntaxKind::PRIOR_KW.number, SyntaxKind::PRIVILEGES_KW.number, SyntaxKind::PROCEDURAL_KW.number,
-    SyntaxKind::PROCEDURE_KW.number, SyntaxKind::PROCEDURES_KW.number, SyntaxKind::PROGRAM_KW.number,
-    SyntaxKind::PROPERTIES_KW.number, SyntaxKind::PROPERTY_KW.number, SyntaxKind::PUBLICATION_KW.number,
-    SyntaxKind::QUOTE_KW.number, SyntaxKind::QUOTES_KW.number, SyntaxKind::RANGE_KW.number,
-    SyntaxKind::READ_KW.number, SyntaxKind::REAL_KW.number, SyntaxKind::REASSIGN_KW.number,
-    SyntaxKind::RECURSIVE_KW.number, SyntaxKind::REF_KW.number, SyntaxKind::REFERENCES_KW.number,
-    SyntaxKind::REFERENCING_KW.number, SyntaxKind::REFRESH_KW.number, SyntaxKind::REINDEX_KW.number,
-    SyntaxKind::RELATIONSHIP_KW.number, SyntaxKind::RELATIVE_KW.number, SyntaxKind::RELEASE_KW.number,
-    SyntaxKind::RENAME_KW.number, SyntaxKind::REPACK_KW.number, SyntaxKind::REPEATABLE_KW.number,
-    SyntaxKind::REPLACE_KW.number, SyntaxKind::REPLICA_KW.number, SyntaxKind::RESET_KW.number,
-    SyntaxKind::RESPECT_KW.number, SyntaxKind::RESTART_KW.number, SyntaxKind::RESTRICT_KW.number,
-    SyntaxKind::RETURN_KW.number, SyntaxKind::RETURNING_KW.number, SyntaxKind::RETURNS_KW.number,
-    SyntaxKind::REVOKE_KW.number, SyntaxKind::RIGHT_KW.number, SyntaxKind::ROLE_KW.number,
-    SyntaxKind::ROLLBACK_KW.number, SyntaxKind::ROLLUP_KW.number, SyntaxKind::ROUTINE_KW.number,
-    SyntaxKind::ROUTINES_KW.number, SyntaxKind::ROW_KW.number, SyntaxKind::ROWS_KW.number, SyntaxKind::RULE_KW.number,
-    SyntaxKind::SAVEPOINT_KW.number, SyntaxKind::SCALAR_KW.number, SyntaxKind::SCHEMA_KW.number,
-    SyntaxKind::SCHEMAS_KW.number, SyntaxKind::SCROLL_KW.number, SyntaxKind::SEARCH_KW.number,
-    SyntaxKind::SECOND_KW.number, SyntaxKind::SECURITY_KW.number, SyntaxKind::SELECT_KW.number,
-    SyntaxKind::SEQUENCE_KW.number, SyntaxKind::SEQUENCES_KW.number, SyntaxKind::SERIALIZABLE_KW.number,
-    SyntaxKind::SERVER_KW.number, SyntaxKind::SESSION_KW.number, SyntaxKind::SESSION_USER_KW.number,
-    SyntaxKind::SET_KW.number, SyntaxKind::SETOF_KW.number, SyntaxKind::SETS_KW.number, SyntaxKind::SHARE_KW.number,
-    SyntaxKind::SHOW_KW.number, SyntaxKind::SIMILAR_KW.number, SyntaxKind::SIMPLE_KW.number,
-    SyntaxKind::SKIP_KW.number, SyntaxKind::SMALLINT_KW.number, SyntaxKind::SNAPSHOT_KW.number,
-    SyntaxKind::SOME_KW.number, SyntaxKind::SOURCE_KW.number, SyntaxKind::SPLIT_KW.number, SyntaxKind::SQL_KW.number,
-    SyntaxKind::STABLE_KW.number, SyntaxKind::STANDALONE_KW.number, SyntaxKind::START_KW.number,
-    SyntaxKind::STATEMENT_KW.number, SyntaxKind::STATISTICS_KW.number, SyntaxKind::STDIN_KW.number,
-    SyntaxKind::STDOUT_KW.number, SyntaxKind::STORAGE_KW.number, SyntaxKind::STORED_KW.number,
-    SyntaxKind::STRICT_KW.number, SyntaxKind::STRING_KW.number, SyntaxKind::STRIP_KW.number,
-    SyntaxKind::SUBSCRIPTION_KW.number, SyntaxKind::SUBSTRING_KW.number, SyntaxKind::SUPPORT_KW.number,
-    SyntaxKind::SYMMETRIC_KW.number, SyntaxKind::SYSID_KW.number, SyntaxKind::SYSTEM_KW.number,
-    SyntaxKind::SYSTEM_USER_KW.number, SyntaxKind::TABLE_KW.number, SyntaxKind::TABLES_KW.number,
-    SyntaxKind::TABLESAMPLE_KW.number, SyntaxKind::TABLESPACE_KW.number, SyntaxKind::TARGET_KW.number,
-    SyntaxKind::TEMP_KW.number, SyntaxKind::TEMPLATE_KW.number, SyntaxKind::TEMPORARY_KW.number,
-    SyntaxKind::TEXT_KW.number, SyntaxKind::THEN_KW.number, SyntaxKind::TIES_KW.number, SyntaxKind::TIME_KW.number,
-    SyntaxKind::TIMESTAMP_KW.number, SyntaxKind::TO_KW.number, SyntaxKind::TRAILING_KW.number,
-    SyntaxKind::TRANSACTION_KW.number, SyntaxKind::TRANSFORM_KW.number, SyntaxKind::TREAT_KW.number,
-    SyntaxKind::TRIGGER_KW.number, SyntaxKind::TRIM_KW.number, SyntaxKind::TRUE_KW.number,
-    SyntaxKind::TRUNCATE_KW.number, SyntaxKind::TRUSTED_KW.number, SyntaxKind::TYPE_KW.number,
-    SyntaxKind::TYPES_KW.number, SyntaxKind::UESCAPE_KW.number, SyntaxKind::UNBOUNDED_KW.number,
-    SyntaxKind::UNCOMMITTED_KW.number, SyntaxKind::UNCONDITIONAL_KW.number, SyntaxKind::UNENCRYPTED_KW.number,
-    SyntaxKind::UNION_KW.number, SyntaxKind::UNIQUE_KW.number, SyntaxKind::UNKNOWN_KW.number,
-    SyntaxKind::UNLISTEN_KW.number, SyntaxKind::UNLOGGED_KW.number, SyntaxKind::UNTIL_KW.number,
-    SyntaxKind::UPDATE_KW.number, SyntaxKind::USER_KW.number, SyntaxKind::USING_KW.number,
-    SyntaxKind::VACUUM_KW.number, SyntaxKind::VALID_KW.number, SyntaxKind::VALIDATE_KW.number,
-    SyntaxKind::VALIDATOR_KW.number, SyntaxKind::VALUE_KW.number, SyntaxKind::VALUES_KW.number,
-    SyntaxKind::VARCHAR_KW.number, SyntaxKind::VARIADIC_KW.number, SyntaxKind::VARYING_KW.number,
-    SyntaxKind::VERBOSE_KW.number, SyntaxKind::VERSION_KW.number, SyntaxKind::VERTEX_KW.number,
-    SyntaxKind::VIEW_KW.number, SyntaxKind::VIEWS_KW.number, SyntaxKind::VIRTUAL_KW.number,
-    SyntaxKind::VOLATILE_KW.number, SyntaxKind::WAIT_KW.number, SyntaxKind::WHEN_KW.number,
-    SyntaxKind::WHERE_KW.number, SyntaxKind::WHITESPACE_KW.number, SyntaxKind::WINDOW_KW.number,
-    SyntaxKind::WITH_KW.number, SyntaxKind::WITHIN_KW.number, SyntaxKind::WITHOUT_KW.number,
-    SyntaxKind::WORK_KW.number, SyntaxKind::WRAPPER_KW.number, SyntaxKind::WRITE_KW.number, SyntaxKind::XML_KW.number,
-    SyntaxKind::XMLATTRIBUTES_KW.number, SyntaxKind::XMLCONCAT_KW.number, SyntaxKind::XMLELEMENT_KW.number,
-    SyntaxKind::XMLEXISTS_KW.number, SyntaxKind::XMLFOREST_KW.number, SyntaxKind::XMLNAMESPACES_KW.number,
-    SyntaxKind::XMLPARSE_KW.number, SyntaxKind::XMLPI_KW.number, SyntaxKind::XMLROOT_KW.number,
-    SyntaxKind::XMLSERIALIZE_KW.number, SyntaxKind::XMLTABLE_KW.number, SyntaxKind::YEAR_KW.number,
-    SyntaxKind::YES_KW.number, SyntaxKind::ZONE_KW.number, SyntaxKind::ALIAS_KW.number, SyntaxKind::ASSERT_KW.number,
-    SyntaxKind::COLUMN_NAME_KW.number, SyntaxKind::CONSTANT_KW.number, SyntaxKind::CONSTRAINT_NAME_KW.number,
-    SyntaxKind::DATATYPE_KW.number, SyntaxKind::DEBUG_KW.number, SyntaxKind::DETAIL_KW.number,
-    SyntaxKind::DIAGNOSTICS_KW.number, SyntaxKind::DUMP_KW.number, SyntaxKind::ELSEIF_KW.number,
-    SyntaxKind::ELSIF_KW.number, SyntaxKind::ERRCODE_KW.number, SyntaxKind::EXCEPTION_KW.number,
-    SyntaxKind::EXIT_KW.number, SyntaxKind::FOREACH_KW.number, SyntaxKind::GET_KW.number, SyntaxKind::HINT_KW.number,
-    SyntaxKind::INFO_KW.number, SyntaxKind::LOG_KW.number, SyntaxKind::LOOP_KW.number, SyntaxKind::MESSAGE_KW.number,
-    SyntaxKind::MESSAGE_TEXT_KW.number, SyntaxKind::NOTICE_KW.number, SyntaxKind::OPEN_KW.number,
-    SyntaxKind::PERFORM_KW.number, SyntaxKind::PG_CONTEXT_KW.number, SyntaxKind::PG_DATATYPE_NAME_KW.number,
-    SyntaxKind::PG_EXCEPTION_CONTEXT_KW.number, SyntaxKind::PG_EXCEPTION_DETAIL_KW.number,
-    SyntaxKind::PG_EXCEPTION_HINT_KW.number, SyntaxKind::PG_ROUTINE_OID_KW.number,
-    SyntaxKind::PRINT_STRICT_PARAMS_KW.number, SyntaxKind::QUERY_KW.number, SyntaxKind::RAISE_KW.number,
-    SyntaxKind::RETURNED_SQLSTATE_KW.number, SyntaxKind::REVERSE_KW.number, SyntaxKind::ROW_COUNT_KW.number,
-    SyntaxKind::ROWTYPE_KW.number, SyntaxKind::SCHEMA_NAME_KW.number, SyntaxKind::SLICE_KW.number,
-    SyntaxKind::SQLSTATE_KW.number, SyntaxKind::STACKED_KW.number, SyntaxKind::TABLE_NAME_KW.number,
-    SyntaxKind::USE_COLUMN_KW.number, SyntaxKind::USE_VARIABLE_KW.number, SyntaxKind::VARIABLE_CONFLICT_KW.number,
-    SyntaxKind::WARNING_KW.number, SyntaxKind::WHILE_KW.number, SyntaxKind::BIT_STRING.number,
-    SyntaxKind::BYTE_STRING.number, SyntaxKind::DOLLAR_QUOTED_STRING.number, SyntaxKind::ESC_STRING.number,
-    SyntaxKind::INT_NUMBER.number, SyntaxKind::NATIONAL_STRING.number, SyntaxKind::NULL.number,
-    SyntaxKind::NUMERIC_NUMBER.number, SyntaxKind::POSITIONAL_PARAM.number, SyntaxKind::PSQL_COMMAND_TEXT.number,
-    SyntaxKind::PSQL_TERMINATOR_TEXT.number, SyntaxKind::STRING.number, SyntaxKind::UNICODE_ESC_STRING.number,
-    SyntaxKind::COMMENT.number, SyntaxKind::ERROR.number, SyntaxKind::IDENT.number, SyntaxKind::WHITESPACE.number,
-    SyntaxKind::ABSOLUTE.number, SyntaxKind::ACCESS_EXCLUSIVE.number, SyntaxKind::ACCESS_METHOD.number,
-    SyntaxKind::ACCESS_METHOD_REF.number, SyntaxKind::ACCESS_METHOD_TYPE_INDEX.number,
-    SyntaxKind::ACCESS_METHOD_TYPE_TABLE.number, SyntaxKind::ACCESS_SHARE.number, SyntaxKind::ADD_ATTRIBUTE.number,
-    SyntaxKind::ADD_COLUMN.number, SyntaxKind::ADD_CONSTRAINT.number, SyntaxKind::ADD_EDGE_TABLES.number,
-    SyntaxKind::ADD_FOREIGN_OPTION.number, SyntaxKind::ADD_GENERATED.number, SyntaxKind::ADD_LABEL.number,
-    SyntaxKind::ADD_MAPPING.number, SyntaxKind::ADD_OP_CLASS_OPTIONS.number, SyntaxKind::ADD_PUBLICATION.number,
-    SyntaxKind::ADD_PUBLICATION_OBJECTS.number, SyntaxKind::ADD_USERS.number, SyntaxKind::ADD_VALUE.number,
-    SyntaxKind::ADD_VERTEX_EDGE_LABEL_PROPERTIES.number, SyntaxKind::ADD_VERTEX_EDGE_TABLES.number,
-    SyntaxKind::ADD_VERTEX_TABLES.number, SyntaxKind::ADMIN_OPTION_FOR.number, SyntaxKind::AFTER_VALUE.number,
-    SyntaxKind::AGGREGATE.number, SyntaxKind::AGGREGATE_NAME.number, SyntaxKind::AGGREGATE_ORDER_BY.number,
-    SyntaxKind::AGGREGATE_RENAME_TO.number, SyntaxKind::ALL.number, SyntaxKind::ALL_FN.number,
-    SyntaxKind::ALL_IN_TABLESPACE.number, SyntaxKind::ALL_PRIVILEGES.number, SyntaxKind::ALL_PROPERTIES.number,
-    SyntaxKind::ALL_PUBLICATION_SEQUENCES.number, SyntaxKind::ALL_PUBLICATION_TABLES.number,
-    SyntaxKind::ALTER_AGGREGATE.number, SyntaxKind::ALTER_ATTRIBUTE.number, SyntaxKind::ALTER_COLLATION.number,
-    SyntaxKind::ALTER_COLUMN.number, SyntaxKind::ALTER_CONSTRAINT.number, SyntaxKind::ALTER_CONVERSION.number,
-    SyntaxKind::ALTER_DATABASE.number, SyntaxKind::ALTER_DEFAULT_PRIVILEGES.number, SyntaxKind::ALTER_DOMAIN.number,
-    SyntaxKind::ALTER_EVENT_TRIGGER.number, SyntaxKind::ALTER_EXTENSION.number,
-    SyntaxKind::ALTER_EXTENSION_ADD.number, SyntaxKind::ALTER_EXTENSION_DROP.number,
-    SyntaxKind::ALTER_EXTENSION_UPDATE.number, SyntaxKind::ALTER_FOREIGN_DATA_WRAPPER.number,
-    SyntaxKind::ALTER_FOREIGN_TABLE.number, SyntaxKind::ALTER_FUNCTION.number, SyntaxKind::ALTER_GROUP.number,
-    SyntaxKind::ALTER_INDEX.number, SyntaxKind::ALTER_LABEL.number, SyntaxKind::ALTER_LANGUAGE.number,
-    SyntaxKind::ALTER_LARGE_OBJECT.number, SyntaxKind::ALTER_MAPPING.number,
-    SyntaxKind::ALTER_MATERIALIZED_VIEW.number, SyntaxKind::ALTER_OPERATOR.number,
-    SyntaxKind::ALTER_OPERATOR_CLASS.number, SyntaxKind::ALTER_OPERATOR_FAMILY.number,
-    SyntaxKind::ALTER_OPTION_LIST.number, SyntaxKind::ALTER_POLICY.number, SyntaxKind::ALTER_POLICY_TO.number,
-    SyntaxKind::ALTER_PROCEDURE.number, SyntaxKind::ALTER_PROPERTY_GRAPH.number, SyntaxKind::ALTER_PUBLICATION.number,
-    SyntaxKind::ALTER_ROLE.number, SyntaxKind::ALTER_ROUTINE.number, SyntaxKind::ALTER_RULE.number,
-    SyntaxKind::ALTER_SCHEMA.number, SyntaxKind::ALTER_SEQUENCE.number, SyntaxKind::ALTER_SERVER.number,
-    SyntaxKind::ALTER_SET_STATISTICS.number, SyntaxKind::ALTER_STATISTICS.number,
-    SyntaxKind::ALTER_SUBSCRIPTION.number, SyntaxKind::ALTER_SYSTEM.number, SyntaxKind::ALTER_TABLE.number,
-    SyntaxKind::ALTER_TABLESPACE.number, SyntaxKind::ALTER_TEXT_SEARCH_CONFIGURATION.number,
-    SyntaxKind::ALTER_TEXT_SEARCH_DICTIONARY.number, SyntaxKind::ALTER_TEXT_SEARCH_PARSER.number,
-    SyntaxKind::ALTER_TEXT_SEARCH_TEMPLATE.number, SyntaxKind::ALTER_TRIGGER.number, SyntaxKind::ALTER_TYPE.number,
-    SyntaxKind::ALTER_TYPE_ATTRIBUTE_ACTION_LIST.number, SyntaxKind::ALTER_USER.number,
-    SyntaxKind::ALTER_USER_MAPPING.number, SyntaxKind::ALTER_VERTEX_EDGE_LABELS.number, SyntaxKind::ALTER_VIEW.number,
-    SyntaxKind::ALTER_VIEW_COLUMN.number, SyntaxKind::ANALYZE.number, SyntaxKind::AND_CHAIN.number,
-    SyntaxKind::AND_NO_CHAIN.number, SyntaxKind::ANY_FN.number, SyntaxKind::ARG.number, SyntaxKind::ARG_LIST.number,
-    SyntaxKind::ARRAY_BOUND.number, SyntaxKind::ARRAY_EXPR.number, SyntaxKind::ARRAY_TYPE.number,
-    SyntaxKind::ASENSITIVE.number, SyntaxKind::ASYMMETRIC.number, SyntaxKind::AS_ASSIGNMENT.number,
-    SyntaxKind::AS_DEFINITION.number, SyntaxKind::AS_FUNC_OPTION.number, SyntaxKind::AS_IMPLICIT.number,
-    SyntaxKind::AS_NAME.number, SyntaxKind::AS_OBJ_FILE.number, SyntaxKind::AS_POLICY_TYPE.number,
-    SyntaxKind::ATOMIC_BODY.number, SyntaxKind::ATTACH_INDEX_PARTITION.number, SyntaxKind::ATTACH_PARTITION.number,
-    SyntaxKind::ATTRIBUTE_LIST.number, SyntaxKind::ATTRIBUTE_NAME.number, SyntaxKind::ATTRIBUTE_NAMESPACE.number,
-    SyntaxKind::ATTRIBUTE_OPTION.number, SyntaxKind::ATTRIBUTE_VALUE.number, SyntaxKind::AT_LOCAL.number,
-    SyntaxKind::AT_TIME_ZONE.number, SyntaxKind::AUTHORIZATION_SCHEMA.number, SyntaxKind::BACKWARD.number,
-    SyntaxKind::BASE_TYPE.number, SyntaxKind::BEFORE_VALUE.number, SyntaxKind::BEGIN.number,
-    SyntaxKind::BETWEEN_EXPR.number, SyntaxKind::BIND_PARAM_NAME_REF.number, SyntaxKind::BIN_EXPR.number,
-    SyntaxKind::BIT_TYPE.number, SyntaxKind::BIT_VARYING_TYPE.number, SyntaxKind::BREADTH_FIRST.number,
-    SyntaxKind::BY_TARGET.number, SyntaxKind::CALL.number, SyntaxKind::CALLED_ON_NULL_INPUT_FUNC_OPTION.number,
-    SyntaxKind::CALL_EXPR.number, SyntaxKind::CASCADE.number, SyntaxKind::CASCADED_CHECK_OPTION.number,
-    SyntaxKind::CASE_EXPR.number, SyntaxKind::CAST_EXPR.number, SyntaxKind::CAST_SIG.number,
-    SyntaxKind::CHANNEL.number, SyntaxKind::CHANNEL_REF.number, SyntaxKind::CHARACTER_TYPE.number,
-    SyntaxKind::CHECKPOINT.number, SyntaxKind::CHECKPOINT_OPTION.number, SyntaxKind::CHECKPOINT_OPTION_LIST.number,
-    SyntaxKind::CHECKPOINT_OPTION_NAME.number, SyntaxKind::CHECK_CONSTRAINT.number, SyntaxKind::CLOSE.number,
-    SyntaxKind::CLUSTER.number, SyntaxKind::CLUSTER_LEGACY.number, SyntaxKind::CLUSTER_ON.number,
-    SyntaxKind::CLUSTER_USING_INDEX.number, SyntaxKind::COLLATE.number, SyntaxKind::COLLATION.number,
-    SyntaxKind::COLLATION_FOR_FN.number, SyntaxKind::COLLATION_FROM.number, SyntaxKind::COLLATION_REF.number,
-    SyntaxKind::COLLATION_RENAME_TO.number, SyntaxKind::COLON_COLON.number, SyntaxKind::COLUMN.number,
-    SyntaxKind::COLUMN_DEF.number, SyntaxKind::COLUMN_DEF_LIST.number, SyntaxKind::COLUMN_LIST.number,
-    SyntaxKind::COLUMN_NAME.number, SyntaxKind::COLUMN_NAME_REF.number, SyntaxKind::COLUMN_REF_LIST.number,
-    SyntaxKind::COLUMN_TARGET.number, SyntaxKind::COLUMN_TARGET_LIST.number, SyntaxKind::COMMENT_ON.number,
-    SyntaxKind::COMMIT_PREPARED.number, SyntaxKind::COMMIT_TRANSACTION.number, SyntaxKind::COMPOSITE_FIELD.number,
-    SyntaxKind::COMPOSITE_FIELD_DEF.number, SyntaxKind::COMPOSITE_FIELD_LIST.number,
-    SyntaxKind::COMPOSITE_FIELD_REF.number, SyntaxKind::COMPOSITE_TYPE.number, SyntaxKind::COMPOUND_SELECT.number,
-    SyntaxKind::COMPRESSION_METHOD.number, SyntaxKind::COMPRESSION_METHOD_NAME.number,
-    SyntaxKind::CONFIG_PARAMETER_REF.number, SyntaxKind::CONFIG_VALUE_NAME.number,
-    SyntaxKind::CONFLICT_DO_NOTHING.number, SyntaxKind::CONFLICT_DO_SELECT.number,
-    SyntaxKind::CONFLICT_DO_UPDATE_SET.number, SyntaxKind::CONFLICT_INDEX_ITEM.number,
-    SyntaxKind::CONFLICT_INDEX_ITEM_LIST.number, SyntaxKind::CONFLICT_ON_CONSTRAINT.number,
-    SyntaxKind::CONFLICT_ON_INDEX.number, SyntaxKind::CONNECTION_CLAUSE.number,
-    SyntaxKind::CONSTRAINT_COLUMN_REF_LIST.number, SyntaxKind::CONSTRAINT_EXCLUSION.number,
-    SyntaxKind::CONSTRAINT_EXCLUSION_LIST.number, SyntaxKind::CONSTRAINT_INCLUDE_CLAUSE.number,
-    SyntaxKind::CONSTRAINT_INDEX_METHOD.number, SyntaxKind::CONSTRAINT_INDEX_TABLESPACE.number,
-    SyntaxKind::CONSTRAINT_NAME.number, SyntaxKind::CONSTRAINT_NAME_CLAUSE.number,
-    SyntaxKind::CONSTRAINT_NAME_REF.number, SyntaxKind::CONTINUE_IDENTITY.number, SyntaxKind::CONVERSION.number,
-    SyntaxKind::CONVERSION_REF.number, SyntaxKind::CONVERSION_RENAME_TO.number, SyntaxKind::COPY.number,
-    SyntaxKind::COPY_FROM.number, SyntaxKind::COPY_LEGACY_OPTION.number, SyntaxKind::COPY_OPTION.number,
-    SyntaxKind::COPY_OPTION_ARG.number, SyntaxKind::COPY_OPTION_ARG_LIST.number, SyntaxKind::COPY_OPTION_KEY.number,
-    SyntaxKind::COPY_OPTION_LIST.number, SyntaxKind::COPY_OPTION_VALUE.number,
-    SyntaxKind::COPY_OPTION_VALUE_NAME.number, SyntaxKind::COPY_PROGRAM.number, SyntaxKind::COPY_QUERY.number,
-    SyntaxKind::COPY_STDIN.number, SyntaxKind::COPY_STDOUT.number, SyntaxKind::COPY_TABLE.number,
-    SyntaxKind::COPY_TO.number, SyntaxKind::COST_FUNC_OPTION.number, SyntaxKind::CREATE_ACCESS_METHOD.number,
-    SyntaxKind::CREATE_AGGREGATE.number, SyntaxKind::CREATE_CAST.number, SyntaxKind::CREATE_COLLATION.number,
-    SyntaxKind::CREATE_CONVERSION.number, SyntaxKind::CREATE_DATABASE.number, SyntaxKind::CREATE_DOMAIN.number,
-    SyntaxKind::CREATE_EVENT_TRIGGER.number, SyntaxKind::CREATE_EXTENSION.number,
-    SyntaxKind::CREATE_FOREIGN_DATA_WRAPPER.number, SyntaxKind::CREATE_FOREIGN_TABLE.number,
-    SyntaxKind::CREATE_FUNCTION.number, SyntaxKind::CREATE_GROUP.number, SyntaxKind::CREATE_INDEX.number,
-    SyntaxKind::CREATE_LANGUAGE.number, SyntaxKind::CREATE_MATERIALIZED_VIEW.number,
-    SyntaxKind::CREATE_OPERATOR.number, SyntaxKind::CREATE_OPERATOR_CLASS.number,
-    SyntaxKind::CREATE_OPERATOR_FAMILY.number, SyntaxKind::CREATE_POLICY.number, SyntaxKind::CREATE_PROCEDURE.number,
-    SyntaxKind::CREATE_PROPERTY_GRAPH.number, SyntaxKind::CREATE_PUBLICATION.number, SyntaxKind::CREATE_ROLE.number,
-    SyntaxKind::CREATE_RULE.number, SyntaxKind::CREATE_SCHEMA.number, SyntaxKind::CREATE_SEQUENCE.number,
-    SyntaxKind::CREATE_SERVER.number, SyntaxKind::CREATE_STATISTICS.number, SyntaxKind::CREATE_SUBSCRIPTION.number,
-    SyntaxKind::CREATE_TABLE.number, SyntaxKind::CREATE_TABLESPACE.number, SyntaxKind::CREATE_TABLE_AS.number,
-    SyntaxKind::CREATE_TEXT_SEARCH_CONFIGURATION.number, SyntaxKind::CREATE_TEXT_SEARCH_DICTIONARY.number,
-    SyntaxKind::CREATE_TEXT_SEARCH_PARSER.number, SyntaxKind::CREATE_TEXT_SEARCH_TEMPLATE.number,
-    SyntaxKind::CREATE_TRANSFORM.number, SyntaxKind::CREATE_TRIGGER.number, SyntaxKind::CREATE_TYPE.number,
-    SyntaxKind::CREATE_USER.number, SyntaxKind::CREATE_USER_MAPPING.number, SyntaxKind::CREATE_VIEW.number,
-    SyntaxKind::CTE_NAME.number, SyntaxKind::CURRENT_ROW.number, SyntaxKind::CURSOR.number,
-    SyntaxKind::CURSOR_REF.number, SyntaxKind::CUSTOM_OP.number, SyntaxKind::CYCLE_CLAUSE.number,
-    SyntaxKind::CYCLE_COLUMNS.number, SyntaxKind::CYCLE_COLUMN_TO.number, SyntaxKind::CYCLE_DEFAULT.number,
-    SyntaxKind::CYCLE_PATH.number, SyntaxKind::CYCLE_SET_COLUMN.number, SyntaxKind::DATABASE.number,
-    SyntaxKind::DATABASE_OPTION_CONNECTION_LIMIT.number, SyntaxKind::DATABASE_OPTION_ENCODING.number,
-    SyntaxKind::DATABASE_OPTION_GENERIC.number, SyntaxKind::DATABASE_OPTION_LIST.number,
-    SyntaxKind::DATABASE_OPTION_OWNER.number, SyntaxKind::DATABASE_OPTION_TABLESPACE.number,
-    SyntaxKind::DATABASE_OPTION_TEMPLATE.number, SyntaxKind::DATABASE_REF.number,
-    SyntaxKind::DATABASE_RENAME_TO.number, SyntaxKind::DEALLOCATE.number, SyntaxKind::DECLARE.number,
-    SyntaxKind::DEFAULT_CONSTRAINT.number, SyntaxKind::DEFAULT_LABEL.number, SyntaxKind::DEFAULT_VALUES.number,
-    SyntaxKind::DEFERRABLE.number, SyntaxKind::DEFERRABLE_CONSTRAINT_OPTION.number, SyntaxKind::DEFERRED.number,
-    SyntaxKind::DELETE.number, SyntaxKind::DELETE_ROWS.number, SyntaxKind::DEPENDS_ON_EXTENSION.number,
-    SyntaxKind::DEPTH_FIRST.number, SyntaxKind::DEST_VERTEX_TABLE.number, SyntaxKind::DETACH_CONCURRENTLY.number,
-    SyntaxKind::DETACH_FINALIZE.number, SyntaxKind::DETACH_PARTITION.number, SyntaxKind::DISABLE.number,
-    SyntaxKind::DISABLE_RLS.number, SyntaxKind::DISABLE_RULE.number, SyntaxKind::DISABLE_SUBSCRIPTION.number,
-    SyntaxKind::DISABLE_TRIGGER.number, SyntaxKind::DISCARD.number, SyntaxKind::DISCARD_ALL.number,
-    SyntaxKind::DISCARD_PLANS.number, SyntaxKind::DISCARD_SEQUENCES.number, SyntaxKind::DISCARD_TEMP.number,
-    SyntaxKind::DISTINCT.number, SyntaxKind::DISTINCT_CLAUSE.number, SyntaxKind::DISTINCT_ON.number,
-    SyntaxKind::DO.number, SyntaxKind::DOMAIN.number, SyntaxKind::DOMAIN_REF.number,
-    SyntaxKind::DOMAIN_RENAME_TO.number, SyntaxKind::DOUBLE_TYPE.number, SyntaxKind::DO_LANGUAGE.number,
-    SyntaxKind::DROP.number, SyntaxKind::DROP_ACCESS_METHOD.number, SyntaxKind::DROP_AGGREGATE.number,
-    SyntaxKind::DROP_ATTRIBUTE.number, SyntaxKind::DROP_CAST.number, SyntaxKind::DROP_COLLATION.number,
-    SyntaxKind::DROP_COLUMN.number, SyntaxKind::DROP_CONSTRAINT.number, SyntaxKind::DROP_CONVERSION.number,
-    SyntaxKind::DROP_DATABASE.number, SyntaxKind::DROP_DATABASE_FORCE_CLAUSE.number, SyntaxKind::DROP_DEFAULT.number,
-    SyntaxKind::DROP_DOMAIN.number, SyntaxKind::DROP_EDGE_TABLES.number, SyntaxKind::DROP_EVENT_TRIGGER.number,
-    SyntaxKind::DROP_EXPRESSION.number, SyntaxKind::DROP_EXTENSION.number,
-    SyntaxKind::DROP_FOREIGN_DATA_WRAPPER.number, SyntaxKind::DROP_FOREIGN_OPTION.number,
-    SyntaxKind::DROP_FOREIGN_TABLE.number, SyntaxKind::DROP_FUNCTION.number, SyntaxKind::DROP_GROUP.number,
-    SyntaxKind::DROP_IDENTITY.number, SyntaxKind::DROP_INDEX.number, SyntaxKind::DROP_LANGUAGE.number,
-    SyntaxKind::DROP_MAPPING.number, SyntaxKind::DROP_MATERIALIZED_VIEW.number, SyntaxKind::DROP_NOT_NULL.number,
-    SyntaxKind::DROP_OPERATOR.number, SyntaxKind::DROP_OPERATOR_CLASS.number, SyntaxKind::DROP_OPERATOR_FAMILY.number,
-    SyntaxKind::DROP_OP_CLASS_OPTIONS.number, SyntaxKind::DROP_OP_CLASS_OPTION_FUNCTION.number,
-    SyntaxKind::DROP_OP_CLASS_OPTION_LIST.number, SyntaxKind::DROP_OP_CLASS_OPTION_OPERATOR.number,
-    SyntaxKind::DROP_OWNED.number, SyntaxKind::DROP_POLICY.number, SyntaxKind::DROP_PROCEDURE.number,
-    SyntaxKind::DROP_PROPERTY_GRAPH.number, SyntaxKind::DROP_PUBLICATION.number,
-    SyntaxKind::DROP_PUBLICATION_OBJECTS.number, SyntaxKind::DROP_ROLE.number, SyntaxKind::DROP_ROUTINE.number,
-    SyntaxKind::DROP_RULE.number, SyntaxKind::DROP_SCHEMA.number, SyntaxKind::DROP_SEQUENCE.number,
-    SyntaxKind::DROP_SERVER.number, SyntaxKind::DROP_STATISTICS.number, SyntaxKind::DROP_SUBSCRIPTION.number,
-    SyntaxKind::DROP_SUBSCRIPTION_PUBLICATION.number, SyntaxKind::DROP_TABLE.number,
-    SyntaxKind::DROP_TABLESPACE.number, SyntaxKind::DROP_TEXT_SEARCH_CONFIG.number,
-    SyntaxKind::DROP_TEXT_SEARCH_DICT.number, SyntaxKind::DROP_TEXT_SEARCH_PARSER.number,
-    SyntaxKind::DROP_TEXT_SEARCH_TEMPLATE.number, SyntaxKind::DROP_TRANSFORM.number, SyntaxKind::DROP_TRIGGER.number,
-    SyntaxKind::DROP_TYPE.number, SyntaxKind::DROP_USER.number, SyntaxKind::DROP_USERS.number,
-    SyntaxKind::DROP_USER_MAPPING.number, SyntaxKind::DROP_VERTEX_EDGE_LABEL.number,
-    SyntaxKind::DROP_VERTEX_EDGE_LABEL_PROPERTIES.number, SyntaxKind::DROP_VERTEX_TABLES.number,
-    SyntaxKind::DROP_VIEW.number, SyntaxKind::EDGE_ANY.number, SyntaxKind::EDGE_LEFT.number,
-    SyntaxKind::EDGE_RIGHT.number, SyntaxKind::EDGE_TABLES.number, SyntaxKind::EDGE_TABLE_DEF.number,
-    SyntaxKind::ELEMENT_TABLE_ALIAS.number, SyntaxKind::ELEMENT_TABLE_ALIAS_CLAUSE.number,
-    SyntaxKind::ELEMENT_TABLE_KEY_CLAUSE.number, SyntaxKind::ELEMENT_TABLE_REF.number, SyntaxKind::ELEMENT_TAG.number,
-    SyntaxKind::ELEMENT_VARIABLE.number, SyntaxKind::ELSE_CLAUSE.number, SyntaxKind::EMPTY_STMT.number,
-    SyntaxKind::ENABLE.number, SyntaxKind::ENABLE_ALWAYS.number, SyntaxKind::ENABLE_ALWAYS_RULE.number,
-    SyntaxKind::ENABLE_ALWAYS_TRIGGER.number, SyntaxKind::ENABLE_REPLICA.number,
-    SyntaxKind::ENABLE_REPLICA_RULE.number, SyntaxKind::ENABLE_REPLICA_TRIGGER.number, SyntaxKind::ENABLE_RLS.number,
-    SyntaxKind::ENABLE_RULE.number, SyntaxKind::ENABLE_SUBSCRIPTION.number, SyntaxKind::ENABLE_TRIGGER.number,
-    SyntaxKind::ENFORCED.number, SyntaxKind::ENUM_TYPE.number, SyntaxKind::EVENT_TRIGGER.number,
-    SyntaxKind::EVENT_TRIGGER_EVENT.number, SyntaxKind::EVENT_TRIGGER_FILTER_VARIABLE.number,
-    SyntaxKind::EVENT_TRIGGER_REF.number, SyntaxKind::EVENT_TRIGGER_RENAME_TO.number,
-    SyntaxKind::EVENT_TRIGGER_WHEN.number, SyntaxKind::EVENT_TRIGGER_WHEN_AND.number,
-    SyntaxKind::EVENT_TRIGGER_WHEN_CLAUSE.number, SyntaxKind::EXCEPT.number, SyntaxKind::EXCEPT_TABLES.number,
-    SyntaxKind::EXCEPT_TABLE_CLAUSE.number, SyntaxKind::EXCEPT_TABLE_NAME.number,
-    SyntaxKind::EXCLUDE_CONSTRAINT.number, SyntaxKind::EXCLUDING_PROPERTY.number, SyntaxKind::EXCLUSIVE.number,
-    SyntaxKind::EXECUTE.number, SyntaxKind::EXISTS_FN.number, SyntaxKind::EXPLAIN.number,
-    SyntaxKind::EXPLAIN_ANALYZE.number, SyntaxKind::EXPLAIN_OPTION.number, SyntaxKind::EXPLAIN_OPTION_LIST.number,
-    SyntaxKind::EXPLAIN_OPTION_NAME.number, SyntaxKind::EXPLAIN_OPTION_VALUE.number,
-    SyntaxKind::EXPLAIN_VERBOSE.number, SyntaxKind::EXPR_AS_COLUMN_NAME.number,
-    SyntaxKind::EXPR_AS_COLUMN_NAME_LIST.number, SyntaxKind::EXPR_AS_ELEMENT_TAG.number,
-    SyntaxKind::EXPR_AS_ELEMENT_TAG_LIST.number, SyntaxKind::EXPR_AS_PROPERTY_NAME.number,
-    SyntaxKind::EXPR_AS_PROPERTY_NAME_LIST.number, SyntaxKind::EXPR_AS_XML_ATTR.number,
-    SyntaxKind::EXPR_AS_XML_ATTR_LIST.number, SyntaxKind::EXPR_FOLLOWING.number, SyntaxKind::EXPR_FROM_ITEM.number,
-    SyntaxKind::EXPR_PRECEDING.number, SyntaxKind::EXTENSION.number, SyntaxKind::EXTENSION_REF.number,
-    SyntaxKind::EXTENSION_SCHEMA.number, SyntaxKind::EXTENSION_VERSION.number,
-    SyntaxKind::EXTENSION_VERSION_CLAUSE.number, SyntaxKind::EXTRACT_FIELD_LITERAL.number,
-    SyntaxKind::EXTRACT_FIELD_NAME.number, SyntaxKind::EXTRACT_FN.number, SyntaxKind::FDW_OPTION_LIST.number,
-    SyntaxKind::FETCH.number, SyntaxKind::FETCH_CLAUSE.number, SyntaxKind::FETCH_ONLY.number,
-    SyntaxKind::FIELD_ACCESSOR.number, SyntaxKind::FIELD_EXPR.number, SyntaxKind::FILTER_CLAUSE.number,
-    SyntaxKind::FIRST.number, SyntaxKind::FORCE.number, SyntaxKind::FORCE_NOT_NULL.number,
-    SyntaxKind::FORCE_NULL.number, SyntaxKind::FORCE_QUOTE.number, SyntaxKind::FORCE_RLS.number,
-    SyntaxKind::FOREIGN_DATA_WRAPPER.number, SyntaxKind::FOREIGN_DATA_WRAPPER_REF.number,
-    SyntaxKind::FOREIGN_DATA_WRAPPER_RENAME_TO.number, SyntaxKind::FOREIGN_KEY_COLUMN_LIST.number,
-    SyntaxKind::FOREIGN_KEY_CONSTRAINT.number, SyntaxKind::FOREIGN_OPTION_NAME.number, SyntaxKind::FORWARD.number,
-    SyntaxKind::FOR_ALL_PUBLICATION_OBJECTS.number, SyntaxKind::FOR_EACH_ROW.number,
-    SyntaxKind::FOR_EACH_STATEMENT.number, SyntaxKind::FOR_KEY_SHARE.number, SyntaxKind::FOR_NO_KEY_UPDATE.number,
-    SyntaxKind::FOR_PORTION_OF.number, SyntaxKind::FOR_PROVIDER.number, SyntaxKind::FOR_PUBLICATION_OBJECTS.number,
-    SyntaxKind::FOR_ROLES.number, SyntaxKind::FOR_SHARE.number, SyntaxKind::FOR_UPDATE.number,
-    SyntaxKind::FRAME_BETWEEN.number, SyntaxKind::FRAME_CLAUSE.number, SyntaxKind::FRAME_EXCLUDE.number,
-    SyntaxKind::FRAME_GROUPS.number, SyntaxKind::FRAME_RANGE.number, SyntaxKind::FRAME_ROWS.number,
-    SyntaxKind::FROM_ALIAS.number, SyntaxKind::FROM_CLAUSE.number, SyntaxKind::FROM_CURRENT.number,
-    SyntaxKind::FROM_TABLE.number, SyntaxKind::FUNCTION_FROM_ITEM.number, SyntaxKind::FUNCTION_NAME.number,
-    SyntaxKind::FUNCTION_NAME_REF.number, SyntaxKind::FUNCTION_RENAME_TO.number, SyntaxKind::FUNCTION_SIG.number,
-    SyntaxKind::FUNCTION_SIG_LIST.number, SyntaxKind::FUNC_OPTION_LIST.number, SyntaxKind::GENERATED_ALWAYS.number,
-    SyntaxKind::GENERATED_BY_DEFAULT.number, SyntaxKind::GENERATED_CONSTRAINT.number,
-    SyntaxKind::GENERATED_IDENTITY.number, SyntaxKind::GENERATED_STORED.number, SyntaxKind::GRANT.number,
-    SyntaxKind::GRANTED_BY_CLAUSE.number, SyntaxKind::GRANT_DEFAULT_PRIVILEGES.number,
-    SyntaxKind::GRANT_OPTION.number, SyntaxKind::GRANT_OPTION_FOR.number, SyntaxKind::GRANT_ROLE_OPTION.number,
-    SyntaxKind::GRANT_ROLE_OPTION_LIST.number, SyntaxKind::GRANT_ROLE_OPTION_NAME.number,
-    SyntaxKind::GRANT_WITH_CLAUSE.number, SyntaxKind::GRAPH_PATTERN_QUALIFIER.number,
-    SyntaxKind::GRAPH_TABLE_FN.number, SyntaxKind::GRAPH_TABLE_FROM_ITEM.number, SyntaxKind::GROUP.number,
-    SyntaxKind::GROUPING_CUBE.number, SyntaxKind::GROUPING_EXPR.number, SyntaxKind::GROUPING_ROLLUP.number,
-    SyntaxKind::GROUPING_SETS.number, SyntaxKind::GROUP_BY_CLAUSE.number, SyntaxKind::GROUP_BY_LIST.number,
-    SyntaxKind::HANDLER_CLAUSE.number, SyntaxKind::HASH_PARTITION_BOUND.number, SyntaxKind::HAVING_CLAUSE.number,
-    SyntaxKind::IF_EXISTS.number, SyntaxKind::IF_NOT_EXISTS.number, SyntaxKind::IGNORE_NULLS.number,
-    SyntaxKind::IMMEDIATE.number, SyntaxKind::IMMUTABLE.number, SyntaxKind::IMPORT_FOREIGN_SCHEMA.number,
-    SyntaxKind::INCLUDING_PROPERTY.number, SyntaxKind::INDENT.number, SyntaxKind::INDEX.number,
-    SyntaxKind::INDEX_ACCESSOR.number, SyntaxKind::INDEX_EXPR.number, SyntaxKind::INDEX_INCLUDE_CLAUSE.number,
-    SyntaxKind::INDEX_PARAMETERS.number, SyntaxKind::INDEX_REF.number, SyntaxKind::INDEX_RENAME_TO.number,
-    SyntaxKind::INHERIT.number, SyntaxKind::INHERITS.number, SyntaxKind::INHERIT_OPTION_FOR.number,
-    SyntaxKind::INHERIT_TABLE.number, SyntaxKind::INITIALLY_DEFERRED_CONSTRAINT_OPTION.number,
-    SyntaxKind::INITIALLY_IMMEDIATE_CONSTRAINT_OPTION.number, SyntaxKind::INLINE_CLAUSE.number,
-    SyntaxKind::INSENSITIVE.number, SyntaxKind::INSERT.number, SyntaxKind::INTERSECT.number,
-    SyntaxKind::INTERVAL_DAY.number, SyntaxKind::INTERVAL_HOUR.number, SyntaxKind::INTERVAL_MINUTE.number,
-    SyntaxKind::INTERVAL_MONTH.number, SyntaxKind::INTERVAL_SECOND.number, SyntaxKind::INTERVAL_TYPE.number,
-    SyntaxKind::INTERVAL_YEAR.number, SyntaxKind::INTO_CLAUSE.number, SyntaxKind::INTO_SCHEMA.number,
-    SyntaxKind::IN_DATABASE.number, SyntaxKind::IN_SCHEMAS.number, SyntaxKind::IS_DISTINCT_FROM.number,
-    SyntaxKind::IS_JSON.number, SyntaxKind::IS_JSON_ARRAY.number, SyntaxKind::IS_JSON_OBJECT.number,
-    SyntaxKind::IS_JSON_SCALAR.number, SyntaxKind::IS_JSON_VALUE.number, SyntaxKind::IS_LABEL.number,
-    SyntaxKind::IS_NORMALIZED.number, SyntaxKind::IS_NOT.number, SyntaxKind::IS_NOT_DISTINCT_FROM.number,
-    SyntaxKind::IS_NOT_JSON.number, SyntaxKind::IS_NOT_JSON_ARRAY.number, SyntaxKind::IS_NOT_JSON_OBJECT.number,
-    SyntaxKind::IS_NOT_JSON_SCALAR.number, SyntaxKind::IS_NOT_JSON_VALUE.number, SyntaxKind::IS_NOT_NORMALIZED.number,
-    SyntaxKind::JOIN.number, SyntaxKind::JOIN_CROSS.number, SyntaxKind::JOIN_EXPR.number,
-    SyntaxKind::JOIN_FULL.number, SyntaxKind::JOIN_INNER.number, SyntaxKind::JOIN_LEFT.number,
-    SyntaxKind::JOIN_RIGHT.number, SyntaxKind::JOIN_USING_CLAUSE.number, SyntaxKind::JSON_ABSENT_ON_NULL.number,
-    SyntaxKind::JSON_ARRAY_AGG_FN.number, SyntaxKind::JSON_ARRAY_FN.number, SyntaxKind::JSON_BEHAVIOR_DEFAULT.number,
-    SyntaxKind::JSON_BEHAVIOR_EMPTY_ARRAY.number, SyntaxKind::JSON_BEHAVIOR_EMPTY_OBJECT.number,
-    SyntaxKind::JSON_BEHAVIOR_ERROR.number, SyntaxKind::JSON_BEHAVIOR_FALSE.number,
-    SyntaxKind::JSON_BEHAVIOR_NULL.number, SyntaxKind::JSON_BEHAVIOR_TRUE.number,
-    SyntaxKind::JSON_BEHAVIOR_UNKNOWN.number, SyntaxKind::JSON_ENCODING.number,
-    SyntaxKind::JSON_ENCODING_CLAUSE.number, SyntaxKind::JSON_EXISTS_FN.number, SyntaxKind::JSON_EXPR_FORMAT.number,
-    SyntaxKind::JSON_FN.number, SyntaxKind::JSON_FORMAT_CLAUSE.number, SyntaxKind::JSON_KEY_VALUE.number,
-    SyntaxKind::JSON_NULL_ON_NULL.number, SyntaxKind::JSON_OBJECT_AGG_FN.number, SyntaxKind::JSON_OBJECT_FN.number,
-    SyntaxKind::JSON_ON_EMPTY_CLAUSE.number, SyntaxKind::JSON_ON_ERROR_CLAUSE.number,
-    SyntaxKind::JSON_PASSING_ARG.number, SyntaxKind::JSON_PASSING_CLAUSE.number, SyntaxKind::JSON_PATH_CLAUSE.number,
-    SyntaxKind::JSON_PATH_NAME.number, SyntaxKind::JSON_PATH_NAME_CLAUSE.number,
-    SyntaxKind::JSON_PATH_NAME_REF.number, SyntaxKind::JSON_QUERY_FN.number, SyntaxKind::JSON_QUOTES_CLAUSE.number,
-    SyntaxKind::JSON_RETURNING_CLAUSE.number, SyntaxKind::JSON_SCALAR_FN.number,
-    SyntaxKind::JSON_SELECT_FORMAT.number, SyntaxKind::JSON_SERIALIZE_FN.number, SyntaxKind::JSON_TABLE.number,
-    SyntaxKind::JSON_TABLE_COLUMN_LIST.number, SyntaxKind::JSON_TABLE_EXISTS_COLUMN.number,
-    SyntaxKind::JSON_TABLE_FROM_ITEM.number, SyntaxKind::JSON_TABLE_NESTED_COLUMN.number,
-    SyntaxKind::JSON_TABLE_ORDINALITY_COLUMN.number, SyntaxKind::JSON_TABLE_PLAN_CHOICE.number,
-    SyntaxKind::JSON_TABLE_PLAN_CLAUSE.number, SyntaxKind::JSON_TABLE_PLAN_CROSS.number,
-    SyntaxKind::JSON_TABLE_PLAN_INNER.number, SyntaxKind::JSON_TABLE_PLAN_JOIN.number,
-    SyntaxKind::JSON_TABLE_PLAN_OUTER.number, SyntaxKind::JSON_TABLE_PLAN_UNION.number,
-    SyntaxKind::JSON_TABLE_VALUE_COLUMN.number, SyntaxKind::JSON_VALUE_EXPR.number, SyntaxKind::JSON_VALUE_FN.number,
-    SyntaxKind::JSON_VARIABLE_NAME.number, SyntaxKind::JSON_WITHOUT_UNIQUE_KEYS.number,
-    SyntaxKind::JSON_WITHOUT_WRAPPER.number, SyntaxKind::JSON_WITH_CONDITIONAL_WRAPPER.number,
-    SyntaxKind::JSON_WITH_UNCONDITIONAL_WRAPPER.number, SyntaxKind::JSON_WITH_UNIQUE_KEYS.number,
-    SyntaxKind::KEEP_QUOTES.number, SyntaxKind::LABEL.number, SyntaxKind::LABEL_AND_PROPERTIES.number,
-    SyntaxKind::LABEL_AND_PROPERTIES_LIST.number, SyntaxKind::LABEL_REF.number, SyntaxKind::LANGUAGE.number,
-    SyntaxKind::LANGUAGE_FUNC_OPTION.number, SyntaxKind::LANGUAGE_REF.number, SyntaxKind::LANGUAGE_RENAME_TO.number,
-    SyntaxKind::LAST.number, SyntaxKind::LEAKPROOF_FUNC_OPTION.number, SyntaxKind::LIKE_CLAUSE.number,
-    SyntaxKind::LIMIT_CLAUSE.number, SyntaxKind::LIMIT_TO_TABLES.number, SyntaxKind::LISTEN.number,
-    SyntaxKind::LITERAL.number, SyntaxKind::LOAD.number, SyntaxKind::LOCAL_CHECK_OPTION.number,
-    SyntaxKind::LOCAL_SCOPE.number, SyntaxKind::LOCK.number, SyntaxKind::LOCKING_CLAUSE.number,
-    SyntaxKind::LOCKING_OF.number, SyntaxKind::LOCK_MODE_CLAUSE.number, SyntaxKind::MATCH_FULL.number,
-    SyntaxKind::MATCH_PARTIAL.number, SyntaxKind::MATCH_SIMPLE.number, SyntaxKind::MATERIALIZED.number,
-    SyntaxKind::MERGE.number, SyntaxKind::MERGE_CONDITION.number, SyntaxKind::MERGE_DELETE.number,
-    SyntaxKind::MERGE_DO_NOTHING.number, SyntaxKind::MERGE_INSERT.number, SyntaxKind::MERGE_PARTITIONS.number,
-    SyntaxKind::MERGE_UPDATE.number, SyntaxKind::MERGE_WHEN_MATCHED.number,
-    SyntaxKind::MERGE_WHEN_NOT_MATCHED_SOURCE.number, SyntaxKind::MERGE_WHEN_NOT_MATCHED_TARGET.number,
-    SyntaxKind::MOVE.number, SyntaxKind::NAMED_ARG.number, SyntaxKind::NAMED_LABEL.number,
-    SyntaxKind::NAMED_SCHEMA.number, SyntaxKind::NAME_REF.number, SyntaxKind::NEW_TABLE.number,
-    SyntaxKind::NEXT.number, SyntaxKind::NON_STANDARD_PARAM.number, SyntaxKind::NOTHING.number,
-    SyntaxKind::NOTIFY.number, SyntaxKind::NOT_DEFERRABLE.number, SyntaxKind::NOT_DEFERRABLE_CONSTRAINT_OPTION.number,
-    SyntaxKind::NOT_ENFORCED.number, SyntaxKind::NOT_ILIKE.number, SyntaxKind::NOT_IN.number,
-    SyntaxKind::NOT_LEAKPROOF_FUNC_OPTION.number, SyntaxKind::NOT_LIKE.number, SyntaxKind::NOT_MATERIALIZED.number,
-    SyntaxKind::NOT_NULL_CONSTRAINT.number, SyntaxKind::NOT_OF.number, SyntaxKind::NOT_SIMILAR_TO.number,
-    SyntaxKind::NOT_VALID.number, SyntaxKind::NOWAIT.number, SyntaxKind::NO_ACTION.number,
-    SyntaxKind::NO_DEPENDS_ON_EXTENSION.number, SyntaxKind::NO_FORCE_RLS.number, SyntaxKind::NO_INDENT.number,
-    SyntaxKind::NO_INHERIT.number, SyntaxKind::NO_INHERIT_TABLE.number, SyntaxKind::NO_OTHERS.number,
-    SyntaxKind::NO_PROPERTIES.number, SyntaxKind::NO_SCROLL.number, SyntaxKind::NULLS_DISTINCT.number,
-    SyntaxKind::NULLS_FIRST.number, SyntaxKind::NULLS_LAST.number, SyntaxKind::NULLS_NOT_DISTINCT.number,
-    SyntaxKind::NULL_CONSTRAINT.number, SyntaxKind::OBJECT_ACCESS_METHOD.number, SyntaxKind::OBJECT_AGGREGATE.number,
-    SyntaxKind::OBJECT_CAST.number, SyntaxKind::OBJECT_COLLATION.number, SyntaxKind::OBJECT_COLUMN.number,
-    SyntaxKind::OBJECT_CONSTRAINT.number, SyntaxKind::OBJECT_CONVERSION.number, SyntaxKind::OBJECT_DATABASE.number,
-    SyntaxKind::OBJECT_DOMAIN.number, SyntaxKind::OBJECT_EVENT_TRIGGER.number, SyntaxKind::OBJECT_EXTENSION.number,
-    SyntaxKind::OBJECT_FOREIGN_DATA_WRAPPER.number, SyntaxKind::OBJECT_FOREIGN_TABLE.number,
-    SyntaxKind::OBJECT_FUNCTION.number, SyntaxKind::OBJECT_INDEX.number, SyntaxKind::OBJECT_LANGUAGE.number,
-    SyntaxKind::OBJECT_LARGE_OBJECT.number, SyntaxKind::OBJECT_MATERIALIZED_VIEW.number,
-    SyntaxKind::OBJECT_OPERATOR.number, SyntaxKind::OBJECT_OPERATOR_CLASS.number,
-    SyntaxKind::OBJECT_OPERATOR_FAMILY.number, SyntaxKind::OBJECT_POLICY.number, SyntaxKind::OBJECT_PROCEDURE.number,
-    SyntaxKind::OBJECT_PROPERTY_GRAPH.number, SyntaxKind::OBJECT_PUBLICATION.number, SyntaxKind::OBJECT_ROLE.number,
-    SyntaxKind::OBJECT_ROUTINE.number, SyntaxKind::OBJECT_RULE.number, SyntaxKind::OBJECT_SCHEMA.number,
-    SyntaxKind::OBJECT_SEQUENCE.number, SyntaxKind::OBJECT_SERVER.number, SyntaxKind::OBJECT_STATISTICS.number,
-    SyntaxKind::OBJECT_SUBSCRIPTION.number, SyntaxKind::OBJECT_TABLE.number, SyntaxKind::OBJECT_TABLESPACE.number,
-    SyntaxKind::OBJECT_TEXT_SEARCH_CONFIG.number, SyntaxKind::OBJECT_TEXT_SEARCH_DICT.number,
-    SyntaxKind::OBJECT_TEXT_SEARCH_PARSER.number, SyntaxKind::OBJECT_TEXT_SEARCH_TEMPLATE.number,
-    SyntaxKind::OBJECT_TRANSFORM.number, SyntaxKind::OBJECT_TRIGGER.number, SyntaxKind::OBJECT_TYPE.number,
-    SyntaxKind::OBJECT_VIEW.number, SyntaxKind::OFFSET_CLAUSE.number, SyntaxKind::OF_TYPE.number,
-    SyntaxKind::OLD_TABLE.number, SyntaxKind::OMIT_QUOTES.number, SyntaxKind::ON_CLAUSE.number,
-    SyntaxKind::ON_COMMIT.number, SyntaxKind::ON_CONFLICT_CLAUSE.number, SyntaxKind::ON_DELETE_ACTION.number,
-    SyntaxKind::ON_PATH.number, SyntaxKind::ON_PRIVILEGE_OBJECTS_CLAUSE.number, SyntaxKind::ON_RELATION.number,
-    SyntaxKind::ON_SCALAR_STRING.number, SyntaxKind::ON_TABLE.number, SyntaxKind::ON_UPDATE_ACTION.number,
-    SyntaxKind::OP.number, SyntaxKind::OPERATOR_CALL.number, SyntaxKind::OPERATOR_CLASS_OPTION_LIST.number,
-    SyntaxKind::OPERATOR_FAMILY_CLAUSE.number, SyntaxKind::OPTIONAL_AS_ALIAS.number,
-    SyntaxKind::OPTION_ALTER_OPTION_LIST.number, SyntaxKind::OPTION_AS_TYPE.number, SyntaxKind::OPTION_CACHE.number,
-    SyntaxKind::OPTION_CONNECTION.number, SyntaxKind::OPTION_CYCLE.number, SyntaxKind::OPTION_DEFAULT.number,
-    SyntaxKind::OPTION_HANDLER.number, SyntaxKind::OPTION_IDENT.number, SyntaxKind::OPTION_INCREMENT.number,
-    SyntaxKind::OPTION_ITEM.number, SyntaxKind::OPTION_ITEM_KEY.number, SyntaxKind::OPTION_ITEM_LIST.number,
-    SyntaxKind::OPTION_ITEM_VALUE.number, SyntaxKind::OPTION_ITEM_VALUE_NAME.number, SyntaxKind::OPTION_LOGGED.number,
-    SyntaxKind::OPTION_MAX_VALUE.number, SyntaxKind::OPTION_MIN_VALUE.number, SyntaxKind::OPTION_NOT_NULL.number,
-    SyntaxKind::OPTION_NO_CONNECTION.number, SyntaxKind::OPTION_NO_CYCLE.number, SyntaxKind::OPTION_NO_HANDLER.number,
-    SyntaxKind::OPTION_NO_MAX_VALUE.number, SyntaxKind::OPTION_NO_MIN_VALUE.number,
-    SyntaxKind::OPTION_NO_VALIDATOR.number, SyntaxKind::OPTION_NULL.number, SyntaxKind::OPTION_OWNED_BY.number,
-    SyntaxKind::OPTION_PATH.number, SyntaxKind::OPTION_RESTART.number, SyntaxKind::OPTION_SEQUENCE_NAME.number,
-    SyntaxKind::OPTION_START.number, SyntaxKind::OPTION_UNLOGGED.number, SyntaxKind::OPTION_VALIDATOR.number,
-    SyntaxKind::OP_CLASS_FOR_ORDER_BY.number, SyntaxKind::OP_CLASS_FOR_SEARCH.number,
-    SyntaxKind::OP_CLASS_NAME.number, SyntaxKind::OP_CLASS_OPTION_FUNCTION.number,
-    SyntaxKind::OP_CLASS_OPTION_OPERATOR.number, SyntaxKind::OP_CLASS_OPTION_STORAGE.number,
-    SyntaxKind::OP_CLASS_REF.number, SyntaxKind::OP_CLASS_RENAME_TO.number, SyntaxKind::OP_FAMILY_NAME.number,
-    SyntaxKind::OP_FAMILY_REF.number, SyntaxKind::OP_FAMILY_RENAME_TO.number, SyntaxKind::OP_SIG.number,
-    SyntaxKind::OP_SIG_LIST.number, SyntaxKind::ORDER_BY_CLAUSE.number, SyntaxKind::OR_REPLACE.number,
-    SyntaxKind::OVERLAY_EXPRS.number, SyntaxKind::OVERLAY_FN.number, SyntaxKind::OVERLAY_PLACING.number,
-    SyntaxKind::OVERRIDING_SYSTEM_VALUE.number, SyntaxKind::OVERRIDING_USER_VALUE.number,
-    SyntaxKind::OVER_CLAUSE.number, SyntaxKind::OVER_WINDOW_SPEC.number, SyntaxKind::OWNED_BY_NONE.number,
-    SyntaxKind::OWNED_BY_ROLES.number, SyntaxKind::OWNER_TO.number, SyntaxKind::PARALLEL_FUNC_OPTION.number,
-    SyntaxKind::PARAM.number, SyntaxKind::PARAM_DEFAULT.number, SyntaxKind::PARAM_IN.number,
-    SyntaxKind::PARAM_IN_OUT.number, SyntaxKind::PARAM_LIST.number, SyntaxKind::PARAM_NAME.number,
-    SyntaxKind::PARAM_NAME_REF.number, SyntaxKind::PARAM_OUT.number, SyntaxKind::PARAM_VARIADIC.number,
-    SyntaxKind::PAREN_EXPR.number, SyntaxKind::PAREN_FROM_ITEM.number, SyntaxKind::PAREN_GRAPH_PATTERN.number,
-    SyntaxKind::PAREN_JSON_TABLE_PLAN.number, SyntaxKind::PAREN_SELECT.number, SyntaxKind::PARTITION.number,
-    SyntaxKind::PARTITION_BY.number, SyntaxKind::PARTITION_BY_CLAUSE.number, SyntaxKind::PARTITION_DEFAULT.number,
-    SyntaxKind::PARTITION_FOR_VALUES_FROM.number, SyntaxKind::PARTITION_FOR_VALUES_IN.number,
-    SyntaxKind::PARTITION_FOR_VALUES_WITH.number, SyntaxKind::PARTITION_FROM_VALUES.number,
-    SyntaxKind::PARTITION_ITEM.number, SyntaxKind::PARTITION_ITEM_LIST.number, SyntaxKind::PARTITION_LIST.number,
-    SyntaxKind::PARTITION_OF.number, SyntaxKind::PARTITION_STRATEGY.number, SyntaxKind::PARTITION_TO_VALUES.number,
-    SyntaxKind::PATH.number, SyntaxKind::PATH_FACTOR.number, SyntaxKind::PATH_PATTERN.number,
-    SyntaxKind::PATH_PATTERN_LIST.number, SyntaxKind::PATH_REF.number, SyntaxKind::PATH_SEGMENT.number,
-    SyntaxKind::PATH_SEGMENT_REF.number, SyntaxKind::PATH_TYPE.number, SyntaxKind::PERCENT_TYPE.number,
-    SyntaxKind::PERCENT_TYPE_CLAUSE.number, SyntaxKind::PERIOD_COLUMN.number, SyntaxKind::PLPGSQL.number,
-    SyntaxKind::PLPGSQL_ALIAS_DECL.number, SyntaxKind::PLPGSQL_ALIAS_TARGET.number,
-    SyntaxKind::PLPGSQL_ASSERT_STMT.number, SyntaxKind::PLPGSQL_ASSIGN_STMT.number,
-    SyntaxKind::PLPGSQL_ASSIGN_TARGET.number, SyntaxKind::PLPGSQL_BLOCK.number, SyntaxKind::PLPGSQL_BODY.number,
-    SyntaxKind::PLPGSQL_CALL_STMT.number, SyntaxKind::PLPGSQL_CASE_STMT.number, SyntaxKind::PLPGSQL_CASE_WHEN.number,
-    SyntaxKind::PLPGSQL_CLOSE_STMT.number, SyntaxKind::PLPGSQL_COMMIT_STMT.number,
-    SyntaxKind::PLPGSQL_COMP_OPTION_DUMP.number, SyntaxKind::PLPGSQL_COMP_OPTION_PRINT_STRICT_PARAMS.number,
-    SyntaxKind::PLPGSQL_COMP_OPTION_VARIABLE_CONFLICT.number, SyntaxKind::PLPGSQL_CONDITION.number,
-    SyntaxKind::PLPGSQL_CONTINUE_STMT.number, SyntaxKind::PLPGSQL_CURSOR_ARG.number,
-    SyntaxKind::PLPGSQL_CURSOR_ARG_LIST.number, SyntaxKind::PLPGSQL_CURSOR_DECL.number,
-    SyntaxKind::PLPGSQL_CURSOR_VARIABLE_REF.number, SyntaxKind::PLPGSQL_DECLARE_SECTION.number,
-    SyntaxKind::PLPGSQL_DIAG_AREA.number, SyntaxKind::PLPGSQL_DIAG_ITEM.number,
-    SyntaxKind::PLPGSQL_DIAG_ITEM_LIST.number, SyntaxKind::PLPGSQL_DIAG_KIND.number,
-    SyntaxKind::PLPGSQL_DIAG_TARGET.number, SyntaxKind::PLPGSQL_DO_STMT.number,
-    SyntaxKind::PLPGSQL_DYN_EXECUTE_STMT.number, SyntaxKind::PLPGSQL_ELSE_CLAUSE.number,
-    SyntaxKind::PLPGSQL_ELSIF_CLAUSE.number, SyntaxKind::PLPGSQL_EXCEPTION_HANDLER.number,
-    SyntaxKind::PLPGSQL_EXCEPTION_SECTION.number, SyntaxKind::PLPGSQL_EXEC_SQL_STMT.number,
-    SyntaxKind::PLPGSQL_EXIT_STMT.number, SyntaxKind::PLPGSQL_EXIT_WHEN.number, SyntaxKind::PLPGSQL_EXPR.number,
-    SyntaxKind::PLPGSQL_FETCH_STMT.number, SyntaxKind::PLPGSQL_FOR_CURSOR_STMT.number,
-    SyntaxKind::PLPGSQL_FOR_DYN_STMT.number, SyntaxKind::PLPGSQL_FOR_EACH_SLICE.number,
-    SyntaxKind::PLPGSQL_FOR_EACH_STMT.number, SyntaxKind::PLPGSQL_FOR_I_STMT.number,
-    SyntaxKind::PLPGSQL_FOR_QUERY_STMT.number, SyntaxKind::PLPGSQL_FOR_RANGE.number,
-    SyntaxKind::PLPGSQL_FOR_VARIABLE.number, SyntaxKind::PLPGSQL_GET_DIAG_STMT.number,
-    SyntaxKind::PLPGSQL_IF_STMT.number, SyntaxKind::PLPGSQL_INTO_CLAUSE.number,
-    SyntaxKind::PLPGSQL_INTO_TARGET.number, SyntaxKind::PLPGSQL_INTO_TARGET_LIST.number,
-    SyntaxKind::PLPGSQL_LABEL.number, SyntaxKind::PLPGSQL_LABEL_NAME.number,
-    SyntaxKind::PLPGSQL_LABEL_NAME_REF.number, SyntaxKind::PLPGSQL_LOOP_STMT.number,
-    SyntaxKind::PLPGSQL_MOVE_STMT.number, SyntaxKind::PLPGSQL_NOT_NULL.number, SyntaxKind::PLPGSQL_NULL_STMT.number,
-    SyntaxKind::PLPGSQL_OPEN_EXECUTE.number, SyntaxKind::PLPGSQL_OPEN_QUERY.number,
-    SyntaxKind::PLPGSQL_OPEN_STMT.number, SyntaxKind::PLPGSQL_OPTION_VALUE.number,
-    SyntaxKind::PLPGSQL_PERCENT_ROWTYPE.number, SyntaxKind::PLPGSQL_PERFORM_STMT.number,
-    SyntaxKind::PLPGSQL_RAISE_LEVEL.number, SyntaxKind::PLPGSQL_RAISE_MESSAGE.number,
-    SyntaxKind::PLPGSQL_RAISE_OPTION_COLUMN.number, SyntaxKind::PLPGSQL_RAISE_OPTION_CONSTRAINT.number,
-    SyntaxKind::PLPGSQL_RAISE_OPTION_DATATYPE.number, SyntaxKind::PLPGSQL_RAISE_OPTION_DETAIL.number,
-    SyntaxKind::PLPGSQL_RAISE_OPTION_ERRCODE.number, SyntaxKind::PLPGSQL_RAISE_OPTION_HINT.number,
-    SyntaxKind::PLPGSQL_RAISE_OPTION_MESSAGE.number, SyntaxKind::PLPGSQL_RAISE_OPTION_SCHEMA.number,
-    SyntaxKind::PLPGSQL_RAISE_OPTION_TABLE.number, SyntaxKind::PLPGSQL_RAISE_STMT.number,
-    SyntaxKind::PLPGSQL_RAISE_USING_CLAUSE.number, SyntaxKind::PLPGSQL_RETURN_NEXT_STMT.number,
-    SyntaxKind::PLPGSQL_RETURN_QUERY_EXECUTE_STMT.number, SyntaxKind::PLPGSQL_RETURN_QUERY_STMT.number,
-    SyntaxKind::PLPGSQL_RETURN_STMT.number, SyntaxKind::PLPGSQL_ROLLBACK_STMT.number,
-    SyntaxKind::PLPGSQL_USING_CLAUSE.number, SyntaxKind::PLPGSQL_VAR_DECL.number, SyntaxKind::PLPGSQL_VAR_INIT.number,
-    SyntaxKind::PLPGSQL_VAR_NAME.number, SyntaxKind::PLPGSQL_VAR_NAME_REF.number,
-    SyntaxKind::PLPGSQL_WHILE_STMT.number, SyntaxKind::POLICY.number, SyntaxKind::POLICY_COMMAND.number,
-    SyntaxKind::POLICY_COMMAND_ALL.number, SyntaxKind::POLICY_COMMAND_DELETE.number,
-    SyntaxKind::POLICY_COMMAND_INSERT.number, SyntaxKind::POLICY_COMMAND_SELECT.number,
-    SyntaxKind::POLICY_COMMAND_UPDATE.number, SyntaxKind::POLICY_REF.number, SyntaxKind::POLICY_RENAME_TO.number,
-    SyntaxKind::POLICY_ROLES.number, SyntaxKind::PORTION_FROM_TO.number, SyntaxKind::PORTION_RANGE.number,
-    SyntaxKind::POSITION_FN.number, SyntaxKind::POSTFIX_EXPR.number, SyntaxKind::PREFIX_EXPR.number,
-    SyntaxKind::PREPARE.number, SyntaxKind::PREPARED_STATEMENT.number, SyntaxKind::PREPARED_STATEMENT_REF.number,
-    SyntaxKind::PREPARE_TRANSACTION.number, SyntaxKind::PRESERVE_ROWS.number, SyntaxKind::PRESERVE_WHITESPACE.number,
-    SyntaxKind::PRIMARY_KEY_CONSTRAINT.number, SyntaxKind::PRIOR.number,
-    SyntaxKind::PRIVILEGE_ALL_FUNCTIONS_IN_SCHEMA.number, SyntaxKind::PRIVILEGE_ALL_PROCEDURES_IN_SCHEMA.number,
-    SyntaxKind::PRIVILEGE_ALL_ROUTINES_IN_SCHEMA.number, SyntaxKind::PRIVILEGE_ALL_SEQUENCES_IN_SCHEMA.number,
-    SyntaxKind::PRIVILEGE_ALL_TABLES_IN_SCHEMA.number, SyntaxKind::PRIVILEGE_DATABASE.number,
-    SyntaxKind::PRIVILEGE_DEFAULT.number, SyntaxKind::PRIVILEGE_DOMAIN.number,
-    SyntaxKind::PRIVILEGE_FOREIGN_DATA_WRAPPER.number, SyntaxKind::PRIVILEGE_FOREIGN_SERVER.number,
-    SyntaxKind::PRIVILEGE_FUNCTION.number, SyntaxKind::PRIVILEGE_LANGUAGE.number,
-    SyntaxKind::PRIVILEGE_LARGE_OBJECT.number, SyntaxKind::PRIVILEGE_PARAMETER.number,
-    SyntaxKind::PRIVILEGE_PROCEDURE.number, SyntaxKind::PRIVILEGE_PROPERTY_GRAPH.number,
-    SyntaxKind::PRIVILEGE_ROUTINE.number, SyntaxKind::PRIVILEGE_SCHEMA.number, SyntaxKind::PRIVILEGE_SEQUENCE.number,
-    SyntaxKind::PRIVILEGE_TABLE.number, SyntaxKind::PRIVILEGE_TABLESPACE.number,
-    SyntaxKind::PRIVILEGE_TARGET_FUNCTIONS.number, SyntaxKind::PRIVILEGE_TARGET_LARGE_OBJECTS.number,
-    SyntaxKind::PRIVILEGE_TARGET_ROUTINES.number, SyntaxKind::PRIVILEGE_TARGET_SCHEMAS.number,
-    SyntaxKind::PRIVILEGE_TARGET_SEQUENCES.number, SyntaxKind::PRIVILEGE_TARGET_TABLES.number,
-    SyntaxKind::PRIVILEGE_TARGET_TYPES.number, SyntaxKind::PRIVILEGE_TYPE.number, SyntaxKind::PROCEDURE_NAME.number,
-    SyntaxKind::PROCEDURE_NAME_REF.number, SyntaxKind::PROCEDURE_RENAME_TO.number, SyntaxKind::PROCEDURE_SIG.number,
-    SyntaxKind::PROCEDURE_SIG_LIST.number, SyntaxKind::PROPERTIES.number, SyntaxKind::PROPERTY_ALL.number,
-    SyntaxKind::PROPERTY_COMMENTS.number, SyntaxKind::PROPERTY_COMPRESSION.number,
-    SyntaxKind::PROPERTY_CONSTRAINTS.number, SyntaxKind::PROPERTY_DEFAULTS.number,
-    SyntaxKind::PROPERTY_GENERATED.number, SyntaxKind::PROPERTY_GRAPH.number, SyntaxKind::PROPERTY_GRAPH_REF.number,
-    SyntaxKind::PROPERTY_GRAPH_RENAME_TO.number, SyntaxKind::PROPERTY_IDENTITY.number,
-    SyntaxKind::PROPERTY_INDEXES.number, SyntaxKind::PROPERTY_NAME.number, SyntaxKind::PROPERTY_NAME_REF.number,
-    SyntaxKind::PROPERTY_STATISTICS.number, SyntaxKind::PROPERTY_STORAGE.number, SyntaxKind::PSQL_COMMAND.number,
-    SyntaxKind::PUBLICATION.number, SyntaxKind::PUBLICATION_OBJECT_CURRENT_SCHEMA.number,
-    SyntaxKind::PUBLICATION_OBJECT_TABLE.number, SyntaxKind::PUBLICATION_OBJECT_TABLES_IN_SCHEMA.number,
-    SyntaxKind::PUBLICATION_REF.number, SyntaxKind::PUBLICATION_RENAME_TO.number,
-    SyntaxKind::QUALIFIED_COLUMN_NAME_REF.number, SyntaxKind::QUALIFIER_MAX.number, SyntaxKind::QUALIFIER_MIN.number,
-    SyntaxKind::RANGE_TYPE.number, SyntaxKind::READ_COMMITTED.number, SyntaxKind::READ_ONLY.number,
-    SyntaxKind::READ_UNCOMMITTED.number, SyntaxKind::READ_WRITE.number, SyntaxKind::REASSIGN.number,
-    SyntaxKind::REFERENCES_CONSTRAINT.number, SyntaxKind::REFERENCES_TABLE.number, SyntaxKind::REFERENCING.number,
-    SyntaxKind::REFRESH.number, SyntaxKind::REFRESH_COLLATION_VERSION.number, SyntaxKind::REFRESH_PUBLICATION.number,
-    SyntaxKind::REFRESH_VERSION.number, SyntaxKind::REINDEX.number, SyntaxKind::REINDEX_OPTION_CONCURRENTLY.number,
-    SyntaxKind::REINDEX_OPTION_LIST.number, SyntaxKind::REINDEX_OPTION_TABLESPACE.number,
-    SyntaxKind::REINDEX_OPTION_VERBOSE.number, SyntaxKind::REINDEX_TARGET_DATABASE.number,
-    SyntaxKind::REINDEX_TARGET_INDEX.number, SyntaxKind::REINDEX_TARGET_SCHEMA.number,
-    SyntaxKind::REINDEX_TARGET_SYSTEM.number, SyntaxKind::REINDEX_TARGET_TABLE.number,
-    SyntaxKind::RELATION_FROM_ITEM.number, SyntaxKind::RELATION_LIST.number, SyntaxKind::RELATION_NAME.number,
-    SyntaxKind::RELATION_NAME_REF.number, SyntaxKind::RELATIVE.number, SyntaxKind::RELEASE_SAVEPOINT.number,
-    SyntaxKind::REMOTE_TABLE_NAME_REF.number, SyntaxKind::RENAME_ATTRIBUTE.number, SyntaxKind::RENAME_COLUMN.number,
-    SyntaxKind::RENAME_CONSTRAINT.number, SyntaxKind::RENAME_VALUE.number, SyntaxKind::REPACK.number,
-    SyntaxKind::REPEATABLE_CLAUSE.number, SyntaxKind::REPEATABLE_READ.number, SyntaxKind::REPLACE_DICTIONARY.number,
-    SyntaxKind::REPLICA_IDENTITY.number, SyntaxKind::REPLICA_IDENTITY_DEFAULT.number,
-    SyntaxKind::REPLICA_IDENTITY_FULL.number, SyntaxKind::REPLICA_IDENTITY_NOTHING.number,
-    SyntaxKind::REQUIRED_AS_ALIAS.number, SyntaxKind::RESET.number, SyntaxKind::RESET_CONFIG_PARAM.number,
-    SyntaxKind::RESET_FUNC_OPTION.number, SyntaxKind::RESET_OPTIONS.number, SyntaxKind::RESET_ROLE.number,
-    SyntaxKind::RESET_SESSION_AUTH.number, SyntaxKind::RESET_TIME_ZONE.number,
-    SyntaxKind::RESET_TRANSACTION_ISOLATION.number, SyntaxKind::RESPECT_NULLS.number, SyntaxKind::RESTART.number,
-    SyntaxKind::RESTART_IDENTITY.number, SyntaxKind::RESTRICT.number, SyntaxKind::RETURNING_CLAUSE.number,
-    SyntaxKind::RETURNING_NEW.number, SyntaxKind::RETURNING_OLD.number, SyntaxKind::RETURNING_OPTION_LIST.number,
-    SyntaxKind::RETURNS_NULL_ON_NULL_INPUT_FUNC_OPTION.number, SyntaxKind::RETURN_STMT.number,
-    SyntaxKind::RETURN_TABLE_ARG_LIST.number, SyntaxKind::RETURN_TABLE_COLUMN.number, SyntaxKind::RET_TYPE.number,
-    SyntaxKind::REVOKE.number, SyntaxKind::REVOKE_COMMAND.number, SyntaxKind::REVOKE_COMMAND_LIST.number,
-    SyntaxKind::REVOKE_DEFAULT_PRIVILEGES.number, SyntaxKind::ROLE.number, SyntaxKind::ROLE_NAME_REF.number,
-    SyntaxKind::ROLE_OPTION_ADMIN.number, SyntaxKind::ROLE_OPTION_CONNECTION_LIMIT.number,
-    SyntaxKind::ROLE_OPTION_ENCRYPTED_PASSWORD.number, SyntaxKind::ROLE_OPTION_GENERIC.number,
-    SyntaxKind::ROLE_OPTION_INHERIT.number, SyntaxKind::ROLE_OPTION_IN_GROUP.number,
-    SyntaxKind::ROLE_OPTION_IN_ROLE.number, SyntaxKind::ROLE_OPTION_LIST.number,
-    SyntaxKind::ROLE_OPTION_PASSWORD.number, SyntaxKind::ROLE_OPTION_ROLE.number,
-    SyntaxKind::ROLE_OPTION_SYSID.number, SyntaxKind::ROLE_OPTION_USER.number,
-    SyntaxKind::ROLE_OPTION_VALID_UNTIL.number, SyntaxKind::ROLE_REF.number, SyntaxKind::ROLE_REF_CURRENT_ROLE.number,
-    SyntaxKind::ROLE_REF_CURRENT_USER.number, SyntaxKind::ROLE_REF_LIST.number,
-    SyntaxKind::ROLE_REF_SESSION_USER.number, SyntaxKind::ROLE_RENAME_TO.number, SyntaxKind::ROLLBACK_PREPARED.number,
-    SyntaxKind::ROLLBACK_TO_SAVEPOINT.number, SyntaxKind::ROLLBACK_TRANSACTION.number,
-    SyntaxKind::ROUTINE_NAME.number, SyntaxKind::ROUTINE_NAME_REF.number, SyntaxKind::ROUTINE_RENAME_TO.number,
-    SyntaxKind::ROUTINE_SIG.number, SyntaxKind::ROUTINE_SIG_LIST.number, SyntaxKind::ROW.number,
-    SyntaxKind::ROWS_FROM_ARG.number, SyntaxKind::ROWS_FROM_ITEM.number, SyntaxKind::ROWS_FUNC_OPTION.number,
-    SyntaxKind::ROW_EXCLUSIVE.number, SyntaxKind::ROW_LIST.number, SyntaxKind::ROW_SHARE.number,
-    SyntaxKind::RULE.number, SyntaxKind::RULE_DO.number, SyntaxKind::RULE_EVENT.number, SyntaxKind::RULE_ON.number,
-    SyntaxKind::RULE_REF.number, SyntaxKind::RULE_RENAME_TO.number, SyntaxKind::RULE_STMT_LIST.number,
-    SyntaxKind::SAVEPOINT.number, SyntaxKind::SAVEPOINT_CREATE.number, SyntaxKind::SAVEPOINT_REF.number,
-    SyntaxKind::SCHEMA.number, SyntaxKind::SCHEMA_REF.number, SyntaxKind::SCHEMA_RENAME_TO.number,
-    SyntaxKind::SCROLL.number, SyntaxKind::SEARCH_CLAUSE.number, SyntaxKind::SEARCH_COLUMNS.number,
-    SyntaxKind::SEARCH_SET_COLUMN.number, SyntaxKind::SECURITY_DEFINER_FUNC_OPTION.number,
-    SyntaxKind::SECURITY_INVOKER_FUNC_OPTION.number, SyntaxKind::SECURITY_LABEL.number,
-    SyntaxKind::SECURITY_LABEL_PROVIDER.number, SyntaxKind::SELECT.number, SyntaxKind::SELECT_CLAUSE.number,
-    SyntaxKind::SELECT_INTO.number, SyntaxKind::SEQUENCE.number, SyntaxKind::SEQUENCE_OPTION_LIST.number,
-    SyntaxKind::SEQUENCE_REF.number, SyntaxKind::SEQUENCE_RENAME_TO.number, SyntaxKind::SERIALIZABLE.number,
-    SyntaxKind::SERVER.number, SyntaxKind::SERVER_CLAUSE.number, SyntaxKind::SERVER_REF.number,
-    SyntaxKind::SERVER_RENAME_TO.number, SyntaxKind::SERVER_TYPE.number, SyntaxKind::SERVER_VERSION.number,
-    SyntaxKind::SESSION_AUTHORIZATION.number, SyntaxKind::SESSION_CHARACTERISTICS.number,
-    SyntaxKind::SESSION_SCOPE.number, SyntaxKind::SET.number, SyntaxKind::SET_ACCESS_METHOD.number,
-    SyntaxKind::SET_ALL_PUBLICATION_OBJECT_LIST.number, SyntaxKind::SET_CATALOG.number, SyntaxKind::SET_CLAUSE.number,
-    SyntaxKind::SET_COLUMN_LIST.number, SyntaxKind::SET_COMPRESSION.number, SyntaxKind::SET_CONFIG.number,
-    SyntaxKind::SET_CONFIG_PARAM.number, SyntaxKind::SET_CONSTRAINTS.number, SyntaxKind::SET_DEFAULT.number,
-    SyntaxKind::SET_DEFAULT_COLUMNS.number, SyntaxKind::SET_EXPR.number, SyntaxKind::SET_EXPRESSION.number,
-    SyntaxKind::SET_EXPR_LIST.number, SyntaxKind::SET_FOREIGN_OPTION.number, SyntaxKind::SET_FUNC_OPTION.number,
-    SyntaxKind::SET_GENERATED.number, SyntaxKind::SET_GENERATED_OPTIONS.number, SyntaxKind::SET_LOGGED.number,
-    SyntaxKind::SET_MULTIPLE_COLUMNS.number, SyntaxKind::SET_NOT_NULL.number, SyntaxKind::SET_NULL_COLUMNS.number,
-    SyntaxKind::SET_OPTIONS.number, SyntaxKind::SET_OPTIONS_LIST.number, SyntaxKind::SET_OPTION_FOR.number,
-    SyntaxKind::SET_PUBLICATION.number, SyntaxKind::SET_PUBLICATION_OBJECTS.number, SyntaxKind::SET_ROLE.number,
-    SyntaxKind::SET_ROLE_NONE.number, SyntaxKind::SET_SCHEMA.number, SyntaxKind::SET_SCHEMA_VALUE.number,
-    SyntaxKind::SET_SEQUENCE_OPTION.number, SyntaxKind::SET_SESSION_AUTH.number,
-    SyntaxKind::SET_SESSION_AUTH_DEFAULT.number, SyntaxKind::SET_SINGLE_COLUMN.number,
-    SyntaxKind::SET_STATISTICS.number, SyntaxKind::SET_STORAGE.number, SyntaxKind::SET_TABLESPACE.number,
-    SyntaxKind::SET_TIME_ZONE.number, SyntaxKind::SET_TRANSACTION.number, SyntaxKind::SET_TYPE.number,
-    SyntaxKind::SET_UNLOGGED.number, SyntaxKind::SET_WITHOUT_CLUSTER.number, SyntaxKind::SET_WITHOUT_OIDS.number,
-    SyntaxKind::SET_XML_OPTION.number, SyntaxKind::SHARE.number, SyntaxKind::SHARE_ROW_EXCLUSIVE.number,
-    SyntaxKind::SHARE_UPDATE_EXCLUSIVE.number, SyntaxKind::SHOW.number, SyntaxKind::SIMILAR_TO.number,
-    SyntaxKind::SKIP_LOCKED.number, SyntaxKind::SKIP_SUBSCRIPTION.number, SyntaxKind::SLICE_ACCESSOR.number,
-    SyntaxKind::SLICE_EXPR.number, SyntaxKind::SOME_FN.number, SyntaxKind::SORT_ASC.number,
-    SyntaxKind::SORT_BY.number, SyntaxKind::SORT_BY_LIST.number, SyntaxKind::SORT_DESC.number,
-    SyntaxKind::SORT_USING.number, SyntaxKind::SOURCE_FILE.number, SyntaxKind::SOURCE_VERTEX_TABLE.number,
-    SyntaxKind::SPLIT_PARTITION.number, SyntaxKind::STABLE.number, SyntaxKind::STANDALONE_NO.number,
-    SyntaxKind::STANDALONE_NO_VALUE.number, SyntaxKind::STANDALONE_YES.number, SyntaxKind::STATISTICS.number,
-    SyntaxKind::STATISTICS_KIND.number, SyntaxKind::STATISTICS_ON_CLAUSE.number, SyntaxKind::STATISTICS_REF.number,
-    SyntaxKind::STATISTICS_RENAME_TO.number, SyntaxKind::STAT_TYPES.number, SyntaxKind::STORAGE.number,
-    SyntaxKind::STORAGE_MODE.number, SyntaxKind::STORED.number, SyntaxKind::STRICT_FUNC_OPTION.number,
-    SyntaxKind::STRIP_WHITESPACE.number, SyntaxKind::SUBSCRIPTION.number, SyntaxKind::SUBSCRIPTION_REF.number,
-    SyntaxKind::SUBSCRIPTION_RENAME_TO.number, SyntaxKind::SUBSTRING_EXPRS.number, SyntaxKind::SUBSTRING_FN.number,
-    SyntaxKind::SUBSTRING_FOR_FROM.number, SyntaxKind::SUBSTRING_FROM_FOR.number,
-    SyntaxKind::SUBSTRING_SIMILAR_ESCAPE.number, SyntaxKind::SUPPORT_FUNC_OPTION.number, SyntaxKind::SYMMETRIC.number,
-    SyntaxKind::TABLE.number, SyntaxKind::TABLESAMPLE_CLAUSE.number, SyntaxKind::TABLESPACE.number,
-    SyntaxKind::TABLESPACE_CLAUSE.number, SyntaxKind::TABLESPACE_OWNER.number, SyntaxKind::TABLESPACE_REF.number,
-    SyntaxKind::TABLESPACE_RENAME_TO.number, SyntaxKind::TABLE_ALIAS.number, SyntaxKind::TABLE_AND_COLUMNS.number,
-    SyntaxKind::TABLE_AND_COLUMNS_LIST.number, SyntaxKind::TABLE_ARG_LIST.number, SyntaxKind::TABLE_LIST.number,
-    SyntaxKind::TABLE_NAME.number, SyntaxKind::TABLE_NAME_REF.number, SyntaxKind::TABLE_NAME_REF_LIST.number,
-    SyntaxKind::TABLE_RELATION_NAME.number, SyntaxKind::TABLE_RENAME_TO.number, SyntaxKind::TARGET.number,
-    SyntaxKind::TARGET_LIST.number, SyntaxKind::TEMP.number, SyntaxKind::TEXT_SEARCH_CONFIGURATION.number,
-    SyntaxKind::TEXT_SEARCH_CONFIGURATION_REF.number, SyntaxKind::TEXT_SEARCH_CONFIGURATION_RENAME_TO.number,
-    SyntaxKind::TEXT_SEARCH_DICTIONARY.number, SyntaxKind::TEXT_SEARCH_DICTIONARY_REF.number,
-    SyntaxKind::TEXT_SEARCH_DICTIONARY_RENAME_TO.number, SyntaxKind::TEXT_SEARCH_PARSER.number,
-    SyntaxKind::TEXT_SEARCH_PARSER_REF.number, SyntaxKind::TEXT_SEARCH_PARSER_RENAME_TO.number,
-    SyntaxKind::TEXT_SEARCH_TEMPLATE.number, SyntaxKind::TEXT_SEARCH_TEMPLATE_REF.number,
-    SyntaxKind::TEXT_SEARCH_TEMPLATE_RENAME_TO.number, SyntaxKind::TEXT_SEARCH_TOKEN_KIND.number,
-    SyntaxKind::TIES.number, SyntaxKind::TIMESTAMP_TYPE.number, SyntaxKind::TIME_TYPE.number,
-    SyntaxKind::TIME_ZONE.number, SyntaxKind::TIMING_AFTER.number, SyntaxKind::TIMING_BEFORE.number,
-    SyntaxKind::TIMING_INSTEAD_OF.number, SyntaxKind::TO_CONFIG_VALUE.number,
-    SyntaxKind::TRANSACTION_ISOLATION_LEVEL.number, SyntaxKind::TRANSACTION_MODES.number,
-    SyntaxKind::TRANSACTION_MODE_LIST.number, SyntaxKind::TRANSACTION_SNAPSHOT.number,
-    SyntaxKind::TRANSFORM_FOR_TYPE.number, SyntaxKind::TRANSFORM_FROM_FUNC.number,
-    SyntaxKind::TRANSFORM_FUNC_OPTION.number, SyntaxKind::TRANSFORM_TO_FUNC.number,
-    SyntaxKind::TRANSITION_RELATION_NAME.number, SyntaxKind::TRIGGER.number, SyntaxKind::TRIGGER_EVENT_DELETE.number,
-    SyntaxKind::TRIGGER_EVENT_INSERT.number, SyntaxKind::TRIGGER_EVENT_LIST.number,
-    SyntaxKind::TRIGGER_EVENT_TRUNCATE.number, SyntaxKind::TRIGGER_EVENT_UPDATE.number,
-    SyntaxKind::TRIGGER_REF.number, SyntaxKind::TRIGGER_RENAME_TO.number, SyntaxKind::TRIM_BOTH.number,
-    SyntaxKind::TRIM_EXPRS.number, SyntaxKind::TRIM_EXPR_FROM.number, SyntaxKind::TRIM_FN.number,
-    SyntaxKind::TRIM_FROM.number, SyntaxKind::TRIM_LEADING.number, SyntaxKind::TRIM_TRAILING.number,
-    SyntaxKind::TRUNCATE.number, SyntaxKind::TUPLE_EXPR.number, SyntaxKind::TYPE_NAME.number,
-    SyntaxKind::TYPE_NAME_REF.number, SyntaxKind::TYPE_RENAME_TO.number, SyntaxKind::UNBOUNDED_FOLLOWING.number,
-    SyntaxKind::UNBOUNDED_PRECEDING.number, SyntaxKind::UNICODE_NORMAL_FORM.number, SyntaxKind::UNION.number,
-    SyntaxKind::UNIQUE_CONSTRAINT.number, SyntaxKind::UNLISTEN.number, SyntaxKind::UNLOGGED.number,
-    SyntaxKind::UPDATE.number, SyntaxKind::UPDATE_TO.number, SyntaxKind::USER.number,
-    SyntaxKind::USER_MAPPING_ROLE.number, SyntaxKind::USING_CLAUSE.number, SyntaxKind::USING_EXPR.number,
-    SyntaxKind::USING_EXPR_CLAUSE.number, SyntaxKind::USING_INDEX.number, SyntaxKind::USING_INDEX_NAME.number,
-    SyntaxKind::USING_METHOD.number, SyntaxKind::USING_ON_CLAUSE.number, SyntaxKind::VACUUM.number,
-    SyntaxKind::VACUUM_OPTION.number, SyntaxKind::VACUUM_OPTION_LIST.number, SyntaxKind::VACUUM_OPTION_NAME.number,
-    SyntaxKind::VACUUM_OPTION_VALUE.number, SyntaxKind::VACUUM_OPTION_VALUE_NAME.number,
-    SyntaxKind::VALIDATE_CONSTRAINT.number, SyntaxKind::VALIDATOR_CLAUSE.number, SyntaxKind::VALUES.number,
-    SyntaxKind::VARCHAR_TYPE.number, SyntaxKind::VARIANT.number, SyntaxKind::VARIANT_LIST.number,
-    SyntaxKind::VERTEX_OR_EDGE.number, SyntaxKind::VERTEX_PATTERN.number, SyntaxKind::VERTEX_TABLES.number,
-    SyntaxKind::VERTEX_TABLE_DEF.number, SyntaxKind::VERTEX_TABLE_REF.number, SyntaxKind::VIEW.number,
-    SyntaxKind::VIEW_REF.number, SyntaxKind::VIEW_RENAME_TO.number, SyntaxKind::VIRTUAL.number,
-    SyntaxKind::VOLATILE.number, SyntaxKind::WHEN_CLAUSE.number, SyntaxKind::WHEN_CLAUSE_LIST.number,
-    SyntaxKind::WHEN_CONDITION.number, SyntaxKind::WHERE_CLAUSE.number, SyntaxKind::WHERE_CONDITION_CLAUSE.number,
-    SyntaxKind::WHERE_CURRENT_OF.number, SyntaxKind::WINDOW.number, SyntaxKind::WINDOW_CLAUSE.number,
-    SyntaxKind::WINDOW_DEF.number, SyntaxKind::WINDOW_FUNC_OPTION.number, SyntaxKind::WINDOW_REF.number,
-    SyntaxKind::WINDOW_SPEC.number, SyntaxKind::WITHIN_CLAUSE.number, SyntaxKind::WITHOUT_FUNCTION.number,
-    SyntaxKind::WITHOUT_HOLD.number, SyntaxKind::WITHOUT_OIDS.number, SyntaxKind::WITHOUT_OVERLAPS.number,
-    SyntaxKind::WITHOUT_TIMEZONE.number, SyntaxKind::WITH_CHECK_EXPR_CLAUSE.number,
-    SyntaxKind::WITH_CHECK_OPTION.number, SyntaxKind::WITH_CLAUSE.number, SyntaxKind::WITH_DATA.number,
-    SyntaxKind::WITH_FUNCTION.number, SyntaxKind::WITH_HOLD.number, SyntaxKind::WITH_INOUT.number,
-    SyntaxKind::WITH_NO_DATA.number, SyntaxKind::WITH_OPTIONS.number, SyntaxKind::WITH_ORDINALITY.number,
-    SyntaxKind::WITH_PARAMS.number, SyntaxKind::WITH_TABLE.number, SyntaxKind::WITH_TIES.number,
-    SyntaxKind::WITH_TIMEZONE.number, SyntaxKind::XML_ATTR.number, SyntaxKind::XML_COLUMN_OPTION_LIST.number,
-    SyntaxKind::XML_CONTENT.number, SyntaxKind::XML_DOCUMENT.number, SyntaxKind::XML_ELEMENT_FN.number,
-    SyntaxKind::XML_EXISTS_FN.number, SyntaxKind::XML_FOREST_FN.number, SyntaxKind::XML_NAMESPACE.number,
-    SyntaxKind::XML_NAMESPACE_LIST.number, SyntaxKind::XML_NAMESPACE_PREFIX.number, SyntaxKind::XML_PARSE_FN.number,
-    SyntaxKind::XML_PASSING_DOC.number, SyntaxKind::XML_PASSING_MECH_BY_REF.number,
-    SyntaxKind::XML_PASSING_MECH_BY_VALUE.number, SyntaxKind::XML_PI_FN.number, SyntaxKind::XML_PI_TARGET.number,
-    SyntaxKind::XML_ROOT_FN.number, SyntaxKind::XML_ROW_PASSING_CLAUSE.number, SyntaxKind::XML_SERIALIZE_FN.number,
-    SyntaxKind::XML_TABLE.number, SyntaxKind::XML_TABLE_COLUMN.number, SyntaxKind::XML_TABLE_COLUMN_LIST.number,
-    SyntaxKind::XML_TABLE_FROM_ITEM.number, SyntaxKind::XML_VERSION_EXPR.number,
-    SyntaxKind::XML_VERSION_NO_VALUE.number, SyntaxKind::__LAST.number,
+static NUMBERS: [u16; 2068] = numbers_of![
+    // Neither tokens nor nodes.
+    TOMBSTONE EOF
+
+    // Signs.
+    DOLLAR SEMICOLON COMMA L_PAREN R_PAREN L_BRACK R_BRACK L_CURLY R_CURLY L_ANGLE LESS_LESS LTEQ NEQB R_ANGLE
+    GREATER_GREATER GTEQ AT POUND TILDE QUESTION AMP PIPE PLUS STAR SLASH CARET PERCENT UNDERSCORE DOT DOT_DOT COLON
+    COLON_EQ EQ FAT_ARROW BANG NEQ MINUS BACKTICK
+
+    // Keywords.
+    ABORT_KW ABSENT_KW ABSOLUTE_KW ACCESS_KW ACTION_KW ADD_KW ADMIN_KW AFTER_KW AGGREGATE_KW ALL_KW ALSO_KW ALTER_KW
+    ALWAYS_KW ANALYSE_KW ANALYZE_KW AND_KW ANY_KW ARRAY_KW AS_KW ASC_KW ASENSITIVE_KW ASSERTION_KW ASSIGNMENT_KW
+    ASYMMETRIC_KW AT_KW ATOMIC_KW ATTACH_KW ATTRIBUTE_KW AUTHORIZATION_KW BACKWARD_KW BEFORE_KW BEGIN_KW BETWEEN_KW
+    BIGINT_KW BINARY_KW BIT_KW BOOLEAN_KW BOTH_KW BREADTH_KW BY_KW CACHE_KW CALL_KW CALLED_KW CASCADE_KW CASCADED_KW
+    CASE_KW CAST_KW CATALOG_KW CHAIN_KW CHAR_KW CHARACTER_KW CHARACTERISTICS_KW CHECK_KW CHECKPOINT_KW CLASS_KW
+    CLOSE_KW CLUSTER_KW COALESCE_KW COLLATE_KW COLLATION_KW COLUMN_KW COLUMNS_KW COMMENT_KW COMMENTS_KW COMMIT_KW
+    COMMITTED_KW COMPRESSION_KW CONCURRENTLY_KW CONDITIONAL_KW CONFIGURATION_KW CONFLICT_KW CONNECTION_KW
+    CONSTRAINT_KW CONSTRAINTS_KW CONTENT_KW CONTINUE_KW CONVERSION_KW COPY_KW COST_KW CREATE_KW CROSS_KW CSV_KW
+    CUBE_KW CURRENT_KW CURRENT_CATALOG_KW CURRENT_DATE_KW CURRENT_ROLE_KW CURRENT_SCHEMA_KW CURRENT_TIME_KW
+    CURRENT_TIMESTAMP_KW CURRENT_USER_KW CURSOR_KW CYCLE_KW DATA_KW DATABASE_KW DAY_KW DEALLOCATE_KW DEC_KW DECIMAL_KW
+    DECLARE_KW DEFAULT_KW DEFAULTS_KW DEFERRABLE_KW DEFERRED_KW DEFINER_KW DELETE_KW DELIMITER_KW DELIMITERS_KW
+    DEPENDS_KW DEPTH_KW DESC_KW DESTINATION_KW DETACH_KW DICTIONARY_KW DISABLE_KW DISCARD_KW DISTINCT_KW DO_KW
+    DOCUMENT_KW DOMAIN_KW DOUBLE_KW DROP_KW EACH_KW EDGE_KW ELSE_KW EMPTY_KW ENABLE_KW ENCODING_KW ENCRYPTED_KW END_KW
+    ENFORCED_KW ENUM_KW ERROR_KW ESCAPE_KW EVENT_KW EXCEPT_KW EXCLUDE_KW EXCLUDING_KW EXCLUSIVE_KW EXECUTE_KW
+    EXISTS_KW EXPLAIN_KW EXPRESSION_KW EXTENSION_KW EXTERNAL_KW EXTRACT_KW FALSE_KW FAMILY_KW FETCH_KW FILTER_KW
+    FINALIZE_KW FIRST_KW FLOAT_KW FOLLOWING_KW FOR_KW FORCE_KW FOREIGN_KW FORMAT_KW FORWARD_KW FREEZE_KW FROM_KW
+    FULL_KW FUNCTION_KW FUNCTIONS_KW GENERATED_KW GLOBAL_KW GRANT_KW GRANTED_KW GRAPH_KW GRAPH_TABLE_KW GREATEST_KW
+    GROUP_KW GROUPING_KW GROUPS_KW HANDLER_KW HAVING_KW HEADER_KW HOLD_KW HOUR_KW IDENTITY_KW IF_KW IGNORE_KW ILIKE_KW
+    IMMEDIATE_KW IMMUTABLE_KW IMPLICIT_KW IMPORT_KW IN_KW INCLUDE_KW INCLUDING_KW INCREMENT_KW INDENT_KW INDEX_KW
+    INDEXES_KW INHERIT_KW INHERITS_KW INITIALLY_KW INLINE_KW INNER_KW INOUT_KW INPUT_KW INSENSITIVE_KW INSERT_KW
+    INSTEAD_KW INT_KW INTEGER_KW INTERSECT_KW INTERVAL_KW INTO_KW INVOKER_KW IS_KW ISNULL_KW ISOLATION_KW JOIN_KW
+    JSON_KW JSON_ARRAY_KW JSON_ARRAYAGG_KW JSON_EXISTS_KW JSON_OBJECT_KW JSON_OBJECTAGG_KW JSON_QUERY_KW
+    JSON_SCALAR_KW JSON_SERIALIZE_KW JSON_TABLE_KW JSON_VALUE_KW KEEP_KW KEY_KW KEYS_KW LABEL_KW LANGUAGE_KW LARGE_KW
+    LAST_KW LATERAL_KW LEADING_KW LEAKPROOF_KW LEAST_KW LEFT_KW LEVEL_KW LIKE_KW LIMIT_KW LISTEN_KW LOAD_KW LOCAL_KW
+    LOCALTIME_KW LOCALTIMESTAMP_KW LOCATION_KW LOCK_KW LOCKED_KW LOGGED_KW LSN_KW MAPPING_KW MATCH_KW MATCHED_KW
+    MATERIALIZED_KW MAXVALUE_KW MERGE_KW MERGE_ACTION_KW METHOD_KW MINUTE_KW MINVALUE_KW MODE_KW MONTH_KW MOVE_KW
+    NAME_KW NAMES_KW NATIONAL_KW NATURAL_KW NCHAR_KW NESTED_KW NEW_KW NEXT_KW NFC_KW NFD_KW NFKC_KW NFKD_KW NO_KW
+    NODE_KW NONE_KW NORMALIZE_KW NORMALIZED_KW NOT_KW NOTHING_KW NOTIFY_KW NOTNULL_KW NOWAIT_KW NULL_KW NULLIF_KW
+    NULLS_KW NUMERIC_KW OBJECT_KW OBJECTS_KW OF_KW OFF_KW OFFSET_KW OIDS_KW OLD_KW OMIT_KW ON_KW ONLY_KW OPERATOR_KW
+    OPTION_KW OPTIONS_KW OR_KW ORDER_KW ORDINALITY_KW OTHERS_KW OUT_KW OUTER_KW OVER_KW OVERLAPS_KW OVERLAY_KW
+    OVERRIDING_KW OWNED_KW OWNER_KW PARALLEL_KW PARAMETER_KW PARSER_KW PARTIAL_KW PARTITION_KW PARTITIONS_KW
+    PASSING_KW PASSWORD_KW PATH_KW PERIOD_KW PLACING_KW PLAN_KW PLANS_KW POLICY_KW PORTION_KW POSITION_KW PRECEDING_KW
+    PRECISION_KW PREPARE_KW PREPARED_KW PRESERVE_KW PRIMARY_KW PRIOR_KW PRIVILEGES_KW PROCEDURAL_KW PROCEDURE_KW
+    PROCEDURES_KW PROGRAM_KW PROPERTIES_KW PROPERTY_KW PUBLICATION_KW QUOTE_KW QUOTES_KW RANGE_KW READ_KW REAL_KW
+    REASSIGN_KW RECURSIVE_KW REF_KW REFERENCES_KW REFERENCING_KW REFRESH_KW REINDEX_KW RELATIONSHIP_KW RELATIVE_KW
+    RELEASE_KW RENAME_KW REPACK_KW REPEATABLE_KW REPLACE_KW REPLICA_KW RESET_KW RESPECT_KW RESTART_KW RESTRICT_KW
+    RETURN_KW RETURNING_KW RETURNS_KW REVOKE_KW RIGHT_KW ROLE_KW ROLLBACK_KW ROLLUP_KW ROUTINE_KW ROUTINES_KW ROW_KW
+    ROWS_KW RULE_KW SAVEPOINT_KW SCALAR_KW SCHEMA_KW SCHEMAS_KW SCROLL_KW SEARCH_KW SECOND_KW SECURITY_KW SELECT_KW
+    SEQUENCE_KW SEQUENCES_KW SERIALIZABLE_KW SERVER_KW SESSION_KW SESSION_USER_KW SET_KW SETOF_KW SETS_KW SHARE_KW
+    SHOW_KW SIMILAR_KW SIMPLE_KW SKIP_KW SMALLINT_KW SNAPSHOT_KW SOME_KW SOURCE_KW SPLIT_KW SQL_KW STABLE_KW
+    STANDALONE_KW START_KW STATEMENT_KW STATISTICS_KW STDIN_KW STDOUT_KW STORAGE_KW STORED_KW STRICT_KW STRING_KW
+    STRIP_KW SUBSCRIPTION_KW SUBSTRING_KW SUPPORT_KW SYMMETRIC_KW SYSID_KW SYSTEM_KW SYSTEM_USER_KW TABLE_KW TABLES_KW
+    TABLESAMPLE_KW TABLESPACE_KW TARGET_KW TEMP_KW TEMPLATE_KW TEMPORARY_KW TEXT_KW THEN_KW TIES_KW TIME_KW
+    TIMESTAMP_KW TO_KW TRAILING_KW TRANSACTION_KW TRANSFORM_KW TREAT_KW TRIGGER_KW TRIM_KW TRUE_KW TRUNCATE_KW
+    TRUSTED_KW TYPE_KW TYPES_KW UESCAPE_KW UNBOUNDED_KW UNCOMMITTED_KW UNCONDITIONAL_KW UNENCRYPTED_KW UNION_KW
+    UNIQUE_KW UNKNOWN_KW UNLISTEN_KW UNLOGGED_KW UNTIL_KW UPDATE_KW USER_KW USING_KW VACUUM_KW VALID_KW VALIDATE_KW
+    VALIDATOR_KW VALUE_KW VALUES_KW VARCHAR_KW VARIADIC_KW VARYING_KW VERBOSE_KW VERSION_KW VERTEX_KW VIEW_KW VIEWS_KW
+    VIRTUAL_KW VOLATILE_KW WAIT_KW WHEN_KW WHERE_KW WHITESPACE_KW WINDOW_KW WITH_KW WITHIN_KW WITHOUT_KW WORK_KW
+    WRAPPER_KW WRITE_KW XML_KW XMLATTRIBUTES_KW XMLCONCAT_KW XMLELEMENT_KW XMLEXISTS_KW XMLFOREST_KW XMLNAMESPACES_KW
+    XMLPARSE_KW XMLPI_KW XMLROOT_KW XMLSERIALIZE_KW XMLTABLE_KW YEAR_KW YES_KW ZONE_KW ALIAS_KW ASSERT_KW
+    COLUMN_NAME_KW CONSTANT_KW CONSTRAINT_NAME_KW DATATYPE_KW DEBUG_KW DETAIL_KW DIAGNOSTICS_KW DUMP_KW ELSEIF_KW
+    ELSIF_KW ERRCODE_KW EXCEPTION_KW EXIT_KW FOREACH_KW GET_KW HINT_KW INFO_KW LOG_KW LOOP_KW MESSAGE_KW
+    MESSAGE_TEXT_KW NOTICE_KW OPEN_KW PERFORM_KW PG_CONTEXT_KW PG_DATATYPE_NAME_KW PG_EXCEPTION_CONTEXT_KW
+    PG_EXCEPTION_DETAIL_KW PG_EXCEPTION_HINT_KW PG_ROUTINE_OID_KW PRINT_STRICT_PARAMS_KW QUERY_KW RAISE_KW
+    RETURNED_SQLSTATE_KW REVERSE_KW ROW_COUNT_KW ROWTYPE_KW SCHEMA_NAME_KW SLICE_KW SQLSTATE_KW STACKED_KW
+    TABLE_NAME_KW USE_COLUMN_KW USE_VARIABLE_KW VARIABLE_CONFLICT_KW WARNING_KW WHILE_KW
+
+    // Literals and other tokens.
+    BIT_STRING BYTE_STRING DOLLAR_QUOTED_STRING ESC_STRING INT_NUMBER NATIONAL_STRING NULL NUMERIC_NUMBER
+    POSITIONAL_PARAM PSQL_COMMAND_TEXT PSQL_TERMINATOR_TEXT STRING UNICODE_ESC_STRING COMMENT ERROR IDENT WHITESPACE
+
+    // Nodes.
+    ABSOLUTE ACCESS_EXCLUSIVE ACCESS_METHOD ACCESS_METHOD_REF ACCESS_METHOD_TYPE_INDEX ACCESS_METHOD_TYPE_TABLE
+    ACCESS_SHARE ADD_ATTRIBUTE ADD_COLUMN ADD_CONSTRAINT ADD_EDGE_TABLES ADD_FOREIGN_OPTION ADD_GENERATED ADD_LABEL
+    ADD_MAPPING ADD_OP_CLASS_OPTIONS ADD_PUBLICATION ADD_PUBLICATION_OBJECTS ADD_USERS ADD_VALUE
+    ADD_VERTEX_EDGE_LABEL_PROPERTIES ADD_VERTEX_EDGE_TABLES ADD_VERTEX_TABLES ADMIN_OPTION_FOR AFTER_VALUE AGGREGATE
+    AGGREGATE_NAME AGGREGATE_ORDER_BY AGGREGATE_RENAME_TO ALL ALL_FN ALL_IN_TABLESPACE ALL_PRIVILEGES ALL_PROPERTIES
+    ALL_PUBLICATION_SEQUENCES ALL_PUBLICATION_TABLES ALTER_AGGREGATE ALTER_ATTRIBUTE ALTER_COLLATION ALTER_COLUMN
+    ALTER_CONSTRAINT ALTER_CONVERSION ALTER_DATABASE ALTER_DEFAULT_PRIVILEGES ALTER_DOMAIN ALTER_EVENT_TRIGGER
+    ALTER_EXTENSION ALTER_EXTENSION_ADD ALTER_EXTENSION_DROP ALTER_EXTENSION_UPDATE ALTER_FOREIGN_DATA_WRAPPER
+    ALTER_FOREIGN_TABLE ALTER_FUNCTION ALTER_GROUP ALTER_INDEX ALTER_LABEL ALTER_LANGUAGE ALTER_LARGE_OBJECT
+    ALTER_MAPPING ALTER_MATERIALIZED_VIEW ALTER_OPERATOR ALTER_OPERATOR_CLASS ALTER_OPERATOR_FAMILY ALTER_OPTION_LIST
+    ALTER_POLICY ALTER_POLICY_TO ALTER_PROCEDURE ALTER_PROPERTY_GRAPH ALTER_PUBLICATION ALTER_ROLE ALTER_ROUTINE
+    ALTER_RULE ALTER_SCHEMA ALTER_SEQUENCE ALTER_SERVER ALTER_SET_STATISTICS ALTER_STATISTICS ALTER_SUBSCRIPTION
+    ALTER_SYSTEM ALTER_TABLE ALTER_TABLESPACE ALTER_TEXT_SEARCH_CONFIGURATION ALTER_TEXT_SEARCH_DICTIONARY
+    ALTER_TEXT_SEARCH_PARSER ALTER_TEXT_SEARCH_TEMPLATE ALTER_TRIGGER ALTER_TYPE ALTER_TYPE_ATTRIBUTE_ACTION_LIST
+    ALTER_USER ALTER_USER_MAPPING ALTER_VERTEX_EDGE_LABELS ALTER_VIEW ALTER_VIEW_COLUMN ANALYZE AND_CHAIN AND_NO_CHAIN
+    ANY_FN ARG ARG_LIST ARRAY_BOUND ARRAY_EXPR ARRAY_TYPE ASENSITIVE ASYMMETRIC AS_ASSIGNMENT AS_DEFINITION
+    AS_FUNC_OPTION AS_IMPLICIT AS_NAME AS_OBJ_FILE AS_POLICY_TYPE ATOMIC_BODY ATTACH_INDEX_PARTITION ATTACH_PARTITION
+    ATTRIBUTE_LIST ATTRIBUTE_NAME ATTRIBUTE_NAMESPACE ATTRIBUTE_OPTION ATTRIBUTE_VALUE AT_LOCAL AT_TIME_ZONE
+    AUTHORIZATION_SCHEMA BACKWARD BASE_TYPE BEFORE_VALUE BEGIN BETWEEN_EXPR BIND_PARAM_NAME_REF BIN_EXPR BIT_TYPE
+    BIT_VARYING_TYPE BREADTH_FIRST BY_TARGET CALL CALLED_ON_NULL_INPUT_FUNC_OPTION CALL_EXPR CASCADE
+    CASCADED_CHECK_OPTION CASE_EXPR CAST_EXPR CAST_SIG CHANNEL CHANNEL_REF CHARACTER_TYPE CHECKPOINT CHECKPOINT_OPTION
+    CHECKPOINT_OPTION_LIST CHECKPOINT_OPTION_NAME CHECK_CONSTRAINT CLOSE CLUSTER CLUSTER_LEGACY CLUSTER_ON
+    CLUSTER_USING_INDEX COLLATE COLLATION COLLATION_FOR_FN COLLATION_FROM COLLATION_REF COLLATION_RENAME_TO
+    COLON_COLON COLUMN COLUMN_DEF COLUMN_DEF_LIST COLUMN_LIST COLUMN_NAME COLUMN_NAME_REF COLUMN_REF_LIST
+    COLUMN_TARGET COLUMN_TARGET_LIST COMMENT_ON COMMIT_PREPARED COMMIT_TRANSACTION COMPOSITE_FIELD COMPOSITE_FIELD_DEF
+    COMPOSITE_FIELD_LIST COMPOSITE_FIELD_REF COMPOSITE_TYPE COMPOUND_SELECT COMPRESSION_METHOD COMPRESSION_METHOD_NAME
+    CONFIG_PARAMETER_REF CONFIG_VALUE_NAME CONFLICT_DO_NOTHING CONFLICT_DO_SELECT CONFLICT_DO_UPDATE_SET
+    CONFLICT_INDEX_ITEM CONFLICT_INDEX_ITEM_LIST CONFLICT_ON_CONSTRAINT CONFLICT_ON_INDEX CONNECTION_CLAUSE
+    CONSTRAINT_COLUMN_REF_LIST CONSTRAINT_EXCLUSION CONSTRAINT_EXCLUSION_LIST CONSTRAINT_INCLUDE_CLAUSE
+    CONSTRAINT_INDEX_METHOD CONSTRAINT_INDEX_TABLESPACE CONSTRAINT_NAME CONSTRAINT_NAME_CLAUSE CONSTRAINT_NAME_REF
+    CONTINUE_IDENTITY CONVERSION CONVERSION_REF CONVERSION_RENAME_TO COPY COPY_FROM COPY_LEGACY_OPTION COPY_OPTION
+    COPY_OPTION_ARG COPY_OPTION_ARG_LIST COPY_OPTION_KEY COPY_OPTION_LIST COPY_OPTION_VALUE COPY_OPTION_VALUE_NAME
+    COPY_PROGRAM COPY_QUERY COPY_STDIN COPY_STDOUT COPY_TABLE COPY_TO COST_FUNC_OPTION CREATE_ACCESS_METHOD
+    CREATE_AGGREGATE CREATE_CAST CREATE_COLLATION CREATE_CONVERSION CREATE_DATABASE CREATE_DOMAIN CREATE_EVENT_TRIGGER
+    CREATE_EXTENSION CREATE_FOREIGN_DATA_WRAPPER CREATE_FOREIGN_TABLE CREATE_FUNCTION CREATE_GROUP CREATE_INDEX
+    CREATE_LANGUAGE CREATE_MATERIALIZED_VIEW CREATE_OPERATOR CREATE_OPERATOR_CLASS CREATE_OPERATOR_FAMILY
+    CREATE_POLICY CREATE_PROCEDURE CREATE_PROPERTY_GRAPH CREATE_PUBLICATION CREATE_ROLE CREATE_RULE CREATE_SCHEMA
+    CREATE_SEQUENCE CREATE_SERVER CREATE_STATISTICS CREATE_SUBSCRIPTION CREATE_TABLE CREATE_TABLESPACE CREATE_TABLE_AS
+    CREATE_TEXT_SEARCH_CONFIGURATION CREATE_TEXT_SEARCH_DICTIONARY CREATE_TEXT_SEARCH_PARSER
+    CREATE_TEXT_SEARCH_TEMPLATE CREATE_TRANSFORM CREATE_TRIGGER CREATE_TYPE CREATE_USER CREATE_USER_MAPPING
+    CREATE_VIEW CTE_NAME CURRENT_ROW CURSOR CURSOR_REF CUSTOM_OP CYCLE_CLAUSE CYCLE_COLUMNS CYCLE_COLUMN_TO
+    CYCLE_DEFAULT CYCLE_PATH CYCLE_SET_COLUMN DATABASE DATABASE_OPTION_CONNECTION_LIMIT DATABASE_OPTION_ENCODING
+    DATABASE_OPTION_GENERIC DATABASE_OPTION_LIST DATABASE_OPTION_OWNER DATABASE_OPTION_TABLESPACE
+    DATABASE_OPTION_TEMPLATE DATABASE_REF DATABASE_RENAME_TO DEALLOCATE DECLARE DEFAULT_CONSTRAINT DEFAULT_LABEL
+    DEFAULT_VALUES DEFERRABLE DEFERRABLE_CONSTRAINT_OPTION DEFERRED DELETE DELETE_ROWS DEPENDS_ON_EXTENSION
+    DEPTH_FIRST DEST_VERTEX_TABLE DETACH_CONCURRENTLY DETACH_FINALIZE DETACH_PARTITION DISABLE DISABLE_RLS
+    DISABLE_RULE DISABLE_SUBSCRIPTION DISABLE_TRIGGER DISCARD DISCARD_ALL DISCARD_PLANS DISCARD_SEQUENCES DISCARD_TEMP
+    DISTINCT DISTINCT_CLAUSE DISTINCT_ON DO DOMAIN DOMAIN_REF DOMAIN_RENAME_TO DOUBLE_TYPE DO_LANGUAGE DROP
+    DROP_ACCESS_METHOD DROP_AGGREGATE DROP_ATTRIBUTE DROP_CAST DROP_COLLATION DROP_COLUMN DROP_CONSTRAINT
+    DROP_CONVERSION DROP_DATABASE DROP_DATABASE_FORCE_CLAUSE DROP_DEFAULT DROP_DOMAIN DROP_EDGE_TABLES
+    DROP_EVENT_TRIGGER DROP_EXPRESSION DROP_EXTENSION DROP_FOREIGN_DATA_WRAPPER DROP_FOREIGN_OPTION DROP_FOREIGN_TABLE
+    DROP_FUNCTION DROP_GROUP DROP_IDENTITY DROP_INDEX DROP_LANGUAGE DROP_MAPPING DROP_MATERIALIZED_VIEW DROP_NOT_NULL
+    DROP_OPERATOR DROP_OPERATOR_CLASS DROP_OPERATOR_FAMILY DROP_OP_CLASS_OPTIONS DROP_OP_CLASS_OPTION_FUNCTION
+    DROP_OP_CLASS_OPTION_LIST DROP_OP_CLASS_OPTION_OPERATOR DROP_OWNED DROP_POLICY DROP_PROCEDURE DROP_PROPERTY_GRAPH
+    DROP_PUBLICATION DROP_PUBLICATION_OBJECTS DROP_ROLE DROP_ROUTINE DROP_RULE DROP_SCHEMA DROP_SEQUENCE DROP_SERVER
+    DROP_STATISTICS DROP_SUBSCRIPTION DROP_SUBSCRIPTION_PUBLICATION DROP_TABLE DROP_TABLESPACE DROP_TEXT_SEARCH_CONFIG
+    DROP_TEXT_SEARCH_DICT DROP_TEXT_SEARCH_PARSER DROP_TEXT_SEARCH_TEMPLATE DROP_TRANSFORM DROP_TRIGGER DROP_TYPE
+    DROP_USER DROP_USERS DROP_USER_MAPPING DROP_VERTEX_EDGE_LABEL DROP_VERTEX_EDGE_LABEL_PROPERTIES DROP_VERTEX_TABLES
+    DROP_VIEW EDGE_ANY EDGE_LEFT EDGE_RIGHT EDGE_TABLES EDGE_TABLE_DEF ELEMENT_TABLE_ALIAS ELEMENT_TABLE_ALIAS_CLAUSE
+    ELEMENT_TABLE_KEY_CLAUSE ELEMENT_TABLE_REF ELEMENT_TAG ELEMENT_VARIABLE ELSE_CLAUSE EMPTY_STMT ENABLE
+    ENABLE_ALWAYS ENABLE_ALWAYS_RULE ENABLE_ALWAYS_TRIGGER ENABLE_REPLICA ENABLE_REPLICA_RULE ENABLE_REPLICA_TRIGGER
+    ENABLE_RLS ENABLE_RULE ENABLE_SUBSCRIPTION ENABLE_TRIGGER ENFORCED ENUM_TYPE EVENT_TRIGGER EVENT_TRIGGER_EVENT
+    EVENT_TRIGGER_FILTER_VARIABLE EVENT_TRIGGER_REF EVENT_TRIGGER_RENAME_TO EVENT_TRIGGER_WHEN EVENT_TRIGGER_WHEN_AND
+    EVENT_TRIGGER_WHEN_CLAUSE EXCEPT EXCEPT_TABLES EXCEPT_TABLE_CLAUSE EXCEPT_TABLE_NAME EXCLUDE_CONSTRAINT
+    EXCLUDING_PROPERTY EXCLUSIVE EXECUTE EXISTS_FN EXPLAIN EXPLAIN_ANALYZE EXPLAIN_OPTION EXPLAIN_OPTION_LIST
+    EXPLAIN_OPTION_NAME EXPLAIN_OPTION_VALUE EXPLAIN_VERBOSE EXPR_AS_COLUMN_NAME EXPR_AS_COLUMN_NAME_LIST
+    EXPR_AS_ELEMENT_TAG EXPR_AS_ELEMENT_TAG_LIST EXPR_AS_PROPERTY_NAME EXPR_AS_PROPERTY_NAME_LIST EXPR_AS_XML_ATTR
+    EXPR_AS_XML_ATTR_LIST EXPR_FOLLOWING EXPR_FROM_ITEM EXPR_PRECEDING EXTENSION EXTENSION_REF EXTENSION_SCHEMA
+    EXTENSION_VERSION EXTENSION_VERSION_CLAUSE EXTRACT_FIELD_LITERAL EXTRACT_FIELD_NAME EXTRACT_FN FDW_OPTION_LIST
+    FETCH FETCH_CLAUSE FETCH_ONLY FIELD_ACCESSOR FIELD_EXPR FILTER_CLAUSE FIRST FORCE FORCE_NOT_NULL FORCE_NULL
+    FORCE_QUOTE FORCE_RLS FOREIGN_DATA_WRAPPER FOREIGN_DATA_WRAPPER_REF FOREIGN_DATA_WRAPPER_RENAME_TO
+    FOREIGN_KEY_COLUMN_LIST FOREIGN_KEY_CONSTRAINT FOREIGN_OPTION_NAME FORWARD FOR_ALL_PUBLICATION_OBJECTS
+    FOR_EACH_ROW FOR_EACH_STATEMENT FOR_KEY_SHARE FOR_NO_KEY_UPDATE FOR_PORTION_OF FOR_PROVIDER
+    FOR_PUBLICATION_OBJECTS FOR_ROLES FOR_SHARE FOR_UPDATE FRAME_BETWEEN FRAME_CLAUSE FRAME_EXCLUDE FRAME_GROUPS
+    FRAME_RANGE FRAME_ROWS FROM_ALIAS FROM_CLAUSE FROM_CURRENT FROM_TABLE FUNCTION_FROM_ITEM FUNCTION_NAME
+    FUNCTION_NAME_REF FUNCTION_RENAME_TO FUNCTION_SIG FUNCTION_SIG_LIST FUNC_OPTION_LIST GENERATED_ALWAYS
+    GENERATED_BY_DEFAULT GENERATED_CONSTRAINT GENERATED_IDENTITY GENERATED_STORED GRANT GRANTED_BY_CLAUSE
+    GRANT_DEFAULT_PRIVILEGES GRANT_OPTION GRANT_OPTION_FOR GRANT_ROLE_OPTION GRANT_ROLE_OPTION_LIST
+    GRANT_ROLE_OPTION_NAME GRANT_WITH_CLAUSE GRAPH_PATTERN_QUALIFIER GRAPH_TABLE_FN GRAPH_TABLE_FROM_ITEM GROUP
+    GROUPING_CUBE GROUPING_EXPR GROUPING_ROLLUP GROUPING_SETS GROUP_BY_CLAUSE GROUP_BY_LIST HANDLER_CLAUSE
+    HASH_PARTITION_BOUND HAVING_CLAUSE IF_EXISTS IF_NOT_EXISTS IGNORE_NULLS IMMEDIATE IMMUTABLE IMPORT_FOREIGN_SCHEMA
+    INCLUDING_PROPERTY INDENT INDEX INDEX_ACCESSOR INDEX_EXPR INDEX_INCLUDE_CLAUSE INDEX_PARAMETERS INDEX_REF
+    INDEX_RENAME_TO INHERIT INHERITS INHERIT_OPTION_FOR INHERIT_TABLE INITIALLY_DEFERRED_CONSTRAINT_OPTION
+    INITIALLY_IMMEDIATE_CONSTRAINT_OPTION INLINE_CLAUSE INSENSITIVE INSERT INTERSECT INTERVAL_DAY INTERVAL_HOUR
+    INTERVAL_MINUTE INTERVAL_MONTH INTERVAL_SECOND INTERVAL_TYPE INTERVAL_YEAR INTO_CLAUSE INTO_SCHEMA IN_DATABASE
+    IN_SCHEMAS IS_DISTINCT_FROM IS_JSON IS_JSON_ARRAY IS_JSON_OBJECT IS_JSON_SCALAR IS_JSON_VALUE IS_LABEL
+    IS_NORMALIZED IS_NOT IS_NOT_DISTINCT_FROM IS_NOT_JSON IS_NOT_JSON_ARRAY IS_NOT_JSON_OBJECT IS_NOT_JSON_SCALAR
+    IS_NOT_JSON_VALUE IS_NOT_NORMALIZED JOIN JOIN_CROSS JOIN_EXPR JOIN_FULL JOIN_INNER JOIN_LEFT JOIN_RIGHT
+    JOIN_USING_CLAUSE JSON_ABSENT_ON_NULL JSON_ARRAY_AGG_FN JSON_ARRAY_FN JSON_BEHAVIOR_DEFAULT
+    JSON_BEHAVIOR_EMPTY_ARRAY JSON_BEHAVIOR_EMPTY_OBJECT JSON_BEHAVIOR_ERROR JSON_BEHAVIOR_FALSE JSON_BEHAVIOR_NULL
+    JSON_BEHAVIOR_TRUE JSON_BEHAVIOR_UNKNOWN JSON_ENCODING JSON_ENCODING_CLAUSE JSON_EXISTS_FN JSON_EXPR_FORMAT
+    JSON_FN JSON_FORMAT_CLAUSE JSON_KEY_VALUE JSON_NULL_ON_NULL JSON_OBJECT_AGG_FN JSON_OBJECT_FN JSON_ON_EMPTY_CLAUSE
+    JSON_ON_ERROR_CLAUSE JSON_PASSING_ARG JSON_PASSING_CLAUSE JSON_PATH_CLAUSE JSON_PATH_NAME JSON_PATH_NAME_CLAUSE
+    JSON_PATH_NAME_REF JSON_QUERY_FN JSON_QUOTES_CLAUSE JSON_RETURNING_CLAUSE JSON_SCALAR_FN JSON_SELECT_FORMAT
+    JSON_SERIALIZE_FN JSON_TABLE JSON_TABLE_COLUMN_LIST JSON_TABLE_EXISTS_COLUMN JSON_TABLE_FROM_ITEM
+    JSON_TABLE_NESTED_COLUMN JSON_TABLE_ORDINALITY_COLUMN JSON_TABLE_PLAN_CHOICE JSON_TABLE_PLAN_CLAUSE
+    JSON_TABLE_PLAN_CROSS JSON_TABLE_PLAN_INNER JSON_TABLE_PLAN_JOIN JSON_TABLE_PLAN_OUTER JSON_TABLE_PLAN_UNION
+    JSON_TABLE_VALUE_COLUMN JSON_VALUE_EXPR JSON_VALUE_FN JSON_VARIABLE_NAME JSON_WITHOUT_UNIQUE_KEYS
+    JSON_WITHOUT_WRAPPER JSON_WITH_CONDITIONAL_WRAPPER JSON_WITH_UNCONDITIONAL_WRAPPER JSON_WITH_UNIQUE_KEYS
+    KEEP_QUOTES LABEL LABEL_AND_PROPERTIES LABEL_AND_PROPERTIES_LIST LABEL_REF LANGUAGE LANGUAGE_FUNC_OPTION
+    LANGUAGE_REF LANGUAGE_RENAME_TO LAST LEAKPROOF_FUNC_OPTION LIKE_CLAUSE LIMIT_CLAUSE LIMIT_TO_TABLES LISTEN LITERAL
+    LOAD LOCAL_CHECK_OPTION LOCAL_SCOPE LOCK LOCKING_CLAUSE LOCKING_OF LOCK_MODE_CLAUSE MATCH_FULL MATCH_PARTIAL
+    MATCH_SIMPLE MATERIALIZED MERGE MERGE_CONDITION MERGE_DELETE MERGE_DO_NOTHING MERGE_INSERT MERGE_PARTITIONS
+    MERGE_UPDATE MERGE_WHEN_MATCHED MERGE_WHEN_NOT_MATCHED_SOURCE MERGE_WHEN_NOT_MATCHED_TARGET MOVE NAMED_ARG
+    NAMED_LABEL NAMED_SCHEMA NAME_REF NEW_TABLE NEXT NON_STANDARD_PARAM NOTHING NOTIFY NOT_DEFERRABLE
+    NOT_DEFERRABLE_CONSTRAINT_OPTION NOT_ENFORCED NOT_ILIKE NOT_IN NOT_LEAKPROOF_FUNC_OPTION NOT_LIKE NOT_MATERIALIZED
+    NOT_NULL_CONSTRAINT NOT_OF NOT_SIMILAR_TO NOT_VALID NOWAIT NO_ACTION NO_DEPENDS_ON_EXTENSION NO_FORCE_RLS
+    NO_INDENT NO_INHERIT NO_INHERIT_TABLE NO_OTHERS NO_PROPERTIES NO_SCROLL NULLS_DISTINCT NULLS_FIRST NULLS_LAST
+    NULLS_NOT_DISTINCT NULL_CONSTRAINT OBJECT_ACCESS_METHOD OBJECT_AGGREGATE OBJECT_CAST OBJECT_COLLATION
+    OBJECT_COLUMN OBJECT_CONSTRAINT OBJECT_CONVERSION OBJECT_DATABASE OBJECT_DOMAIN OBJECT_EVENT_TRIGGER
+    OBJECT_EXTENSION OBJECT_FOREIGN_DATA_WRAPPER OBJECT_FOREIGN_TABLE OBJECT_FUNCTION OBJECT_INDEX OBJECT_LANGUAGE
+    OBJECT_LARGE_OBJECT OBJECT_MATERIALIZED_VIEW OBJECT_OPERATOR OBJECT_OPERATOR_CLASS OBJECT_OPERATOR_FAMILY
+    OBJECT_POLICY OBJECT_PROCEDURE OBJECT_PROPERTY_GRAPH OBJECT_PUBLICATION OBJECT_ROLE OBJECT_ROUTINE OBJECT_RULE
+    OBJECT_SCHEMA OBJECT_SEQUENCE OBJECT_SERVER OBJECT_STATISTICS OBJECT_SUBSCRIPTION OBJECT_TABLE OBJECT_TABLESPACE
+    OBJECT_TEXT_SEARCH_CONFIG OBJECT_TEXT_SEARCH_DICT OBJECT_TEXT_SEARCH_PARSER OBJECT_TEXT_SEARCH_TEMPLATE
+    OBJECT_TRANSFORM OBJECT_TRIGGER OBJECT_TYPE OBJECT_VIEW OFFSET_CLAUSE OF_TYPE OLD_TABLE OMIT_QUOTES ON_CLAUSE
+    ON_COMMIT ON_CONFLICT_CLAUSE ON_DELETE_ACTION ON_PATH ON_PRIVILEGE_OBJECTS_CLAUSE ON_RELATION ON_SCALAR_STRING
+    ON_TABLE ON_UPDATE_ACTION OP OPERATOR_CALL OPERATOR_CLASS_OPTION_LIST OPERATOR_FAMILY_CLAUSE OPTIONAL_AS_ALIAS
+    OPTION_ALTER_OPTION_LIST OPTION_AS_TYPE OPTION_CACHE OPTION_CONNECTION OPTION_CYCLE OPTION_DEFAULT OPTION_HANDLER
+    OPTION_IDENT OPTION_INCREMENT OPTION_ITEM OPTION_ITEM_KEY OPTION_ITEM_LIST OPTION_ITEM_VALUE
+    OPTION_ITEM_VALUE_NAME OPTION_LOGGED OPTION_MAX_VALUE OPTION_MIN_VALUE OPTION_NOT_NULL OPTION_NO_CONNECTION
+    OPTION_NO_CYCLE OPTION_NO_HANDLER OPTION_NO_MAX_VALUE OPTION_NO_MIN_VALUE OPTION_NO_VALIDATOR OPTION_NULL
+    OPTION_OWNED_BY OPTION_PATH OPTION_RESTART OPTION_SEQUENCE_NAME OPTION_START OPTION_UNLOGGED OPTION_VALIDATOR
+    OP_CLASS_FOR_ORDER_BY OP_CLASS_FOR_SEARCH OP_CLASS_NAME OP_CLASS_OPTION_FUNCTION OP_CLASS_OPTION_OPERATOR
+    OP_CLASS_OPTION_STORAGE OP_CLASS_REF OP_CLASS_RENAME_TO OP_FAMILY_NAME OP_FAMILY_REF OP_FAMILY_RENAME_TO OP_SIG
+    OP_SIG_LIST ORDER_BY_CLAUSE OR_REPLACE OVERLAY_EXPRS OVERLAY_FN OVERLAY_PLACING OVERRIDING_SYSTEM_VALUE
+    OVERRIDING_USER_VALUE OVER_CLAUSE OVER_WINDOW_SPEC OWNED_BY_NONE OWNED_BY_ROLES OWNER_TO PARALLEL_FUNC_OPTION
+    PARAM PARAM_DEFAULT PARAM_IN PARAM_IN_OUT PARAM_LIST PARAM_NAME PARAM_NAME_REF PARAM_OUT PARAM_VARIADIC PAREN_EXPR
+    PAREN_FROM_ITEM PAREN_GRAPH_PATTERN PAREN_JSON_TABLE_PLAN PAREN_SELECT PARTITION PARTITION_BY PARTITION_BY_CLAUSE
+    PARTITION_DEFAULT PARTITION_FOR_VALUES_FROM PARTITION_FOR_VALUES_IN PARTITION_FOR_VALUES_WITH
+    PARTITION_FROM_VALUES PARTITION_ITEM PARTITION_ITEM_LIST PARTITION_LIST PARTITION_OF PARTITION_STRATEGY
+    PARTITION_TO_VALUES PATH PATH_FACTOR PATH_PATTERN PATH_PATTERN_LIST PATH_REF PATH_SEGMENT PATH_SEGMENT_REF
+    PATH_TYPE PERCENT_TYPE PERCENT_TYPE_CLAUSE PERIOD_COLUMN PLPGSQL PLPGSQL_ALIAS_DECL PLPGSQL_ALIAS_TARGET
+    PLPGSQL_ASSERT_STMT PLPGSQL_ASSIGN_STMT PLPGSQL_ASSIGN_TARGET PLPGSQL_BLOCK PLPGSQL_BODY PLPGSQL_CALL_STMT
+    PLPGSQL_CASE_STMT PLPGSQL_CASE_WHEN PLPGSQL_CLOSE_STMT PLPGSQL_COMMIT_STMT PLPGSQL_COMP_OPTION_DUMP
+    PLPGSQL_COMP_OPTION_PRINT_STRICT_PARAMS PLPGSQL_COMP_OPTION_VARIABLE_CONFLICT PLPGSQL_CONDITION
+    PLPGSQL_CONTINUE_STMT PLPGSQL_CURSOR_ARG PLPGSQL_CURSOR_ARG_LIST PLPGSQL_CURSOR_DECL PLPGSQL_CURSOR_VARIABLE_REF
+    PLPGSQL_DECLARE_SECTION PLPGSQL_DIAG_AREA PLPGSQL_DIAG_ITEM PLPGSQL_DIAG_ITEM_LIST PLPGSQL_DIAG_KIND
+    PLPGSQL_DIAG_TARGET PLPGSQL_DO_STMT PLPGSQL_DYN_EXECUTE_STMT PLPGSQL_ELSE_CLAUSE PLPGSQL_ELSIF_CLAUSE
+    PLPGSQL_EXCEPTION_HANDLER PLPGSQL_EXCEPTION_SECTION PLPGSQL_EXEC_SQL_STMT PLPGSQL_EXIT_STMT PLPGSQL_EXIT_WHEN
+    PLPGSQL_EXPR PLPGSQL_FETCH_STMT PLPGSQL_FOR_CURSOR_STMT PLPGSQL_FOR_DYN_STMT PLPGSQL_FOR_EACH_SLICE
+    PLPGSQL_FOR_EACH_STMT PLPGSQL_FOR_I_STMT PLPGSQL_FOR_QUERY_STMT PLPGSQL_FOR_RANGE PLPGSQL_FOR_VARIABLE
+    PLPGSQL_GET_DIAG_STMT PLPGSQL_IF_STMT PLPGSQL_INTO_CLAUSE PLPGSQL_INTO_TARGET PLPGSQL_INTO_TARGET_LIST
+    PLPGSQL_LABEL PLPGSQL_LABEL_NAME PLPGSQL_LABEL_NAME_REF PLPGSQL_LOOP_STMT PLPGSQL_MOVE_STMT PLPGSQL_NOT_NULL
+    PLPGSQL_NULL_STMT PLPGSQL_OPEN_EXECUTE PLPGSQL_OPEN_QUERY PLPGSQL_OPEN_STMT PLPGSQL_OPTION_VALUE
+    PLPGSQL_PERCENT_ROWTYPE PLPGSQL_PERFORM_STMT PLPGSQL_RAISE_LEVEL PLPGSQL_RAISE_MESSAGE PLPGSQL_RAISE_OPTION_COLUMN
+    PLPGSQL_RAISE_OPTION_CONSTRAINT PLPGSQL_RAISE_OPTION_DATATYPE PLPGSQL_RAISE_OPTION_DETAIL
+    PLPGSQL_RAISE_OPTION_ERRCODE PLPGSQL_RAISE_OPTION_HINT PLPGSQL_RAISE_OPTION_MESSAGE PLPGSQL_RAISE_OPTION_SCHEMA
+    PLPGSQL_RAISE_OPTION_TABLE PLPGSQL_RAISE_STMT PLPGSQL_RAISE_USING_CLAUSE PLPGSQL_RETURN_NEXT_STMT
+    PLPGSQL_RETURN_QUERY_EXECUTE_STMT PLPGSQL_RETURN_QUERY_STMT PLPGSQL_RETURN_STMT PLPGSQL_ROLLBACK_STMT
+    PLPGSQL_USING_CLAUSE PLPGSQL_VAR_DECL PLPGSQL_VAR_INIT PLPGSQL_VAR_NAME PLPGSQL_VAR_NAME_REF PLPGSQL_WHILE_STMT
+    POLICY POLICY_COMMAND POLICY_COMMAND_ALL POLICY_COMMAND_DELETE POLICY_COMMAND_INSERT POLICY_COMMAND_SELECT
+    POLICY_COMMAND_UPDATE POLICY_REF POLICY_RENAME_TO POLICY_ROLES PORTION_FROM_TO PORTION_RANGE POSITION_FN
+    POSTFIX_EXPR PREFIX_EXPR PREPARE PREPARED_STATEMENT PREPARED_STATEMENT_REF PREPARE_TRANSACTION PRESERVE_ROWS
+    PRESERVE_WHITESPACE PRIMARY_KEY_CONSTRAINT PRIOR PRIVILEGE_ALL_FUNCTIONS_IN_SCHEMA
+    PRIVILEGE_ALL_PROCEDURES_IN_SCHEMA PRIVILEGE_ALL_ROUTINES_IN_SCHEMA PRIVILEGE_ALL_SEQUENCES_IN_SCHEMA
+    PRIVILEGE_ALL_TABLES_IN_SCHEMA PRIVILEGE_DATABASE PRIVILEGE_DEFAULT PRIVILEGE_DOMAIN
+    PRIVILEGE_FOREIGN_DATA_WRAPPER PRIVILEGE_FOREIGN_SERVER PRIVILEGE_FUNCTION PRIVILEGE_LANGUAGE
+    PRIVILEGE_LARGE_OBJECT PRIVILEGE_PARAMETER PRIVILEGE_PROCEDURE PRIVILEGE_PROPERTY_GRAPH PRIVILEGE_ROUTINE
+    PRIVILEGE_SCHEMA PRIVILEGE_SEQUENCE PRIVILEGE_TABLE PRIVILEGE_TABLESPACE PRIVILEGE_TARGET_FUNCTIONS
+    PRIVILEGE_TARGET_LARGE_OBJECTS PRIVILEGE_TARGET_ROUTINES PRIVILEGE_TARGET_SCHEMAS PRIVILEGE_TARGET_SEQUENCES
+    PRIVILEGE_TARGET_TABLES PRIVILEGE_TARGET_TYPES PRIVILEGE_TYPE PROCEDURE_NAME PROCEDURE_NAME_REF
+    PROCEDURE_RENAME_TO PROCEDURE_SIG PROCEDURE_SIG_LIST PROPERTIES PROPERTY_ALL PROPERTY_COMMENTS
+    PROPERTY_COMPRESSION PROPERTY_CONSTRAINTS PROPERTY_DEFAULTS PROPERTY_GENERATED PROPERTY_GRAPH PROPERTY_GRAPH_REF
+    PROPERTY_GRAPH_RENAME_TO PROPERTY_IDENTITY PROPERTY_INDEXES PROPERTY_NAME PROPERTY_NAME_REF PROPERTY_STATISTICS
+    PROPERTY_STORAGE PSQL_COMMAND PUBLICATION PUBLICATION_OBJECT_CURRENT_SCHEMA PUBLICATION_OBJECT_TABLE
+    PUBLICATION_OBJECT_TABLES_IN_SCHEMA PUBLICATION_REF PUBLICATION_RENAME_TO QUALIFIED_COLUMN_NAME_REF QUALIFIER_MAX
+    QUALIFIER_MIN RANGE_TYPE READ_COMMITTED READ_ONLY READ_UNCOMMITTED READ_WRITE REASSIGN REFERENCES_CONSTRAINT
+    REFERENCES_TABLE REFERENCING REFRESH REFRESH_COLLATION_VERSION REFRESH_PUBLICATION REFRESH_VERSION REINDEX
+    REINDEX_OPTION_CONCURRENTLY REINDEX_OPTION_LIST REINDEX_OPTION_TABLESPACE REINDEX_OPTION_VERBOSE
+    REINDEX_TARGET_DATABASE REINDEX_TARGET_INDEX REINDEX_TARGET_SCHEMA REINDEX_TARGET_SYSTEM REINDEX_TARGET_TABLE
+    RELATION_FROM_ITEM RELATION_LIST RELATION_NAME RELATION_NAME_REF RELATIVE RELEASE_SAVEPOINT REMOTE_TABLE_NAME_REF
+    RENAME_ATTRIBUTE RENAME_COLUMN RENAME_CONSTRAINT RENAME_VALUE REPACK REPEATABLE_CLAUSE REPEATABLE_READ
+    REPLACE_DICTIONARY REPLICA_IDENTITY REPLICA_IDENTITY_DEFAULT REPLICA_IDENTITY_FULL REPLICA_IDENTITY_NOTHING
+    REQUIRED_AS_ALIAS RESET RESET_CONFIG_PARAM RESET_FUNC_OPTION RESET_OPTIONS RESET_ROLE RESET_SESSION_AUTH
+    RESET_TIME_ZONE RESET_TRANSACTION_ISOLATION RESPECT_NULLS RESTART RESTART_IDENTITY RESTRICT RETURNING_CLAUSE
+    RETURNING_NEW RETURNING_OLD RETURNING_OPTION_LIST RETURNS_NULL_ON_NULL_INPUT_FUNC_OPTION RETURN_STMT
+    RETURN_TABLE_ARG_LIST RETURN_TABLE_COLUMN RET_TYPE REVOKE REVOKE_COMMAND REVOKE_COMMAND_LIST
+    REVOKE_DEFAULT_PRIVILEGES ROLE ROLE_NAME_REF ROLE_OPTION_ADMIN ROLE_OPTION_CONNECTION_LIMIT
+    ROLE_OPTION_ENCRYPTED_PASSWORD ROLE_OPTION_GENERIC ROLE_OPTION_INHERIT ROLE_OPTION_IN_GROUP ROLE_OPTION_IN_ROLE
+    ROLE_OPTION_LIST ROLE_OPTION_PASSWORD ROLE_OPTION_ROLE ROLE_OPTION_SYSID ROLE_OPTION_USER ROLE_OPTION_VALID_UNTIL
+    ROLE_REF ROLE_REF_CURRENT_ROLE ROLE_REF_CURRENT_USER ROLE_REF_LIST ROLE_REF_SESSION_USER ROLE_RENAME_TO
+    ROLLBACK_PREPARED ROLLBACK_TO_SAVEPOINT ROLLBACK_TRANSACTION ROUTINE_NAME ROUTINE_NAME_REF ROUTINE_RENAME_TO
+    ROUTINE_SIG ROUTINE_SIG_LIST ROW ROWS_FROM_ARG ROWS_FROM_ITEM ROWS_FUNC_OPTION ROW_EXCLUSIVE ROW_LIST ROW_SHARE
+    RULE RULE_DO RULE_EVENT RULE_ON RULE_REF RULE_RENAME_TO RULE_STMT_LIST SAVEPOINT SAVEPOINT_CREATE SAVEPOINT_REF
+    SCHEMA SCHEMA_REF SCHEMA_RENAME_TO SCROLL SEARCH_CLAUSE SEARCH_COLUMNS SEARCH_SET_COLUMN
+    SECURITY_DEFINER_FUNC_OPTION SECURITY_INVOKER_FUNC_OPTION SECURITY_LABEL SECURITY_LABEL_PROVIDER SELECT
+    SELECT_CLAUSE SELECT_INTO SEQUENCE SEQUENCE_OPTION_LIST SEQUENCE_REF SEQUENCE_RENAME_TO SERIALIZABLE SERVER
+    SERVER_CLAUSE SERVER_REF SERVER_RENAME_TO SERVER_TYPE SERVER_VERSION SESSION_AUTHORIZATION SESSION_CHARACTERISTICS
+    SESSION_SCOPE SET SET_ACCESS_METHOD SET_ALL_PUBLICATION_OBJECT_LIST SET_CATALOG SET_CLAUSE SET_COLUMN_LIST
+    SET_COMPRESSION SET_CONFIG SET_CONFIG_PARAM SET_CONSTRAINTS SET_DEFAULT SET_DEFAULT_COLUMNS SET_EXPR
+    SET_EXPRESSION SET_EXPR_LIST SET_FOREIGN_OPTION SET_FUNC_OPTION SET_GENERATED SET_GENERATED_OPTIONS SET_LOGGED
+    SET_MULTIPLE_COLUMNS SET_NOT_NULL SET_NULL_COLUMNS SET_OPTIONS SET_OPTIONS_LIST SET_OPTION_FOR SET_PUBLICATION
+    SET_PUBLICATION_OBJECTS SET_ROLE SET_ROLE_NONE SET_SCHEMA SET_SCHEMA_VALUE SET_SEQUENCE_OPTION SET_SESSION_AUTH
+    SET_SESSION_AUTH_DEFAULT SET_SINGLE_COLUMN SET_STATISTICS SET_STORAGE SET_TABLESPACE SET_TIME_ZONE SET_TRANSACTION
+    SET_TYPE SET_UNLOGGED SET_WITHOUT_CLUSTER SET_WITHOUT_OIDS SET_XML_OPTION SHARE SHARE_ROW_EXCLUSIVE
+    SHARE_UPDATE_EXCLUSIVE SHOW SIMILAR_TO SKIP_LOCKED SKIP_SUBSCRIPTION SLICE_ACCESSOR SLICE_EXPR SOME_FN SORT_ASC
+    SORT_BY SORT_BY_LIST SORT_DESC SORT_USING SOURCE_FILE SOURCE_VERTEX_TABLE SPLIT_PARTITION STABLE STANDALONE_NO
+    STANDALONE_NO_VALUE STANDALONE_YES STATISTICS STATISTICS_KIND STATISTICS_ON_CLAUSE STATISTICS_REF
+    STATISTICS_RENAME_TO STAT_TYPES STORAGE STORAGE_MODE STORED STRICT_FUNC_OPTION STRIP_WHITESPACE SUBSCRIPTION
+    SUBSCRIPTION_REF SUBSCRIPTION_RENAME_TO SUBSTRING_EXPRS SUBSTRING_FN SUBSTRING_FOR_FROM SUBSTRING_FROM_FOR
+    SUBSTRING_SIMILAR_ESCAPE SUPPORT_FUNC_OPTION SYMMETRIC TABLE TABLESAMPLE_CLAUSE TABLESPACE TABLESPACE_CLAUSE
+    TABLESPACE_OWNER TABLESPACE_REF TABLESPACE_RENAME_TO TABLE_ALIAS TABLE_AND_COLUMNS TABLE_AND_COLUMNS_LIST
+    TABLE_ARG_LIST TABLE_LIST TABLE_NAME TABLE_NAME_REF TABLE_NAME_REF_LIST TABLE_RELATION_NAME TABLE_RENAME_TO TARGET
+    TARGET_LIST TEMP TEXT_SEARCH_CONFIGURATION TEXT_SEARCH_CONFIGURATION_REF TEXT_SEARCH_CONFIGURATION_RENAME_TO
+    TEXT_SEARCH_DICTIONARY TEXT_SEARCH_DICTIONARY_REF TEXT_SEARCH_DICTIONARY_RENAME_TO TEXT_SEARCH_PARSER
+    TEXT_SEARCH_PARSER_REF TEXT_SEARCH_PARSER_RENAME_TO TEXT_SEARCH_TEMPLATE TEXT_SEARCH_TEMPLATE_REF
+    TEXT_SEARCH_TEMPLATE_RENAME_TO TEXT_SEARCH_TOKEN_KIND TIES TIMESTAMP_TYPE TIME_TYPE TIME_ZONE TIMING_AFTER
+    TIMING_BEFORE TIMING_INSTEAD_OF TO_CONFIG_VALUE TRANSACTION_ISOLATION_LEVEL TRANSACTION_MODES
+    TRANSACTION_MODE_LIST TRANSACTION_SNAPSHOT TRANSFORM_FOR_TYPE TRANSFORM_FROM_FUNC TRANSFORM_FUNC_OPTION
+    TRANSFORM_TO_FUNC TRANSITION_RELATION_NAME TRIGGER TRIGGER_EVENT_DELETE TRIGGER_EVENT_INSERT TRIGGER_EVENT_LIST
+    TRIGGER_EVENT_TRUNCATE TRIGGER_EVENT_UPDATE TRIGGER_REF TRIGGER_RENAME_TO TRIM_BOTH TRIM_EXPRS TRIM_EXPR_FROM
+    TRIM_FN TRIM_FROM TRIM_LEADING TRIM_TRAILING TRUNCATE TUPLE_EXPR TYPE_NAME TYPE_NAME_REF TYPE_RENAME_TO
+    UNBOUNDED_FOLLOWING UNBOUNDED_PRECEDING UNICODE_NORMAL_FORM UNION UNIQUE_CONSTRAINT UNLISTEN UNLOGGED UPDATE
+    UPDATE_TO USER USER_MAPPING_ROLE USING_CLAUSE USING_EXPR USING_EXPR_CLAUSE USING_INDEX USING_INDEX_NAME
+    USING_METHOD USING_ON_CLAUSE VACUUM VACUUM_OPTION VACUUM_OPTION_LIST VACUUM_OPTION_NAME VACUUM_OPTION_VALUE
+    VACUUM_OPTION_VALUE_NAME VALIDATE_CONSTRAINT VALIDATOR_CLAUSE VALUES VARCHAR_TYPE VARIANT VARIANT_LIST
+    VERTEX_OR_EDGE VERTEX_PATTERN VERTEX_TABLES VERTEX_TABLE_DEF VERTEX_TABLE_REF VIEW VIEW_REF VIEW_RENAME_TO VIRTUAL
+    VOLATILE WHEN_CLAUSE WHEN_CLAUSE_LIST WHEN_CONDITION WHERE_CLAUSE WHERE_CONDITION_CLAUSE WHERE_CURRENT_OF WINDOW
+    WINDOW_CLAUSE WINDOW_DEF WINDOW_FUNC_OPTION WINDOW_REF WINDOW_SPEC WITHIN_CLAUSE WITHOUT_FUNCTION WITHOUT_HOLD
+    WITHOUT_OIDS WITHOUT_OVERLAPS WITHOUT_TIMEZONE WITH_CHECK_EXPR_CLAUSE WITH_CHECK_OPTION WITH_CLAUSE WITH_DATA
+    WITH_FUNCTION WITH_HOLD WITH_INOUT WITH_NO_DATA WITH_OPTIONS WITH_ORDINALITY WITH_PARAMS WITH_TABLE WITH_TIES
+    WITH_TIMEZONE XML_ATTR XML_COLUMN_OPTION_LIST XML_CONTENT XML_DOCUMENT XML_ELEMENT_FN XML_EXISTS_FN XML_FOREST_FN
+    XML_NAMESPACE XML_NAMESPACE_LIST XML_NAMESPACE_PREFIX XML_PARSE_FN XML_PASSING_DOC XML_PASSING_MECH_BY_REF
+    XML_PASSING_MECH_BY_VALUE XML_PI_FN XML_PI_TARGET XML_ROOT_FN XML_ROW_PASSING_CLAUSE XML_SERIALIZE_FN XML_TABLE
+    XML_TABLE_COLUMN XML_TABLE_COLUMN_LIST XML_TABLE_FROM_ITEM XML_VERSION_EXPR XML_VERSION_NO_VALUE
+
+    // The end of the list.
+    __LAST
 ];

@@ -1,103 +1,18 @@
--- What holds of every token and of the tokens of every text.
-use Rattle.std.proofs.Common.{◌≡◌, ℕ, zero, suc, ◌+◌, ◌-◌, ◌<◌, ◌≤◌, Bool, true, false, List, [], ◌∷◌, length, get_or, drop, Option, None, Some, refl, sym, ap, subst, ◌∙◌, inl, inr, ◌⊎◌, ◌&&◌, eqb, cond, unwrap_or, arith}
-use Rattle.std.proofs.lemmas.Bool.{cases_lt}
-use Rattle.std.proofs.lemmas.Bool.Decides.{nat_tests}
-use Rattle.std.specs.List.{prefix_len}
-use Rattle.squawk_lexer.specs.declared.token.Strings.{Strings}
-use Rattle.squawk_lexer.specs.declared.lexer.Start.{Start}
-use Rattle.squawk_lexer.specs.declared.lexer.Start.TheVariants.{White, LineComment, BlockComment, String, QuotedIdent, Word, Parameter, Number, DotDot, Fraction, Symbol}
-use Rattle.squawk_lexer.specs.declared.word.Opening.{Opening}
-use Rattle.squawk_lexer.specs.declared.word.Opening.TheVariants.{National, Bit, Byte, Escape, UnicodeString, UnicodeIdent, Plain}
-use Rattle.squawk_lexer.specs.Classes.{is_white, is_id_start, is_id_cont, is_digit, is_hex_digit, byte_order_mark}
-use Rattle.squawk_lexer.specs.Runs.{run, junk, digits, hex, exponent, is_exponent_letter, is_sign, fraction_digits}
-use Rattle.squawk_lexer.specs.Kind.{Lexeme}
-use Rattle.squawk_lexer.specs.declared.token.Base.TheVariants.{Binary, Octal, Decimal, Hexadecimal}
-use Rattle.squawk_lexer.specs.Numbers.{number, decimal_from, fractional, with_exponent, numeric, int, based_int}
-use Rattle.squawk_lexer.specs.Token.{start, opening, begun, opened, lexeme_of, lexeme_at, token_at}
-use Rattle.squawk_lexer.specs.Cut.{tokens_from}
+-- What holds of the tokens of every text: they follow one another from its start to its end.
+use Rattle.std.proofs.Common.{◌≡◌, ℕ, zero, suc, ◌+◌, ◌-◌, ◌<◌, ◌≤◌, Bool, true, false, List, [], ◌∷◌, ◌++◌, length, drop, take, refl, sym, ap, subst, ◌∙◌, inl, inr, ◌⊎◌, ◌&&◌, arith, IsUtf8}
+use Rattle.std.proofs.lemmas.Bool.{cases_lt, false≢true}
+use Rattle.std.proofs.lemmas.List.{drop-drop, take-append-drop, length-drop}
+use Rattle.std.proofs.lemmas.Str.{encodes-append, encodes-chars, scalars-chars, is_utf8-from_IsUtf8, IsCharBoundary-at_seam, IsCharBoundary-from_rest, chars_from_encodes}
+use Rattle.std.proofs.Math.Seq.{drop-append_seam}
+use Rattle.std.proofs.Math.Utf8.{scalar, scalars}
+use Rattle.std.specs.Str.{chars, encode_utf8_all, IsCharBoundary}
 use Rattle.squawk_lexer.specs.declared.token.Token.{Token}
-use Rattle.squawk_lexer.proofs.Steps.{drop_read}
-use Rattle.squawk_lexer.proofs.StartSteps.{start_white}
-
-junk_on : (u : List ℕ) (i : ℕ) → i ≤ junk u i
-junk_on u i = by (is_id_start (get_or u i 0)) refl
-  where
-    by : (b : Bool) → is_id_start (get_or u i 0) ≡ b → i ≤ junk u i
-    by true e = rw e (omega arith)
-    by false e = rw e (omega arith)
-
-exponent_on : (u : List ℕ) (i : ℕ) → i + 1 ≤ exponent u i
-exponent_on u i = by (is_sign (get_or u (i + 1) 0) && is_digit (get_or u (i + 2) 0)) (is_digit (get_or u (i + 1) 0)) refl refl
-  where
-    by : (b d : Bool) → (is_sign (get_or u (i + 1) 0) && is_digit (get_or u (i + 2) 0)) ≡ b → is_digit (get_or u (i + 1) 0) ≡ d → i + 1 ≤ exponent u i
-    by true d e f = rw e (omega arith)
-    by false true e f = rw (e, f) (omega arith)
-    by false false e f = rw (e, f) (omega arith)
-
-fraction_on : (u : List ℕ) (i : ℕ) → i ≤ fraction_digits u i
-fraction_on u i = by (is_digit (get_or u i 0)) refl
-  where
-    by : (b : Bool) → is_digit (get_or u i 0) ≡ b → i ≤ fraction_digits u i
-    by true e = rw e (omega arith)
-    by false e = rw e (omega arith)
-
-with_exponent_on : (u : List ℕ) (i : ℕ) → i ≤ (with_exponent u i).end
-with_exponent_on u i = omega (arith, exponent_on u i, junk_on u (exponent u i))
-
-fractional_on : (u : List ℕ) (i : ℕ) → i ≤ (fractional u i).end
-fractional_on u i = by (is_exponent_letter (get_or u (fraction_digits u i) 0)) refl
-  where
-    by : (b : Bool) → is_exponent_letter (get_or u (fraction_digits u i) 0) ≡ b → i ≤ (fractional u i).end
-    by true e = rw e (omega (arith, fraction_on u i, with_exponent_on u (fraction_digits u i)))
-    by false e = rw e (omega (arith, fraction_on u i, junk_on u (fraction_digits u i)))
-
-either_on : (b : Bool) (x y : Lexeme) (n : ℕ) → n ≤ x.end → n ≤ y.end → n ≤ (cond b x y).end
-either_on true x y n p q = p
-either_on false x y n p q = q
-
-le_on : (a b c : ℕ) → a ≤ b → b ≤ c → a ≤ c
-le_on a b c p q = omega arith
-
-decimal_on : (u : List ℕ) (a : ℕ) → a ≤ (decimal_from u a).end
-decimal_on u a =
-    either_on _ (fractional u (a + 1)) _ a (le_on a (a + 1) _ (omega arith) (fractional_on u (a + 1)))
-    (either_on _ (with_exponent u a) (int Decimal false u a) a (with_exponent_on u a) (junk_on u a))
-
-number_on : (u : List ℕ) → 1 ≤ (number u).end
-number_on u =
-    either_on _ (based_int Binary u (digits u 2)) _ 1 (le_on 1 (digits u 2) _ (omega arith) (junk_on u (digits u 2)))
-    (either_on _ (based_int Octal u (digits u 2)) _ 1 (le_on 1 (digits u 2) _ (omega arith) (junk_on u (digits u 2)))
-    (either_on _ (based_int Hexadecimal u (hex u 2)) (decimal_from u (digits u 1)) 1 (le_on 1 (hex u 2) _ (omega arith) (junk_on u (hex u 2)))
-    (le_on 1 (digits u 1) _ (omega arith) (decimal_on u (digits u 1)))))
-
-opened_on : (s : Opening) (u : List ℕ) → 1 ≤ (opened s u).end
-opened_on National u = omega arith
-opened_on Bit u = omega arith
-opened_on Byte u = omega arith
-opened_on Escape u = omega arith
-opened_on UnicodeString u = omega arith
-opened_on UnicodeIdent u = omega arith
-opened_on Plain u = omega arith
-
-begun_on : (strings : Strings) (s : Start) (u : List ℕ) → 0 < length u → s ≡ start (get_or u 0 0) (get_or u 1 0) → 1 ≤ (begun strings s u).end
-begun_on strings White u h e = rw (drop_read u 0 h, start_white (get_or u 0 0) (get_or u 1 0) e) (omega arith)
-begun_on strings LineComment u h e = omega arith
-begun_on strings BlockComment u h e = omega arith
-begun_on strings String u h e = omega arith
-begun_on strings QuotedIdent u h e = omega arith
-begun_on strings Word u h e = opened_on (opening (get_or u 0 0) (get_or u 1 0) (get_or u 2 0)) u
-begun_on strings Parameter u h e = omega (arith, junk_on u (run is_digit u 1))
-begun_on strings Number u h e = number_on u
-begun_on strings DotDot u h e = omega arith
-begun_on strings Fraction u h e = fractional_on u 1
-begun_on strings Symbol u h e = omega arith
-
-pub lexeme_at_some : (strings : Strings) (s : Bool) (u : List ℕ) → 0 < length u → 0 < (lexeme_at strings s u).end
-lexeme_at_some strings s u h = by (s && eqb (get_or u 0 0) byte_order_mark) refl
-  where
-    by : (b : Bool) → (s && eqb (get_or u 0 0) byte_order_mark) ≡ b → 0 < (lexeme_at strings s u).end
-    by true e = rw e (omega arith)
-    by false e = rw e (begun_on strings (start (get_or u 0 0) (get_or u 1 0)) u h refl)
+use Rattle.squawk_lexer.specs.declared.token.Strings.{Strings}
+use Rattle.squawk_lexer.specs.Text.{bytes}
+use Rattle.squawk_lexer.specs.Token.{lexeme_at, token_at}
+use Rattle.squawk_lexer.specs.Cut.{tokens_from, Tiles}
+use Rattle.squawk_lexer.proofs.Chars.{length-encodes, length-bytes, bytes_none}
+use Rattle.squawk_lexer.proofs.TokenLaws.{lexeme_at_some, token_positive, token_never_eof}
 
 tokens_inside : (strings : Strings) (n : ℕ) (u : List ℕ) → tokens_from strings n false u ≡ tokens_from strings 0 false (drop n u)
 tokens_inside strings zero [] = refl
@@ -115,8 +30,100 @@ pub tokens_first : (strings : Strings) (s : Bool) (u : List ℕ) → 0 < length 
 tokens_first strings s [] h = absurd (omega arith)
 tokens_first strings s (c ∷ cs) h =
     ap (λ ts. token_at strings s (c ∷ cs) ∷ ts) (tokens_inside strings ((lexeme_at strings s (c ∷ cs)).end - 1) cs
-        ∙ ap (tokens_from strings 0 false) (drop_end (lexeme_at strings s (c ∷ cs)).end c cs (lexeme_at_some strings s (c ∷ cs) h)))
+    ∙ ap (tokens_from strings 0 false) (drop_end (lexeme_at strings s (c ∷ cs)).end c cs (lexeme_at_some strings s (c ∷ cs) h)))
 
 pub tokens_none : (strings : Strings) (s : Bool) (u : List ℕ) → length u ≡ 0 → tokens_from strings 0 s u ≡ []
 tokens_none strings s [] h = refl
 tokens_none strings s (c ∷ cs) h = absurd (omega arith)
+
+-- ---- the tokens of a text are no more than its characters
+
+pub tokens_few : (strings : Strings) (n : ℕ) (s : Bool) (u : List ℕ) → length (tokens_from strings n s u) ≤ length u
+tokens_few strings n s [] = omega arith
+tokens_few strings zero s (c ∷ cs) = omega (arith, tokens_few strings ((lexeme_at strings s (c ∷ cs)).end - 1) false cs)
+tokens_few strings (suc n) s (c ∷ cs) = omega (arith, tokens_few strings n s cs)
+
+-- ---- the tokens of a text tile it
+
+second : (a b : Bool) → (a && b) ≡ true → b ≡ true
+second true b e = e
+second false b e = absurd (false≢true e)
+
+scalars_drop : (n : ℕ) (cs : List ℕ) → scalars cs ≡ true → scalars (drop n cs) ≡ true
+scalars_drop zero [] e = e
+scalars_drop (suc n) [] e = e
+scalars_drop zero (c ∷ cs) e = e
+scalars_drop (suc n) (c ∷ cs) e = scalars_drop n cs (second (scalar c) (scalars cs) e)
+
+-- a text, cut behind its first n characters
+record IsCut (bs : List ℕ) (n : ℕ) : Type 0 where
+  utf8 : IsUtf8 (drop (bytes (take n (chars bs))) bs)
+  rest : chars (drop (bytes (take n (chars bs))) bs) ≡ drop n (chars bs)
+  boundary : IsCharBoundary bs (bytes (take n (chars bs)))
+
+cut_behind : (bs : List ℕ) (n : ℕ) → IsUtf8 bs → IsCut bs n
+cut_behind bs n utf8 =
+    let front = take n (chars bs) in
+    let back = drop n (chars bs) in
+    let both : bs ≡ encode_utf8_all front ++ encode_utf8_all back = sym (encodes-chars bs utf8) ∙ ap encode_utf8_all (sym (take-append-drop n (chars bs))) ∙ encodes-append front back in
+    let len : length (encode_utf8_all front) ≡ bytes front = length-encodes front in
+    let back_utf8 : IsUtf8 (encode_utf8_all back) = (back, (scalars_drop n (chars bs) (scalars-chars bs utf8), refl)) in
+    let same : drop (bytes front) bs ≡ encode_utf8_all back =
+    ap (λ m. drop m bs) (sym len) ∙ ap (drop (length (encode_utf8_all front))) both ∙ drop-append_seam (encode_utf8_all front) (encode_utf8_all back) in
+    let rest_utf8 : IsUtf8 (drop (bytes front) bs) = subst IsUtf8 (sym same) back_utf8 in
+    record {
+      utf8 = rest_utf8;
+      rest = sym (chars_from_encodes back (drop (bytes front) bs) rest_utf8 (sym same));
+      boundary = subst (IsCharBoundary bs) len (IsCharBoundary-at_seam bs (encode_utf8_all front) (encode_utf8_all back) both back_utf8);
+    }
+
+-- a token that begins between two characters ends so
+pub token_boundary : (strings : Strings) (s : Bool) (text : List ℕ) (at : ℕ) → at ≤ length text → IsUtf8 (drop at text)
+    → IsCharBoundary text (at + (token_at strings s (chars (drop at text))).len)
+token_boundary strings s text at within utf8 =
+    IsCharBoundary-from_rest text at _ within (cut_behind (drop at text) (lexeme_at strings s (chars (drop at text))).end utf8).boundary
+
+tiles_end : (strings : Strings) (s : Bool) (text : List ℕ) (at : ℕ) → at ≤ length text → IsUtf8 (drop at text)
+    → length (chars (drop at text)) ≡ 0 → Tiles text at (tokens_from strings 0 s (chars (drop at text)))
+tiles_end strings s text at within utf8 none =
+    let bytes_none : bytes (chars (drop at text)) ≡ 0 = bytes_none (chars (drop at text)) none in
+    let len = length-bytes (drop at text) (is_utf8-from_IsUtf8 (drop at text) utf8) in
+    rw (tokens_none strings s (chars (drop at text)) none) (omega (arith, len, length-drop at text, within))
+
+-- the tokens of what follows each place, where at most n characters do
+abbrev Tiled : ℕ → Strings → List ℕ → ℕ → Bool → Type 0
+Tiled n strings text at s =
+    at ≤ length text → IsUtf8 (drop at text) → length (chars (drop at text)) ≤ n → Tiles text at (tokens_from strings 0 s (chars (drop at text)))
+
+tiles : (n : ℕ) (strings : Strings) (text : List ℕ) (at : ℕ) (s : Bool) → Tiled n strings text at s
+tiles zero strings text at s within utf8 h = tiles_end strings s text at within utf8 (omega arith)
+tiles (suc n) strings text at s within utf8 h = by (λ next. tiles n strings text next false) (cases_lt 0 (length (chars (drop at text))))
+  where
+    token : Token
+    token = token_at strings s (chars (drop at text))
+
+    cut : IsCut (drop at text) (lexeme_at strings s (chars (drop at text))).end
+    cut = cut_behind (drop at text) (lexeme_at strings s (chars (drop at text))).end utf8
+
+    boundary : IsCharBoundary text (at + token.len)
+    boundary = token_boundary strings s text at within utf8
+
+    next : drop token.len (drop at text) ≡ drop (at + token.len) text
+    next = drop-drop token.len at text
+
+    rest : chars (drop (at + token.len) text) ≡ drop (lexeme_at strings s (chars (drop at text))).end (chars (drop at text))
+    rest = ap chars (sym next) ∙ cut.rest
+
+    by : ((next : ℕ) → Tiled n strings text next false) → (0 < length (chars (drop at text))) ⊎ (length (chars (drop at text)) ≤ 0)
+        → Tiles text at (tokens_from strings 0 s (chars (drop at text)))
+    by behind (inr none) = tiles_end strings s text at within utf8 (omega arith)
+    by behind (inl some) =
+        let less : length (chars (drop (at + token.len) text)) ≤ n =
+        omega (arith, ap length rest, length-drop (lexeme_at strings s (chars (drop at text))).end (chars (drop at text)), lexeme_at_some strings s (chars (drop at text)) some, h) in
+        let more = behind (at + token.len) boundary.0 (subst IsUtf8 next cut.utf8) less in
+        rw (tokens_first strings s (chars (drop at text)) some)
+        (token_positive strings s (chars (drop at text)) some, token_never_eof strings s (chars (drop at text)), boundary, rw rest at more)
+
+-- the tokens of a text tile it
+pub tokens_tile : (strings : Strings) (s : Bool) (text : List ℕ) → IsUtf8 text → Tiles text 0 (tokens_from strings 0 s (chars text))
+tokens_tile strings s text utf8 = tiles (length (chars text)) strings text 0 s (omega arith) utf8 (omega arith)

@@ -1,5 +1,5 @@
 -- Numbers, and parameters. A flag that names a place counts the bytes before it.
-use Rattle.std.specs.Prelude.{ℕ, ◌+◌, Bool, true, false, not, ◌&&◌, ◌||◌, ◌==◌, List, take, slice_index, Option, Some, None, if◌then◌else◌}
+use Rattle.std.specs.Prelude.{ℕ, ◌+◌, Bool, false, not, ◌&&◌, ◌||◌, ◌==◌, List, take, slice_index, Option, Some, None, if◌then◌else◌}
 use Rattle.squawk_lexer.specs.declared.token.Base.{Base}
 use Rattle.squawk_lexer.specs.declared.token.Base.TheVariants.{Binary, Octal, Decimal, Hexadecimal}
 use Rattle.squawk_lexer.specs.declared.token.LiteralKind.TheVariants.{Int, Numeric}

@@ -9,6 +9,8 @@ pub(crate) enum Class {
     IdCont,
     Digit,
     NotLineEnd,
+    TagCont,
+    NotDollar,
 }
 
 /// Space, TAB, LF, VT, FF or CR.
@@ -53,5 +55,7 @@ pub(crate) fn is_in(class: Class, c: char) -> bool
         Class::IdCont => is_id_cont(c),
         Class::Digit => is_digit(c),
         Class::NotLineEnd => c != '\n' && c != '\r',
+        Class::TagCont => is_id_cont(c) && c != '$',
+        Class::NotDollar => c != '$',
     }
 }

@@ -59,7 +59,7 @@ enum Start {
     String,
     QuotedIdent,
     Word,
-    Parameter,
+    Dollar,
     Number,
     DotDot,
     Fraction,
@@ -77,7 +77,7 @@ fn start_of(first: char, second: char) -> Start
         ('\'', _) => Start::String,
         ('"', _) => Start::QuotedIdent,
         (c, _) if is_id_start(c) => Start::Word,
-        ('$', _) => Start::Parameter,
+        ('$', _) => Start::Dollar,
         (c, _) if is_digit(c) => Start::Number,
         ('.', '.') => Start::DotDot,
         ('.', d) if is_digit(d) => Start::Fraction,
@@ -118,7 +118,7 @@ impl<'a> Cursor<'a> {
             }
             Start::QuotedIdent => self.quoted_ident(false),
             Start::Word => self.word(first),
-            Start::Parameter => self.parameter(),
+            Start::Dollar => self.dollar(),
             Start::Number => self.number(first),
             Start::DotDot => {
                 self.bump();

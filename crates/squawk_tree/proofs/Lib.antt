@@ -4,3 +4,4 @@ pub mod StatementLen
 pub mod PartsLemmas
 pub mod ChildSteps
 pub mod TreeSteps
+pub mod ChildLaws

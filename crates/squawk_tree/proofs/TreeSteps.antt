@@ -1,5 +1,5 @@
 -- The steps of a tree are balanced, and their tokens cover the text.
-use Rattle.std.proofs.Common.{◌≡◌, ℕ, zero, suc, ◌+◌, ◌<◌, Bool, true, false, ◌&&◌, nat_lt, List, [], ◌∷◌, ◌++◌, length, ap, refl, sym, ◌∙◌, subst, append_assoc, arith}
+use Rattle.std.proofs.Common.{◌≡◌, ℕ, zero, suc, ◌+◌, ◌<◌, Bool, true, false, ◌&&◌, nat_lt, List, [], ◌∷◌, ◌++◌, length, ap, refl, sym, ◌∙◌, subst, append_assoc, arith, rules}
 use Rattle.std.proofs.lemmas.Bool.Decides.{nat_tests}
 use Rattle.std.proofs.lemmas.List.{append-nil}
 use Rattle.std.specs.Prelude.{Option, Some, None, IsTrue}
@@ -137,5 +137,5 @@ parse_of-lawful strings d text h =
       balanced = tree_steps-balanced d ls;
       no_errors = tree_steps-no_errors d ls;
       tiled = ap (λ rs. tiles 0 rs (length text)) (leaves-tree_steps d ls) ∙ tiles-laid text 0 (tokens strings (chars text)) h;
-      errors_within = ?;
+      errors_within = search rules;
     }

@@ -1,10 +1,16 @@
 -- How the tokens of a text are divided into the children of the root, by their forms: trivia is a leaf, and a semicolon, terminator or
 -- command a node by itself; any other form begins a statement, which ends with the next semicolon or terminator, else with the last
 -- form that is no trivia.
-use Rattle.std.specs.Prelude.{ℕ, zero, suc, ◌==◌, ◌&&◌, Bool, true, false, List, [], ◌∷◌, map, take, Option, Some, None, option_map, if◌then◌else◌}
-use Rattle.squawk_lexer.specs.Cut.{Form, Trivia, Semicolon, Terminator, Command, Open, Close, Other, is_trivia}
+use Rattle.std.specs.Prelude.{ℕ, zero, suc, ◌==◌, ◌&&◌, Bool, true, false, ◌+◌, List, [], ◌∷◌, map, take, Option, Some, None, option_map, if◌then◌else◌}
+use Rattle.squawk_lexer.specs.Cut.{Form, Trivia, Semicolon, Terminator, Command, Open, Close, Other, form_of, is_trivia}
+use Rattle.squawk_lexer.specs.declared.token.Token.{Token}
+use Rattle.squawk_tree.specs.Steps.{RootChild, Leaf, Node}
 use Rattle.squawk_tree.specs.declared.division.Division.{Division}
 use Rattle.squawk_tree.specs.declared.division.Division.TheVariants.{Flat, Grouped}
+
+-- the forms of some tokens
+abbrev pub forms_of : List Token → List Form
+forms_of ts = map (λ (t : Token). form_of t.kind) ts
 
 -- whether a semicolon ends the statement in which n groups are open
 abbrev pub ends_at_semicolon : Division → ℕ → Bool
@@ -106,3 +112,7 @@ is_lone Command = true
 is_lone Open = false
 is_lone Close = false
 is_lone Other = false
+
+-- a child as it stands under the root
+abbrev pub root_child : Child → RootChild
+root_child c = if c.is_node then Node (c.more + 1) else Leaf

@@ -1,6 +1,5 @@
 -- The parse of a text.
 use Rattle.std.specs.Prelude.{ℕ, ◌+◌, ◌==◌, List, [], ◌∷◌, ◌++◌, length, Option, Some, None, if◌then◌else◌}
-use Rattle.std.specs.List.{sum_by}
 use Rattle.std.specs.Str.{chars}
 use Rattle.squawk_events.specs.declared.steps.StrStep.{StrStep}
 use Rattle.squawk_events.specs.declared.steps.StrStep.TheVariants.{Enter, Token, Exit, Error}
@@ -16,7 +15,8 @@ use Rattle.squawk_tree.specs.declared.leaves.Leaf.{Leaf}
 
 -- the bytes of some leaves
 abbrev pub leaves_len : List Leaf → ℕ
-leaves_len leaves = sum_by (λ (l : Leaf). l.len) leaves
+leaves_len [] = 0
+leaves_len (l ∷ ls) = l.len + leaves_len ls
 
 -- the steps of leaves, the first of which begins at a place
 abbrev pub token_steps : ℕ → List Leaf → List StrStep

@@ -37,3 +37,31 @@ leaves (Error number at ∷ xs) = leaves xs
 abbrev pub tiles : ℕ → List (ℕ × ℕ) → ℕ → Bool
 tiles at [] end = at == end
 tiles at (r ∷ rs) end = r.0 == at && (nat_lt at r.1 && tiles r.1 rs end)
+
+-- the ranges from a place through ends that follow one another
+abbrev pub ranges_through : ℕ → List ℕ → List (ℕ × ℕ)
+ranges_through at [] = []
+ranges_through at (end ∷ ends) = (at, end) ∷ ranges_through end ends
+
+-- a child of the root: a leaf, or a node and its number of tokens
+pub data RootChild : Type 0 where
+  Leaf : RootChild
+  Node : (tokens : ℕ) → RootChild
+
+-- the root's children from here on, where d nodes are open inside the root and the outermost of them has n tokens so far
+abbrev pub root_children_from : (d n : ℕ) → List StrStep → List RootChild
+root_children_from d n [] = []
+root_children_from zero n (Token kind start end ∷ xs) = Leaf ∷ root_children_from 0 0 xs
+root_children_from zero n (Enter kind ∷ xs) = root_children_from 1 0 xs
+root_children_from zero n (Exit ∷ xs) = []
+root_children_from zero n (Error number at ∷ xs) = root_children_from 0 0 xs
+root_children_from (suc d) n (Token kind start end ∷ xs) = root_children_from (suc d) (n + 1) xs
+root_children_from (suc d) n (Enter kind ∷ xs) = root_children_from (suc (suc d)) n xs
+root_children_from (suc zero) n (Exit ∷ xs) = Node n ∷ root_children_from 0 0 xs
+root_children_from (suc (suc d)) n (Exit ∷ xs) = root_children_from (suc d) n xs
+root_children_from (suc d) n (Error number at ∷ xs) = root_children_from (suc d) n xs
+
+-- the children of the root: what stands directly inside the first Enter
+abbrev pub root_children : List StrStep → List RootChild
+root_children (Enter kind ∷ xs) = root_children_from 0 0 xs
+root_children xs = []

@@ -1,7 +1,7 @@
 //! How a text's tokens are divided into the children of the root.
 ghost use Rattle.std.specs.Prelude.{◌≡◌, ◌≤◌, ◌<◌, ◌+◌, ◌^◌, length, map};
 ghost use Rattle.squawk_lexer.specs.Cut.{is_trivia};
-ghost use Rattle.squawk_tree.specs.Children.{ends, groups_after, statement, closing, first_of, is_lone, first_groups};
+ghost use Rattle.squawk_tree.specs.Children.{ends, groups_after, statement, closing, first_of, is_lone};
 ghost use Rattle.squawk_tree.specs.Leaf.{form, leaf_form};
 
 use crate::leaves::Leaf;

@@ -1,7 +1,7 @@
 //! The leaves of a text: its tokens with their syntax kinds.
 ghost use Rattle.std.specs.Prelude.{◌≡◌, ◌^◌, ◌<◌, length, IfOk};
 ghost use Rattle.std.specs.Str.{chars};
-ghost use Rattle.squawk_lexer.specs.Cut.{tokens};
+ghost use Rattle.squawk_lexer.specs.Cut.{tokens, Tiles};
 ghost use Rattle.squawk_tree.specs.Leaf.{leaf_kind, literal_kind, word_kind};
 ghost use Rattle.squawk_tree.specs.Leaves.{leaves_of};
 
@@ -97,7 +97,8 @@ pub(crate) fn leaves_of(
     strings: Strings,
 ) -> Result<Vec<Leaf>, AllocError>
     requires { length text.now < 2 ^ 32 }
-    ensures { IfOk result (λ leaves. leaves.items ≡ leaves_of text.now 0 (tokens strings (chars text.now))) }
+    ensures leaves { IfOk result (λ leaves. leaves.items ≡ leaves_of text.now 0 (tokens strings (chars text.now))) }
+    ensures tiles { Tiles text.now 0 (tokens strings (chars text.now)) }
 {
     let mut leaves = Vec::new(alloc);
     let mut at = 0;

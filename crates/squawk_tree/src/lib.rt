@@ -9,3 +9,6 @@ mod spans;
 
 pub use parse::Parse;
 pub use source::parse_source;
+
+#[cfg(test)]
+mod tests;

@@ -1,9 +1,12 @@
 //! The tree of a text's statements.
-ghost use Rattle.std.specs.Prelude.{◌≡◌, ◌≤◌, ◌<◌, ◌+◌, ◌++◌, ◌^◌, ◌↔◌, length, IfOk, OnOk, IsErrOf};
+ghost use Rattle.std.specs.Prelude.{◌≡◌, ◌<◌, ◌+◌, ◌++◌, ◌^◌, ◌↔◌, length, map, IfOk, OnOk, IsErrOf};
+ghost use Rattle.std.specs.Str.{chars};
+ghost use Rattle.squawk_lexer.specs.Cut.{tokens, token_ends};
 ghost use Rattle.squawk_lexer.specs.declared.token.Strings.TheVariants.{Standard};
-ghost use Rattle.squawk_tree.specs.Children.{parts};
+ghost use Rattle.squawk_tree.specs.Children.{children, forms_of, parts, root_child};
 ghost use Rattle.squawk_tree.specs.Leaf.{leaf_form};
 ghost use Rattle.squawk_tree.specs.ParseOf.{leaves_len, token_steps, node_of, child_steps, children_steps, tree_steps, parse_of};
+ghost use Rattle.squawk_tree.specs.Steps.{leaves, ranges_through, root_children};
 ghost use Rattle.squawk_tree.specs.Tree.{IsTree};
 ghost use Rattle.squawk_tree.specs.declared.division.Division.TheVariants.{Flat};
 
@@ -89,11 +92,7 @@ fn push_children(
 }
 
 /// The steps of the tree of these leaves.
-fn steps_of(
-    alloc: Global,
-    division: Division,
-    leaves: &[Leaf],
-) -> Result<Vec<StrStep>, AllocError>
+fn steps_of(alloc: Global, division: Division, leaves: &[Leaf]) -> Result<Vec<StrStep>, AllocError>
     requires { leaves_len leaves.now < 2 ^ 32 }
     ensures { IfOk result (λ steps. steps.items ≡ tree_steps division leaves.now) }
 {
@@ -137,6 +136,9 @@ fn parse_divided(
 pub fn parse_source(alloc: Global, text: &str) -> Result<Parse, FrontError>
     ensures tree { IfOk result (λ tree. tree ≡ parse_of Standard Flat text.now) }
     ensures lawful { IfOk result IsTree }
+    // The leaves are the tokens of the text, and the root's children those of the division of the tokens' forms.
+    ensures leaves { IfOk result (λ tree. leaves tree.steps ≡ ranges_through 0 (token_ends 0 (tokens Standard (chars text.now)))) }
+    ensures children { IfOk result (λ tree. root_children tree.steps ≡ map root_child (children Flat (forms_of (tokens Standard (chars text.now))))) }
     ensures too_long { IsErrOf result FrontError.TooLong ↔ (LIMIT < length text.now) }
 {
     parse_divided(alloc, text, Strings::Standard, Division::Flat)

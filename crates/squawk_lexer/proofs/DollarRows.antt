@@ -1,0 +1,47 @@
+-- Worked rows of what a `$` begins, computed by its definition.
+use Rattle.std.proofs.Common.{◌≡◌, ℕ, Bool, true, false, refl, codes}
+use Rattle.squawk_lexer.specs.Kind.{Lexeme, lexeme, literal}
+use Rattle.squawk_lexer.specs.declared.token.TokenKind.TheVariants.{PositionalParam}
+use Rattle.squawk_lexer.specs.declared.token.LiteralKind.TheVariants.{DollarQuotedString}
+use Rattle.squawk_lexer.specs.Dollar.{dollar}
+
+-- a dollar string, whether it is terminated, and its end
+string : Bool → ℕ → Lexeme
+string terminated end = literal (DollarQuotedString terminated) end
+
+two_delimiters : dollar (codes "$$$$") ≡ string true 4
+unfolding string
+two_delimiters = refl
+
+no_text : dollar (codes "$$") ≡ string false 2
+unfolding string
+no_text = refl
+
+-- the delimiters share no `$`
+shared : dollar (codes "$a$a$") ≡ string false 5
+unfolding string
+shared = refl
+
+closed : dollar (codes "$a$b$a$;") ≡ string true 7
+unfolding string
+closed = refl
+
+other_tags : dollar (codes "$foo$hello$world$bar$") ≡ string false 21
+unfolding string
+other_tags = refl
+
+longer_tag : dollar (codes "$a$ $ab$ $a $a$ x") ≡ string true 15
+unfolding string
+longer_tag = refl
+
+digit_behind : dollar (codes "$1$") ≡ lexeme (PositionalParam 2) 2
+digit_behind = refl
+
+junk_behind : dollar (codes "$x;") ≡ lexeme (PositionalParam 1) 2
+junk_behind = refl
+
+lone : dollar (codes "$") ≡ lexeme (PositionalParam 1) 1
+lone = refl
+
+digits_and_junk : dollar (codes "$12a$b c") ≡ lexeme (PositionalParam 3) 6
+digits_and_junk = refl

@@ -1,0 +1,176 @@
+-- What holds of every token: it has a character at least, and is no `Eof`.
+use Rattle.std.proofs.Common.{◌≡◌, ℕ, zero, suc, ◌+◌, ◌<◌, ◌≤◌, Bool, true, false, List, [], ◌∷◌, length, get_or, take, None, refl, sym, ap, ◌∙◌, ◌&&◌, eqb, cond, arith}
+use Rattle.std.proofs.lemmas.Bool.{false≢true}
+use Rattle.std.proofs.lemmas.Bool.Decides.{nat_tests}
+use Rattle.std.proofs.lemmas.List.Sums.{sum_by-cons}
+use Rattle.std.proofs.lemmas.Str.{len_utf8_bounds}
+use Rattle.std.specs.Char.{len_utf8}
+use Rattle.squawk_lexer.specs.Text.{bytes}
+use Rattle.squawk_lexer.specs.declared.token.Strings.{Strings}
+use Rattle.squawk_lexer.specs.declared.lexer.Start.{Start}
+use Rattle.squawk_lexer.specs.declared.lexer.Start.TheVariants.{White, LineComment, BlockComment, String, QuotedIdent, Word, Dollar, Number, DotDot, Fraction, Symbol}
+use Rattle.squawk_lexer.specs.declared.word.Opening.{Opening}
+use Rattle.squawk_lexer.specs.declared.word.Opening.TheVariants.{National, Bit, Byte, Escape, UnicodeString, UnicodeIdent, Plain}
+use Rattle.squawk_lexer.specs.Classes.{is_id_start, is_digit, byte_order_mark}
+use Rattle.squawk_lexer.specs.Runs.{run, junk, digits, hex, exponent, is_exponent_letter, is_sign, fraction_digits}
+use Rattle.squawk_lexer.specs.Kind.{Lexeme, lexeme}
+use Rattle.squawk_lexer.specs.declared.token.Base.TheVariants.{Binary, Octal, Decimal, Hexadecimal}
+use Rattle.squawk_lexer.specs.Numbers.{number, decimal_from, fractional, with_exponent, numeric, int, based_int, parameter}
+use Rattle.squawk_lexer.specs.Dollar.{opens_dollar, dollar_string}
+use Rattle.squawk_lexer.specs.Symbols.{symbol}
+use Rattle.squawk_lexer.specs.Token.{start, opening, begun, opened, lexeme_of, lexeme_at, token_at}
+use Rattle.squawk_lexer.specs.declared.token.TokenKind.{TokenKind}
+use Rattle.squawk_lexer.specs.declared.token.TokenKind.TheVariants as kinds
+use Rattle.squawk_lexer.proofs.Steps.{drop_read}
+use Rattle.squawk_lexer.proofs.StartSteps.{start_white}
+
+junk_on : (u : List ℕ) (i : ℕ) → i ≤ junk u i
+junk_on u i = by (is_id_start (get_or u i 0)) refl
+  where
+    by : (b : Bool) → is_id_start (get_or u i 0) ≡ b → i ≤ junk u i
+    by true e = rw e (omega arith)
+    by false e = rw e (omega arith)
+
+exponent_on : (u : List ℕ) (i : ℕ) → i + 1 ≤ exponent u i
+exponent_on u i = by (is_sign (get_or u (i + 1) 0) && is_digit (get_or u (i + 2) 0)) (is_digit (get_or u (i + 1) 0)) refl refl
+  where
+    by : (b d : Bool) → (is_sign (get_or u (i + 1) 0) && is_digit (get_or u (i + 2) 0)) ≡ b → is_digit (get_or u (i + 1) 0) ≡ d → i + 1 ≤ exponent u i
+    by true d e f = rw e (omega arith)
+    by false true e f = rw (e, f) (omega arith)
+    by false false e f = rw (e, f) (omega arith)
+
+fraction_on : (u : List ℕ) (i : ℕ) → i ≤ fraction_digits u i
+fraction_on u i = by (is_digit (get_or u i 0)) refl
+  where
+    by : (b : Bool) → is_digit (get_or u i 0) ≡ b → i ≤ fraction_digits u i
+    by true e = rw e (omega arith)
+    by false e = rw e (omega arith)
+
+with_exponent_on : (u : List ℕ) (i : ℕ) → i ≤ (with_exponent u i).end
+with_exponent_on u i = omega (arith, exponent_on u i, junk_on u (exponent u i))
+
+fractional_on : (u : List ℕ) (i : ℕ) → i ≤ (fractional u i).end
+fractional_on u i = by (is_exponent_letter (get_or u (fraction_digits u i) 0)) refl
+  where
+    by : (b : Bool) → is_exponent_letter (get_or u (fraction_digits u i) 0) ≡ b → i ≤ (fractional u i).end
+    by true e = rw e (omega (arith, fraction_on u i, with_exponent_on u (fraction_digits u i)))
+    by false e = rw e (omega (arith, fraction_on u i, junk_on u (fraction_digits u i)))
+
+either_on : (b : Bool) (x y : Lexeme) (n : ℕ) → n ≤ x.end → n ≤ y.end → n ≤ (cond b x y).end
+either_on true x y n p q = p
+either_on false x y n p q = q
+
+le_on : (a b c : ℕ) → a ≤ b → b ≤ c → a ≤ c
+le_on a b c p q = omega arith
+
+decimal_on : (u : List ℕ) (a : ℕ) → a ≤ (decimal_from u a).end
+decimal_on u a =
+    either_on _ (fractional u (a + 1)) _ a (le_on a (a + 1) _ (omega arith) (fractional_on u (a + 1)))
+    (either_on _ (with_exponent u a) (int Decimal false u a) a (with_exponent_on u a) (junk_on u a))
+
+number_on : (u : List ℕ) → 1 ≤ (number u).end
+number_on u =
+    either_on _ (based_int Binary u (digits u 2)) _ 1 (le_on 1 (digits u 2) _ (omega arith) (junk_on u (digits u 2)))
+    (either_on _ (based_int Octal u (digits u 2)) _ 1 (le_on 1 (digits u 2) _ (omega arith) (junk_on u (digits u 2)))
+    (either_on _ (based_int Hexadecimal u (hex u 2)) (decimal_from u (digits u 1)) 1 (le_on 1 (hex u 2) _ (omega arith) (junk_on u (hex u 2)))
+    (le_on 1 (digits u 1) _ (omega arith) (decimal_on u (digits u 1)))))
+
+opened_on : (s : Opening) (u : List ℕ) → 1 ≤ (opened s u).end
+opened_on National u = omega arith
+opened_on Bit u = omega arith
+opened_on Byte u = omega arith
+opened_on Escape u = omega arith
+opened_on UnicodeString u = omega arith
+opened_on UnicodeIdent u = omega arith
+opened_on Plain u = omega arith
+
+begun_on : (strings : Strings) (s : Start) (u : List ℕ) → 0 < length u → s ≡ start (get_or u 0 0) (get_or u 1 0) → 1 ≤ (begun strings s u).end
+begun_on strings White u h e = rw (drop_read u 0 h, start_white (get_or u 0 0) (get_or u 1 0) e) (omega arith)
+begun_on strings LineComment u h e = omega arith
+begun_on strings BlockComment u h e = omega arith
+begun_on strings String u h e = omega arith
+begun_on strings QuotedIdent u h e = omega arith
+begun_on strings Word u h e = opened_on (opening (get_or u 0 0) (get_or u 1 0) (get_or u 2 0)) u
+begun_on strings Dollar u h e = either_on (opens_dollar u) (dollar_string u) (parameter u) 1 (omega arith) (omega (arith, junk_on u (run is_digit u 1)))
+begun_on strings Number u h e = number_on u
+begun_on strings DotDot u h e = omega arith
+begun_on strings Fraction u h e = fractional_on u 1
+begun_on strings Symbol u h e = omega arith
+
+-- a token has a character
+pub lexeme_at_some : (strings : Strings) (s : Bool) (u : List ℕ) → 0 < length u → 0 < (lexeme_at strings s u).end
+lexeme_at_some strings s u h = by (s && eqb (get_or u 0 0) byte_order_mark) refl
+  where
+    by : (b : Bool) → (s && eqb (get_or u 0 0) byte_order_mark) ≡ b → 0 < (lexeme_at strings s u).end
+    by true e = rw e (omega arith)
+    by false e = rw e (begun_on strings (start (get_or u 0 0) (get_or u 1 0)) u h refl)
+
+-- and a byte
+pub token_positive : (strings : Strings) (s : Bool) (u : List ℕ) → 0 < length u → 0 < (token_at strings s u).len
+token_positive strings s u h = some (lexeme_at strings s u).end u (lexeme_at_some strings s u h) h
+  where
+    some : (n : ℕ) (u : List ℕ) → 0 < n → 0 < length u → 0 < bytes (take n u)
+    some n [] p h = absurd (omega arith)
+    some zero (c ∷ cs) p h = absurd (omega arith)
+    some (suc n) (c ∷ cs) p h = omega (arith, sum_by-cons len_utf8 c (take n cs), len_utf8_bounds c)
+
+-- ---- no token is `Eof`
+
+abbrev is_eof : TokenKind → Bool
+is_eof kinds.Eof = true
+is_eof _ = false
+
+record IsReal (x : Lexeme) : Type 0 where
+  real : is_eof x.kind ≡ false
+
+either_real : (b : Bool) (x y : Lexeme) → IsReal x → IsReal y → IsReal (cond b x y)
+either_real true x y p q = p
+either_real false x y p q = q
+
+symbol_real : (c : ℕ) → is_eof (symbol c) ≡ false
+unfolding symbol
+symbol_real c = grind (arith, nat_tests)
+
+fractional_real : (u : List ℕ) (i : ℕ) → IsReal (fractional u i)
+fractional_real u i =
+    either_real (is_exponent_letter (get_or u (fraction_digits u i) 0)) (with_exponent u (fraction_digits u i)) (numeric None u (fraction_digits u i)) (record { real = refl }) (record { real = refl })
+
+decimal_real : (u : List ℕ) (a : ℕ) → IsReal (decimal_from u a)
+decimal_real u a =
+    either_real _ (fractional u (a + 1)) _ (fractional_real u (a + 1))
+    (either_real _ (with_exponent u a) (int Decimal false u a) (record { real = refl }) (record { real = refl }))
+
+number_real : (u : List ℕ) → IsReal (number u)
+number_real u =
+    either_real _ (based_int Binary u (digits u 2)) _ (record { real = refl })
+    (either_real _ (based_int Octal u (digits u 2)) _ (record { real = refl })
+    (either_real _ (based_int Hexadecimal u (hex u 2)) (decimal_from u (digits u 1)) (record { real = refl }) (decimal_real u (digits u 1))))
+
+opened_real : (s : Opening) (u : List ℕ) → IsReal (opened s u)
+opened_real National u = record { real = refl }
+opened_real Bit u = record { real = refl }
+opened_real Byte u = record { real = refl }
+opened_real Escape u = record { real = refl }
+opened_real UnicodeString u = record { real = refl }
+opened_real UnicodeIdent u = record { real = refl }
+opened_real Plain u = record { real = refl }
+
+begun_real : (strings : Strings) (s : Start) (u : List ℕ) → IsReal (begun strings s u)
+begun_real strings White u = record { real = refl }
+begun_real strings LineComment u = record { real = refl }
+begun_real strings BlockComment u = record { real = refl }
+begun_real strings String u = record { real = refl }
+begun_real strings QuotedIdent u = record { real = refl }
+begun_real strings Word u = opened_real (opening (get_or u 0 0) (get_or u 1 0) (get_or u 2 0)) u
+begun_real strings Dollar u = either_real (opens_dollar u) (dollar_string u) (parameter u) (record { real = refl }) (record { real = refl })
+begun_real strings Number u = number_real u
+begun_real strings DotDot u = record { real = refl }
+begun_real strings Fraction u = fractional_real u 1
+begun_real strings Symbol u = record { real = symbol_real (get_or u 0 0) }
+
+pub token_never_eof : (strings : Strings) (s : Bool) (u : List ℕ) → (token_at strings s u).kind ≡ kinds.Eof → ⊥
+token_never_eof strings s u e =
+    let is_real : IsReal (lexeme_at strings s u) =
+    either_real (s && eqb (get_or u 0 0) byte_order_mark) (lexeme kinds.Whitespace 1) (lexeme_of strings u) (record { real = refl })
+    (begun_real strings (start (get_or u 0 0) (get_or u 1 0)) u) in
+    false≢true (sym is_real.real ∙ ap is_eof e)

@@ -1,0 +1,20 @@
+use Rattle.std.proofs.Common.{◌<◌, length, arith, subst, IsUtf8}
+use Rattle.std.specs.Str.{chars}
+use Rattle.squawk_lexer.proofs.Chars.{some_chars}
+use Rattle.squawk_lexer.proofs.TokenLaws.{token_positive, token_never_eof}
+use Rattle.squawk_lexer.proofs.CutLaws.{token_boundary}
+use Rattle.squawk_lexer.proofs.lexer.cut_at_in.Goals as goal
+
+has_chars : (c : goal.After-result-1) → 0 < length (chars c.range_from.result.now)
+has_chars c = some_chars c.range_from.result.now c.range_from.utf8 (omega (arith, c.range_from.ensures.len, c.requires.inside))
+
+pub returns-clause-positive : goal.returns-clause-positive
+returns-clause-positive c = rw c.cut.ensures.token (token_positive c.args.strings _ (chars c.range_from.result.now) (has_chars c))
+
+pub returns-clause-ends_between : goal.returns-clause-ends_between
+returns-clause-ends_between c =
+    rw (c.cut.ensures.token, c.range_from.ensures.value)
+    (token_boundary c.args.strings _ c.args.input.now c.args.at c.requires.boundary.0 (subst IsUtf8 c.range_from.ensures.value c.range_from.utf8))
+
+pub returns-clause-never_eof : goal.returns-clause-never_eof
+returns-clause-never_eof c = λ e. token_never_eof c.args.strings _ (chars c.range_from.result.now) (rw c.cut.ensures.token at e)

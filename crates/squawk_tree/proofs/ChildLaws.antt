@@ -1,0 +1,169 @@
+-- The children of the tree's root are those of the division, and its leaves are the tokens of the text.
+use Rattle.std.proofs.Common.{◌≡◌, ℕ, zero, suc, ◌+◌, ◌==◌, ◌≤◌, Bool, true, false, cond, ◌&&◌, List, [], ◌∷◌, ◌++◌, length, take, drop, map, ap, refl, sym, subst, ◌∙◌, append_assoc, arith}
+use Rattle.std.proofs.lemmas.List.{length-take-le, length-map}
+use Rattle.std.specs.Prelude.{Option, Some, None, option_map, Result, Ok, Err, IfOk}
+use Rattle.std.specs.Str.{chars, str_eq_ignore_ascii_case}
+use Rattle.squawk_events.specs.declared.steps.StrStep.{StrStep}
+use Rattle.squawk_events.specs.declared.steps.StrStep.TheVariants.{Enter, Token, Exit, Error}
+use Rattle.squawk_lexer.specs.Cut.{Form, Trivia, Semicolon, Terminator, Command, Open, Close, Other, form_of, is_trivia, tokens, token_ends}
+use Rattle.squawk_lexer.specs.declared.token.Strings.{Strings}
+use Rattle.squawk_lexer.specs.declared.token.Token as lexer
+use Rattle.squawk_lexer.specs.declared.token.TokenKind.{TokenKind}
+use Rattle.squawk_lexer.specs.declared.token.TokenKind.TheVariants as token
+use Rattle.squawk_lexer.specs.declared.token.LiteralKind.{LiteralKind}
+use Rattle.squawk_lexer.specs.declared.token.LiteralKind.TheVariants.{Int, Numeric, Str, NationalStr, ByteStr, BitStr, DollarQuotedString, UnicodeEscStr, EscStr}
+use Rattle.squawk_tree.specs.Children.{Child, ends, groups_after, closing, solid_len, statement, first, children_from, children, parts_from, parts, more_of, root_child, forms_of}
+use Rattle.squawk_tree.specs.Leaf.{form, leaf_form, leaf_kind, literal_kind, word_kind}
+use Rattle.squawk_tree.specs.Leaves.{leaves_of}
+use Rattle.squawk_tree.specs.ParseOf.{leaves_len, token_steps, enclosed, node_by, node_of, statement_node, child_steps, children_steps, tree_steps, parse_of}
+use Rattle.squawk_tree.specs.Steps.{RootChild, Leaf, Node, leaves, root_children_from, root_children, ranges_through}
+use Rattle.squawk_tree.specs.Tree.{Tree}
+use Rattle.squawk_tree.specs.declared.division.Division.{Division}
+use Rattle.squawk_tree.specs.declared.leaves.Leaf as leaf
+use Rattle.squawk_tree.proofs.TreeSteps.{laid, leaves-tree_steps}
+
+-- the tokens of leaves inside a node are counted
+in_node : (d n at : ℕ) (ls : List leaf.Leaf) (rest : List StrStep) → root_children_from (suc d) n (token_steps at ls ++ rest) ≡ root_children_from (suc d) (n + length ls) rest
+in_node d n at [] rest = ap (λ m. root_children_from (suc d) m rest) (let h : n ≡ n + 0 = omega arith in h)
+in_node d n at (l ∷ ls) rest =
+    in_node d (n + 1) (at + l.len) ls rest ∙ ap (λ m. root_children_from (suc d) m rest) (let h : n + 1 + length ls ≡ n + suc (length ls) = omega arith in h)
+
+-- a node is a child of the root
+one_node : (k at : ℕ) (ls : List leaf.Leaf) (rest : List StrStep) → root_children_from 0 0 (enclosed (Some k) (token_steps at ls) ++ rest) ≡ Node (length ls) ∷ root_children_from 0 0 rest
+one_node k at ls rest =
+    ap (root_children_from 1 0) (append_assoc (token_steps at ls) (Exit ∷ []) rest) ∙ in_node 0 0 at ls (Exit ∷ rest)
+    ∙ ap (λ m. Node m ∷ root_children_from 0 0 rest) (let h : 0 + length ls ≡ length ls = omega arith in h)
+
+solid_len-le : (fs : List Form) → solid_len fs ≤ length fs
+solid_len-le [] = omega arith
+solid_len-le (f ∷ fs) = by (is_trivia f && solid_len fs == 0) (solid_len-le fs)
+  where
+    by : (b : Bool) → solid_len fs ≤ length fs → cond b 0 (suc (solid_len fs)) ≤ suc (length fs)
+    by true h = omega arith
+    by false h = omega arith
+
+Within : Option ℕ → ℕ → Type 0
+Within None n = Unit {0}
+Within (Some m) n = m ≤ n
+
+closing-le : (d : Division) (g : ℕ) (fs : List Form) → Within (closing d g fs) (length fs)
+unfolding Within
+closing-le d g [] = tt
+closing-le d g (f ∷ fs) = by (ends d g f) (closing d (groups_after g f) fs) (closing-le d (groups_after g f) fs)
+  where
+    by : (b : Bool) (found : Option ℕ) → Within found (length fs) → Within (cond b (Some 1) (option_map suc found)) (suc (length fs))
+    by true found h = omega arith
+    by false None h = tt
+    by false (Some m) h = omega arith
+
+statement-le : (found : Option ℕ) (fs : List Form) → Within found (length fs) → (statement found fs).more ≤ length fs
+unfolding Within
+statement-le None fs h = solid_len-le fs
+statement-le (Some m) fs h = h
+
+first-le : (d : Division) (f : Form) (fs : List Form) → (first d f fs).more ≤ length fs
+first-le d Trivia fs = omega arith
+first-le d Semicolon fs = omega arith
+first-le d Terminator fs = omega arith
+first-le d Command fs = omega arith
+first-le d Open fs = statement-le (closing d 1 fs) fs (closing-le d 1 fs)
+first-le d Close fs = statement-le (closing d 0 fs) fs (closing-le d 0 fs)
+first-le d Other fs = statement-le (closing d 0 fs) fs (closing-le d 0 fs)
+
+-- as many leaves as the first child has behind its first
+more-length : (d : Division) (f : Form) (l : leaf.Leaf) (ls : List leaf.Leaf) → length (l ∷ take (first d f (map leaf_form ls)).more ls) ≡ (first d f (map leaf_form ls)).more + 1
+more-length d f l ls =
+    let within = first-le d f (map leaf_form ls) in
+    let size : length (map leaf_form ls) ≡ length ls = length-map ls leaf_form in
+    let taken = length-take-le (first d f (map leaf_form ls)).more ls (omega arith) in
+    omega arith
+
+statement-node : (found : Option ℕ) (fs : List Form) → (statement found fs).is_node ≡ true
+statement-node None fs = refl
+statement-node (Some m) fs = refl
+
+as_node : (c : Child) (n : ℕ) → c.is_node ≡ true → n ≡ c.more + 1 → Node n ≡ root_child c
+as_node c n node is = rw (is, node) refl
+
+-- the first child, by the form of its first leaf
+first_child : (d : Division) (at : ℕ) (l : leaf.Leaf) (ls : List leaf.Leaf) (f : Form) (rest : List StrStep) → root_children_from 0 0 (enclosed (node_by f l.kind) (token_steps at (l ∷ take (first d f (map leaf_form ls)).more ls)) ++ rest) ≡ root_child (first d f (map leaf_form ls)) ∷ root_children_from 0 0 rest
+first_child d at l ls Trivia rest = refl
+first_child d at l ls Semicolon rest = refl
+first_child d at l ls Terminator rest = refl
+first_child d at l ls Command rest = refl
+first_child d at l ls Open rest =
+    one_node (statement_node l.kind) at (l ∷ take (first d Open (map leaf_form ls)).more ls) rest
+    ∙ ap (λ c. c ∷ root_children_from 0 0 rest) (as_node (first d Open (map leaf_form ls)) _ (statement-node (closing d 1 (map leaf_form ls)) (map leaf_form ls)) (more-length d Open l ls))
+first_child d at l ls Close rest =
+    one_node (statement_node l.kind) at (l ∷ take (first d Close (map leaf_form ls)).more ls) rest
+    ∙ ap (λ c. c ∷ root_children_from 0 0 rest) (as_node (first d Close (map leaf_form ls)) _ (statement-node (closing d 0 (map leaf_form ls)) (map leaf_form ls)) (more-length d Close l ls))
+first_child d at l ls Other rest =
+    one_node (statement_node l.kind) at (l ∷ take (first d Other (map leaf_form ls)).more ls) rest
+    ∙ ap (λ c. c ∷ root_children_from 0 0 rest) (as_node (first d Other (map leaf_form ls)) _ (statement-node (closing d 0 (map leaf_form ls)) (map leaf_form ls)) (more-length d Other l ls))
+
+children-steps : (d : Division) (inside at : ℕ) (ls : List leaf.Leaf) → root_children_from 0 0 (children_steps at (parts_from leaf_form inside d ls) ++ Exit ∷ []) ≡ map root_child (children_from inside d (map leaf_form ls))
+children-steps d zero at [] = refl
+children-steps d (suc inside) at [] = refl
+children-steps d zero at (l ∷ ls) =
+    let more = more_of leaf_form d l ls in
+    let next = at + leaves_len (l ∷ take more ls) in
+    ap (root_children_from 0 0) (append_assoc (child_steps at (l ∷ take more ls)) (children_steps next (parts_from leaf_form more d ls)) (Exit ∷ []))
+    ∙ first_child d at l ls (form l.kind) (children_steps next (parts_from leaf_form more d ls) ++ Exit ∷ [])
+    ∙ ap (λ cs. root_child (first d (form l.kind) (map leaf_form ls)) ∷ cs) (children-steps d more next ls)
+children-steps d (suc inside) at (l ∷ ls) = children-steps d inside at ls
+
+-- the root's children are those of the leaves' forms
+pub root_children-tree_steps : (d : Division) (ls : List leaf.Leaf) → root_children (tree_steps d ls) ≡ map root_child (children d (map leaf_form ls))
+root_children-tree_steps d ls = children-steps d 0 0 ls
+
+form-word : (b : Bool) → form (cond b Rattle.squawk_kinds.specs.declared.numbers.TheConstants.Number.SELECT_KW Rattle.squawk_kinds.specs.declared.numbers.TheConstants.Number.IDENT) ≡ Other
+unfolding form
+form-word true = refl
+form-word false = refl
+
+form-literal : (l : LiteralKind) → form (literal_kind l) ≡ Other
+unfolding form
+form-literal (Int base empty_int junk) = refl
+form-literal (Numeric empty_exponent junk) = refl
+form-literal (Str terminated) = refl
+form-literal (NationalStr terminated) = refl
+form-literal (ByteStr terminated) = refl
+form-literal (BitStr terminated) = refl
+form-literal (DollarQuotedString terminated) = refl
+form-literal (UnicodeEscStr terminated) = refl
+form-literal (EscStr terminated) = refl
+
+-- a leaf is to the division what its token is
+form-leaf_kind : (k : TokenKind) (text : List ℕ) → form (leaf_kind k text) ≡ form_of k
+unfolding form
+form-leaf_kind token.Ident text = form-word (str_eq_ignore_ascii_case text (Rattle.std.specs.Prelude.codes "select"))
+form-leaf_kind (token.Literal l) text = form-literal l
+form-leaf_kind (token.PsqlCommand true) text = refl
+form-leaf_kind (token.PsqlCommand false) text = refl
+form-leaf_kind _ text = refl
+
+forms-leaves : (text : List ℕ) (at : ℕ) (ts : List lexer.Token) → map leaf_form (leaves_of text at ts) ≡ forms_of ts
+forms-leaves text at [] = refl
+forms-leaves text at (t ∷ ts) =
+    ap (λ f. f ∷ map leaf_form (leaves_of text (at + t.len) ts)) (form-leaf_kind t.kind (Rattle.std.specs.Prelude.slice_range text at (at + t.len)))
+    ∙ ap (λ fs. form_of t.kind ∷ fs) (forms-leaves text (at + t.len) ts)
+
+-- the leaves are laid from end to end of the tokens
+laid-leaves : (text : List ℕ) (at : ℕ) (ts : List lexer.Token) → laid at (leaves_of text at ts) ≡ ranges_through at (token_ends at ts)
+laid-leaves text at [] = refl
+laid-leaves text at (t ∷ ts) = ap (λ rs. (at, at + t.len) ∷ rs) (laid-leaves text (at + t.len) ts)
+
+pub parse_of-leaves : (strings : Strings) (d : Division) (text : List ℕ) → leaves (parse_of strings d text).steps ≡ ranges_through 0 (token_ends 0 (tokens strings (chars text)))
+parse_of-leaves strings d text =
+    let ts = tokens strings (chars text) in
+    leaves-tree_steps d (leaves_of text 0 ts) ∙ laid-leaves text 0 ts
+
+pub parse_of-children : (strings : Strings) (d : Division) (text : List ℕ) → root_children (parse_of strings d text).steps ≡ map root_child (children d (forms_of (tokens strings (chars text))))
+parse_of-children strings d text =
+    let ts = tokens strings (chars text) in
+    root_children-tree_steps d (leaves_of text 0 ts) ∙ ap (λ fs. map root_child (children d fs)) (forms-leaves text 0 ts)
+
+-- what holds of the parse holds of an answer that is the parse
+pub on_parse : {E : Type 0} (r : Result Tree E) (parse : Tree) (P : Tree → Type 0) → IfOk r (λ t. t ≡ parse) → P parse → IfOk r P
+on_parse (Ok t) parse P is h = subst P (sym is) h
+on_parse (Err e) parse P is h = tt
