@@ -1,0 +1,6 @@
+pub mod Causes
+pub mod Memory
+pub mod Outcome
+pub mod Reading
+pub mod Report
+pub mod Run

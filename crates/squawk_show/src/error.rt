@@ -1,0 +1,84 @@
+//! Why a run ends without a report.
+ghost use Rattle.std.specs.Prelude.{◌≡◌, ◌≤◌, length};
+ghost use Rattle.squawk_events.specs.declared.error.FrontError.TheVariants.{OutOfMemory};
+ghost use Rattle.squawk_show.specs.Outcome.{status_of_error, words_of};
+ghost use Rattle.squawk_show.specs.declared.error.RunError.TheVariants.{Front};
+
+use squawk_events::FrontError;
+use std::alloc::{AllocError, AllocFailed};
+use thiserror::Error;
+
+/// Why a run ends without a report. Its displayed text is the line that the program writes, without the LF.
+#[derive(Clone, Copy, Debug, PartialEq, Eq, Error)]
+pub enum RunError {
+    /// The words of the command line are none of the commands.
+    #[error("bad words")]
+    BadWords,
+    /// The source failed.
+    #[error("cannot read the input")]
+    ReadFault,
+    /// The input is no text; `at` is the number of bytes of its longest valid prefix.
+    #[error("not UTF-8 at {at}")]
+    NotUtf8 { at: usize },
+    /// The front end refused: the input is too long, or there was no memory.
+    #[error("{0}")]
+    Front(FrontError),
+    /// The sink of the output failed.
+    #[error("cannot write the output")]
+    WriteFault,
+}
+
+impl RunError {
+    /// What is told of it, up to a number.
+    pub(crate) fn words(self) -> &'static str
+        ensures words { result.now ≡ words_of self }
+        ensures short { length result.now ≤ 30 }
+    {
+        match self {
+            RunError::BadWords => "bad words",
+            RunError::ReadFault => "cannot read the input",
+            RunError::NotUtf8 { .. } => "not UTF-8 at ",
+            RunError::Front(FrontError::TooLong) => "too long",
+            RunError::Front(FrontError::OutOfMemory) => "out of memory",
+            RunError::WriteFault => "cannot write the output",
+        }
+    }
+
+    /// The status that a run ends with after it.
+    pub fn status(self) -> u8
+        ensures { result ≡ status_of_error self }
+    {
+        match self {
+            RunError::BadWords => 2,
+            RunError::ReadFault => 3,
+            RunError::NotUtf8 { .. } => 4,
+            RunError::Front(FrontError::TooLong) => 5,
+            RunError::Front(FrontError::OutOfMemory) => 6,
+            RunError::WriteFault => 7,
+        }
+    }
+}
+
+impl From<FrontError> for RunError {
+    ghost from_gives = { λ e r. r ≡ Front e };
+
+    fn from(error: FrontError) -> Self {
+        RunError::Front(error)
+    }
+}
+
+impl From<AllocError> for RunError {
+    ghost from_gives = { λ _ r. r ≡ Front OutOfMemory };
+
+    fn from(_: AllocError) -> Self {
+        RunError::Front(FrontError::OutOfMemory)
+    }
+}
+
+impl<T: Drop> From<AllocFailed<T>> for RunError {
+    ghost from_gives = { λ _ r. r ≡ Front OutOfMemory };
+
+    fn from(_: AllocFailed<T>) -> Self {
+        RunError::Front(FrontError::OutOfMemory)
+    }
+}
