@@ -2,7 +2,6 @@
 use Rattle.std.proofs.Common.{◌≡◌, ℕ, ◌+◌, ◌≤◌, ◌<◌, ◌⊎◌, inl, inr, List, length, ap, refl, sym, subst, arith, Some, None, IfSome, IsUtf8, Option}
 use Rattle.std.proofs.lemmas.List.{length-append}
 use Rattle.squawk_events.specs.declared.error.FrontError.TheVariants.{TooLong, OutOfMemory}
-use Rattle.squawk_show.specs.Causes.{Rose}
 use Rattle.squawk_show.specs.Outcome.{status_of_error}
 use Rattle.squawk_show.specs.Reading.{TakesExactly}
 use Rattle.squawk_show.specs.Run.{IsRefused, IsText, IsAll, IsUndisturbed, limit}
