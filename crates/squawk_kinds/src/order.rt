@@ -4,7 +4,9 @@ ghost use Rattle.squawk_kinds.specs.Kinds.{kinds};
 
 use crate::SyntaxKind;
 
-/// The number that each constant holds, in the order of the kinds: it is the constant's place in the list of kinds.
+/// The number that each constant holds, in the order of the kinds.
+///
+/// The clause says that it is the constant's own: its place in the list of kinds.
 pub(crate) fn numbers() -> &'static [u16]
     ensures { result.now ≡ kinds }
 {

@@ -1,7 +1,7 @@
 //! A syntax tree over a text, and the errors in the text.
-ghost use Rattle.std.specs.Prelude.{◌≡◌, ◌<◌, length, slice_get, IfOk, Some};
+ghost use Rattle.std.specs.Prelude.{◌≡◌, ◌<◌, All, length, slice_get, IfOk, Some};
 ghost use Rattle.squawk_tree.specs.Ranges.{ranges};
-ghost use Rattle.squawk_tree.specs.Tree.{Tree, IsTree};
+ghost use Rattle.squawk_tree.specs.Tree.{Tree, IsTree, IsErrorWithin};
 
 use crate::spans::spans_of;
 use squawk_events::{ParseError, StrStep};
@@ -53,8 +53,8 @@ impl Parse {
 
     /// The number of bytes of the text.
     ///
-    /// Its second clause says what holds of every parse: the steps are balanced, no `Error` is among them, the tokens cover the text
-    /// from 0 to `len`, and each error has a number from 1 to 10 and lies in the text.
+    /// Of every parse the steps are balanced, no `Error` is among them, the tokens cover the text from 0 to `len`, and each error has a
+    /// number from 1 to 10 and lies in the text: that is what the second clause says.
     pub fn len(&self) -> u32
         ensures len { result ≡ self.now.len }
         ensures tree { IsTree self.now }
@@ -69,9 +69,10 @@ impl Parse {
         &self.steps
     }
 
-    /// The errors in the text, in order.
+    /// The errors in the text, in order. Each has a number from 1 to 10 and lies in the text.
     pub fn errors(&self) -> &[ParseError]
-        ensures { result.now ≡ self.now.errors }
+        ensures errors { result.now ≡ self.now.errors }
+        ensures within { All (IsErrorWithin self.now.len) result.now }
     {
         &self.errors
     }
