@@ -2,7 +2,6 @@
 use Rattle.std.proofs.Common.{◌≡◌, ℕ, ◌+◌, ◌≤◌, ◌<◌, ◌⊎◌, inl, inr, List, length, ap, refl, sym, subst, arith, Some, None, IfSome, IsUtf8, Option}
 use Rattle.std.proofs.lemmas.List.{length-append}
 use Rattle.squawk_events.specs.declared.error.FrontError.TheVariants.{TooLong, OutOfMemory}
-use Rattle.squawk_show.specs.Causes.{Rose}
 use Rattle.squawk_show.specs.Outcome.{status_of_error}
 use Rattle.squawk_show.specs.Reading.{TakesExactly}
 use Rattle.squawk_show.specs.Run.{IsRefused, IsText, IsAll, IsUndisturbed, limit}
@@ -25,7 +24,7 @@ no_text-status words (Some bytes) new before now Fault ReadFault h = λ invalid 
 no_text-status words (Some bytes) new before now Fault (NotUtf8 at) h = λ invalid within calm. inl refl
 no_text-status words (Some bytes) new before now Fault (Front TooLong) h = λ invalid within calm. absurd (let g = taken-le bytes new (limit + 1) h.1 in omega arith)
 no_text-status words (Some bytes) new before now Fault (Front OutOfMemory) h = λ invalid within calm. inr refl
-no_text-status words (Some bytes) new before now Fault WriteFault h = λ invalid within calm. absurd (invalid (some-text bytes h.3.0 h.3.1 h.3.2).valid)
+no_text-status words (Some bytes) new before now Fault WriteFault h = λ invalid within calm. absurd (let t = h.3.1 in invalid (some-text bytes t.0 t.1 t.2.text).valid)
 
 -- a text within the limit: want of memory, where the sink had no fault
 pub text-status : (words : ℕ) (old new : Option (List ℕ)) (before now : ℕ) (Fault : Type 0) (e : RunError) → IsRefused words old new before now Fault e → IfSome old (λ bytes. IsText bytes → IsUndisturbed words before now → ¬ Fault → (status_of_error e ≡ 0) ⊎ (status_of_error e ≡ 6))

@@ -47,6 +47,14 @@ pub record IsParsed (bytes : List ℕ) (tree : Tree) : Type 0 where
   pub text : IsText bytes
   pub parsed : tree ≡ tree_of bytes
 
+-- the tree of all that a source had left, which is a text within the limit
+abbrev pub IsTreeOfAll : Option (List ℕ) → Tree → Type 0
+IsTreeOfAll left tree = (text : List ℕ) × IsAll left text × IsParsed text tree
+
+-- all that a source had left is within the limit and no text; so many bytes of it are valid
+abbrev pub IsNoTextOfAll : Option (List ℕ) → ℕ → Type 0
+IsNoTextOfAll left at = (bytes : List ℕ) × IsAll left bytes × IsNoText bytes at
+
 -- there were no words, and the source had no fault
 pub record IsUndisturbed (words before now : ℕ) : Type 0 where
   pub no_words : words ≡ 0
@@ -57,10 +65,10 @@ pub record IsUndisturbed (words before now : ℕ) : Type 0 where
 abbrev pub IsRefused : ℕ → Option (List ℕ) → Option (List ℕ) → ℕ → ℕ → Type 0 → RunError → Type 0
 IsRefused words old new before now Fault BadWords = 0 < words
 IsRefused words old new before now Fault ReadFault = (words ≡ 0) × Rose before now
-IsRefused words old new before now Fault (NotUtf8 at) = (words ≡ 0) × IsAtEnd new × ((bytes : List ℕ) × IsAll old bytes × IsNoText bytes at)
+IsRefused words old new before now Fault (NotUtf8 at) = (words ≡ 0) × IsAtEnd new × IsNoTextOfAll old at
 IsRefused words old new before now Fault (Front TooLong) = (words ≡ 0) × TakesExactly old new (limit + 1)
 IsRefused words old new before now Fault (Front OutOfMemory) = words ≡ 0
-IsRefused words old new before now Fault WriteFault = (words ≡ 0) × IsAtEnd new × Fault × ((text : List ℕ) × IsAll old text × IsText text)
+IsRefused words old new before now Fault WriteFault = (words ≡ 0) × IsAtEnd new × Fault × ((tree : Tree) × IsTreeOfAll old tree)
 
 -- what making the tree of bytes within the limit may refuse
 abbrev pub IsParseRefusal : List ℕ → RunError → Type 0

@@ -5,8 +5,8 @@ ghost use Rattle.squawk_show.specs.Causes.{Rose};
 ghost use Rattle.squawk_show.specs.Outcome.{line_of};
 ghost use Rattle.squawk_show.specs.Reading.{TakesExactly, AppendsFront};
 ghost use Rattle.squawk_show.specs.Report.{report_of};
-ghost use Rattle.squawk_show.specs.Run.{limit, tree_of, status_of, IsAll, IsText, IsNoText, IsParsed, IsUndisturbed, IsRefused, IsParseRefusal};
-ghost use Rattle.squawk_tree.specs.Tree.{IsTree};
+ghost use Rattle.squawk_show.specs.Run.{limit, status_of, IsText, IsParsed, IsTreeOfAll, IsNoTextOfAll, IsUndisturbed, IsRefused, IsParseRefusal};
+ghost use Rattle.squawk_tree.specs.Tree.{Tree, IsTree};
 
 use crate::telling::tell;
 use crate::{LIMIT, RunError, Sink, Source, make_report, read_all, write_whole};
@@ -17,7 +17,9 @@ use std::alloc::Global;
 /// How a run ended: the status that the program ends with, and the tree or the refusal behind it.
 #[derive(Drop)]
 pub struct Shown {
+    /// 0 with a report, else the number of the refusal.
     pub status: u8,
+    /// The tree whose report was written, or why none was.
     pub outcome: Result<Parse, RunError>,
 }
 
@@ -44,7 +46,7 @@ fn prepare<S: Source>(
 ) -> Result<(Parse, Vec<u8>), RunError>
     ensures words { OnOk result (length words.now ≡ 0) }
     ensures report { IfOk result (λ r. r.1.items ≡ report_of r.0) }
-    ensures tree { IfOk result (λ r. (text : List ℕ) × IsAll (S.left source.old) text × IsParsed text r.0) }
+    ensures tree { IfOk result (λ r. IsTreeOfAll (S.left source.old) r.0) }
     ensures lawful { IfOk result (λ r. IsTree r.0) }
     ensures end { OnOk result (IsAtEnd (S.left source.new)) }
     ensures refused { IfErr result (IsRefused (length words.now)
@@ -69,7 +71,7 @@ fn show<S: Source, K: Sink>(
 ) -> Result<Parse, RunError>
     ensures words { OnOk result (length words.now ≡ 0) }
     ensures written { IfOk result (λ tree. Appends (K.taken out.old) (K.taken out.new) (report_of tree)) }
-    ensures tree { IfOk result (λ tree. (text : List ℕ) × IsAll (S.left source.old) text × IsParsed text tree) }
+    ensures tree { IfOk result (IsTreeOfAll (S.left source.old)) }
     ensures lawful { IfOk result IsTree }
     ensures end { OnOk result (IsAtEnd (S.left source.new)) }
     ensures refused { IfErr result (IsRefused (length words.now)
@@ -77,8 +79,8 @@ fn show<S: Source, K: Sink>(
         (Rose (K.faults out.old) (K.faults out.new))) }
     ensures untouched { IfErr result (λ e. e ≢ RunError.WriteFault → out.new ≡ out.old) }
     ensures unread { 0 < length words.now → source.new ≡ source.old }
-    ensures front { IsErrOf result RunError.WriteFault → (text : List ℕ) × IsAll (S.left source.old) text × IsText text
-        × AppendsFront (K.taken out.old) (K.taken out.new) (report_of (tree_of text)) }
+    ensures front { IsErrOf result RunError.WriteFault → (tree : Tree)
+        × IsTreeOfAll (S.left source.old) tree × AppendsFront (K.taken out.old) (K.taken out.new) (report_of tree) }
 {
     let (parse, report) = match prepare(alloc, words, source) {
         Ok(made) => made,
@@ -106,7 +108,7 @@ pub fn run<S: Source, K: Sink, E: Sink>(
 
     // With status 0 what was written is the report of the tree of all that the source had left, and nothing else.
     ensures written { IfOk result.outcome (λ tree. Appends (K.taken out.old) (K.taken out.new) (report_of tree)) }
-    ensures tree { IfOk result.outcome (λ tree. (text : List ℕ) × IsAll (S.left source.old) text × IsParsed text tree) }
+    ensures tree { IfOk result.outcome (IsTreeOfAll (S.left source.old)) }
     ensures balanced { IfOk result.outcome IsTree }
     ensures quiet { result.status ≡ 0 → err.new ≡ err.old }
 
@@ -114,8 +116,7 @@ pub fn run<S: Source, K: Sink, E: Sink>(
     ensures bad_words { IsErrOf result.outcome RunError.BadWords ↔ (0 < length words.now) }
     ensures unread { 0 < length words.now → source.new ≡ source.old }
     ensures read_fault { IsErrOf result.outcome RunError.ReadFault → Rose (S.faults source.old) (S.faults source.new) }
-    ensures not_utf8 { (at : ℕ) → result.outcome ≡ Err (RunError.NotUtf8 at)
-        → (bytes : List ℕ) × IsAll (S.left source.old) bytes × IsNoText bytes at }
+    ensures not_utf8 { (at : ℕ) → result.outcome ≡ Err (RunError.NotUtf8 at) → IsNoTextOfAll (S.left source.old) at }
     ensures too_long { IsErrOf result.outcome (RunError.Front FrontError.TooLong)
         → TakesExactly (S.left source.old) (S.left source.new) (limit + 1) }
     ensures write_fault { IsErrOf result.outcome RunError.WriteFault → Rose (K.faults out.old) (K.faults out.new) }
@@ -123,8 +124,8 @@ pub fn run<S: Source, K: Sink, E: Sink>(
 
     // What a refusal leaves.
     ensures untouched { IfErr result.outcome (λ e. e ≢ RunError.WriteFault → out.new ≡ out.old) }
-    ensures front { IsErrOf result.outcome RunError.WriteFault → (text : List ℕ) × IsAll (S.left source.old) text
-        × IsText text × AppendsFront (K.taken out.old) (K.taken out.new) (report_of (tree_of text)) }
+    ensures front { IsErrOf result.outcome RunError.WriteFault → (tree : Tree)
+        × IsTreeOfAll (S.left source.old) tree × AppendsFront (K.taken out.old) (K.taken out.new) (report_of tree) }
     ensures told { IfErr result.outcome (λ e. AppendsFront (E.taken err.old) (E.taken err.new) (line_of e)) }
     ensures told_whole { IfErr result.outcome (λ e. ¬ (Rose (E.faults err.old) (E.faults err.new))
         → Appends (E.taken err.old) (E.taken err.new) (line_of e)) }

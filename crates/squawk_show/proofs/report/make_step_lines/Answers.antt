@@ -1,4 +1,4 @@
-use Rattle.std.proofs.Common.{length, get_or, sym, ap, ◌∙◌, arith, refl}
+use Rattle.std.proofs.Common.{length, get_or, sym, ap, ◌∙◌, arith}
 use Rattle.std.proofs.lemmas.Option.{get_or_from_slice_get, slice_get_within}
 use Rattle.squawk_tree.specs.Ranges.{ranges}
 use Rattle.squawk_show.proofs.ReportLemmas.{depth_after-le, step_lines-more}
