@@ -3,7 +3,7 @@
 use Rattle.std.specs.Prelude.{ℕ, ◌+◌, ◌-◌, zero, suc, Bool, false, not, ◌&&◌, ◌||◌, ◌==◌, List, [], ◌∷◌, take, drop, slice_get, Option, Some, None, option_map, unwrap_or, if◌then◌else◌}
 use Rattle.std.specs.List.{prefix_len}
 use Rattle.std.specs.Option.{option_or}
-use Rattle.squawk_lexer.specs.Classes.{is_white, is_line_end, is_not_line_end, is_blank, apostrophe, quotation_mark, backquote, backslash}
+use Rattle.squawk_lexer.specs.Classes.{is_line_end, is_not_line_end, is_blank, apostrophe, quotation_mark, backquote, backslash}
 
 abbrev pub is_quote : ℕ → Bool
 is_quote c = (c == apostrophe || c == quotation_mark) || c == backquote
