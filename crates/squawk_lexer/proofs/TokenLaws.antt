@@ -8,14 +8,15 @@ use Rattle.std.specs.Char.{len_utf8}
 use Rattle.squawk_lexer.specs.Text.{bytes}
 use Rattle.squawk_lexer.specs.declared.token.Strings.{Strings}
 use Rattle.squawk_lexer.specs.declared.lexer.Start.{Start}
-use Rattle.squawk_lexer.specs.declared.lexer.Start.TheVariants.{White, LineComment, BlockComment, String, QuotedIdent, Word, Parameter, Number, DotDot, Fraction, Symbol}
+use Rattle.squawk_lexer.specs.declared.lexer.Start.TheVariants.{White, LineComment, BlockComment, String, QuotedIdent, Word, Dollar, Number, DotDot, Fraction, Symbol}
 use Rattle.squawk_lexer.specs.declared.word.Opening.{Opening}
 use Rattle.squawk_lexer.specs.declared.word.Opening.TheVariants.{National, Bit, Byte, Escape, UnicodeString, UnicodeIdent, Plain}
 use Rattle.squawk_lexer.specs.Classes.{is_id_start, is_digit, byte_order_mark}
 use Rattle.squawk_lexer.specs.Runs.{run, junk, digits, hex, exponent, is_exponent_letter, is_sign, fraction_digits}
 use Rattle.squawk_lexer.specs.Kind.{Lexeme, lexeme}
 use Rattle.squawk_lexer.specs.declared.token.Base.TheVariants.{Binary, Octal, Decimal, Hexadecimal}
-use Rattle.squawk_lexer.specs.Numbers.{number, decimal_from, fractional, with_exponent, numeric, int, based_int}
+use Rattle.squawk_lexer.specs.Numbers.{number, decimal_from, fractional, with_exponent, numeric, int, based_int, parameter}
+use Rattle.squawk_lexer.specs.Dollar.{opens_dollar, dollar_string}
 use Rattle.squawk_lexer.specs.Symbols.{symbol}
 use Rattle.squawk_lexer.specs.Token.{start, opening, begun, opened, lexeme_of, lexeme_at, token_at}
 use Rattle.squawk_lexer.specs.declared.token.TokenKind.{TokenKind}
@@ -90,7 +91,7 @@ begun_on strings BlockComment u h e = omega arith
 begun_on strings String u h e = omega arith
 begun_on strings QuotedIdent u h e = omega arith
 begun_on strings Word u h e = opened_on (opening (get_or u 0 0) (get_or u 1 0) (get_or u 2 0)) u
-begun_on strings Parameter u h e = omega (arith, junk_on u (run is_digit u 1))
+begun_on strings Dollar u h e = either_on (opens_dollar u) (dollar_string u) (parameter u) 1 (omega arith) (omega (arith, junk_on u (run is_digit u 1)))
 begun_on strings Number u h e = number_on u
 begun_on strings DotDot u h e = omega arith
 begun_on strings Fraction u h e = fractional_on u 1
@@ -161,7 +162,7 @@ begun_real strings BlockComment u = record { real = refl }
 begun_real strings String u = record { real = refl }
 begun_real strings QuotedIdent u = record { real = refl }
 begun_real strings Word u = opened_real (opening (get_or u 0 0) (get_or u 1 0) (get_or u 2 0)) u
-begun_real strings Parameter u = record { real = refl }
+begun_real strings Dollar u = either_real (opens_dollar u) (dollar_string u) (parameter u) (record { real = refl }) (record { real = refl })
 begun_real strings Number u = number_real u
 begun_real strings DotDot u = record { real = refl }
 begun_real strings Fraction u = fractional_real u 1

@@ -7,7 +7,7 @@ use Rattle.squawk_lexer.specs.declared.token.LiteralKind.TheVariants.{Str, Natio
 use Rattle.squawk_lexer.specs.declared.token.Strings.{Strings}
 use Rattle.squawk_lexer.specs.declared.token.Strings.TheVariants.{Standard, Backslash}
 use Rattle.squawk_lexer.specs.declared.lexer.Start.{Start}
-use Rattle.squawk_lexer.specs.declared.lexer.Start.TheVariants.{White, LineComment, BlockComment, String, QuotedIdent, Word, Parameter, Number, DotDot, Fraction, Symbol}
+use Rattle.squawk_lexer.specs.declared.lexer.Start.TheVariants.{White, LineComment, BlockComment, String, QuotedIdent, Word, Dollar, Number, DotDot, Fraction, Symbol}
 use Rattle.squawk_lexer.specs.declared.word.Opening.{Opening}
 use Rattle.squawk_lexer.specs.declared.word.Opening.TheVariants.{National, Bit, Byte, Escape, UnicodeString, UnicodeIdent, Plain}
 use Rattle.squawk_lexer.specs.Kind.{Lexeme, lexeme, literal}
@@ -16,7 +16,8 @@ use Rattle.squawk_lexer.specs.Classes.{is_white, is_id_start, is_id_cont, is_dig
 use Rattle.squawk_lexer.specs.Runs.{run, line}
 use Rattle.squawk_lexer.specs.Quoted.{quoted, is_terminated}
 use Rattle.squawk_lexer.specs.Comment.{comment_end, is_closed}
-use Rattle.squawk_lexer.specs.Numbers.{number, fractional, parameter}
+use Rattle.squawk_lexer.specs.Numbers.{number, fractional}
+use Rattle.squawk_lexer.specs.Dollar.{dollar}
 use Rattle.squawk_lexer.specs.Symbols.{symbol}
 
 -- whether a backslash and the character behind it are a pair in a string without a prefix
@@ -70,7 +71,7 @@ start c d =
     else if c == 39 then String
     else if c == 34 then QuotedIdent
     else if is_id_start c then Word
-    else if c == 36 then Parameter
+    else if c == 36 then Dollar
     else if is_digit c then Number
     else if c == 46 && d == 46 then DotDot
     else if c == 46 && is_digit d then Fraction
@@ -84,7 +85,7 @@ begun strings BlockComment u = lexeme (kinds.BlockComment (is_closed 0 u 2)) (co
 begun strings String u = string Str (has_escapes strings) u 1
 begun strings QuotedIdent u = quoted_ident false u 1
 begun strings Word u = word u
-begun strings Parameter u = parameter u
+begun strings Dollar u = dollar u
 begun strings Number u = number u
 begun strings DotDot u = lexeme kinds.DotDot 2
 begun strings Fraction u = fractional u 1

@@ -1,11 +1,12 @@
 //! The token at the front of a text.
-ghost use Rattle.std.specs.Prelude.{◌≡◌, ◌≢◌, ◌+◌, ◌<◌, ◌==◌, ◌^◌, length, drop, true};
+ghost use Rattle.std.specs.Prelude.{◌≡◌, ◌≢◌, ◌+◌, ◌<◌, ◌==◌, ◌^◌, ◌∷◌, length, drop, true, false};
 ghost use Rattle.std.specs.Str.{chars, is_utf8, IsCharBoundary};
 ghost use Rattle.squawk_lexer.specs.Kind.{lexeme};
 ghost use Rattle.squawk_lexer.specs.Place.{behind};
 ghost use Rattle.squawk_lexer.specs.Classes.{is_white, apostrophe};
 ghost use Rattle.squawk_lexer.specs.Symbols.{symbol};
 ghost use Rattle.squawk_lexer.specs.Token.{start, lexeme_of, lexeme_at, token_at};
+ghost use Rattle.squawk_lexer.specs.Cut.{tokens_from};
 
 use crate::classes::{Class, is_digit, is_id_start, is_white};
 use crate::cursor::Cursor;
@@ -59,7 +60,7 @@ enum Start {
     String,
     QuotedIdent,
     Word,
-    Parameter,
+    Dollar,
     Number,
     DotDot,
     Fraction,
@@ -77,7 +78,7 @@ fn start_of(first: char, second: char) -> Start
         ('\'', _) => Start::String,
         ('"', _) => Start::QuotedIdent,
         (c, _) if is_id_start(c) => Start::Word,
-        ('$', _) => Start::Parameter,
+        ('$', _) => Start::Dollar,
         (c, _) if is_digit(c) => Start::Number,
         ('.', '.') => Start::DotDot,
         ('.', d) if is_digit(d) => Start::Fraction,
@@ -118,7 +119,7 @@ impl<'a> Cursor<'a> {
             }
             Start::QuotedIdent => self.quoted_ident(false),
             Start::Word => self.word(first),
-            Start::Parameter => self.parameter(),
+            Start::Dollar => self.dollar(),
             Start::Number => self.number(first),
             Start::DotDot => {
                 self.bump();
@@ -160,6 +161,8 @@ pub fn cut_at(input: &str, at: usize) -> Token
     requires boundary { IsCharBoundary input.now at }
     requires fits { length input.now < 2 ^ 32 }
     ensures token { result ≡ token_at Strings.Standard (at == 0) (chars (drop at input.now)) }
+    ensures first { tokens_from Strings.Standard 0 (at == 0) (chars (drop at input.now))
+        ≡ result ∷ tokens_from Strings.Standard 0 false (chars (drop (at + result.len) input.now)) }
     ensures positive { 0 < result.len }
     ensures ends_between { IsCharBoundary input.now (at + result.len) }
     ensures never_eof { result.kind ≢ TokenKind.Eof }
@@ -173,6 +176,8 @@ pub fn cut_at_in(input: &str, at: usize, strings: Strings) -> Token
     requires boundary { IsCharBoundary input.now at }
     requires fits { length input.now < 2 ^ 32 }
     ensures token { result ≡ token_at strings (at == 0) (chars (drop at input.now)) }
+    ensures first { tokens_from strings 0 (at == 0) (chars (drop at input.now))
+        ≡ result ∷ tokens_from strings 0 false (chars (drop (at + result.len) input.now)) }
     ensures positive { 0 < result.len }
     ensures ends_between { IsCharBoundary input.now (at + result.len) }
     ensures never_eof { result.kind ≢ TokenKind.Eof }

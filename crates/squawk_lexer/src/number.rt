@@ -1,7 +1,7 @@
 //! Numbers and parameters.
 ghost use Rattle.std.specs.Prelude.{◌≡◌, ◌+◌, ◌<◌, ◌==◌, slice_index, ◌&&◌, not, length, true};
 ghost use Rattle.squawk_lexer.specs.Kind.{lexeme};
-ghost use Rattle.squawk_lexer.specs.Numbers.{based_int, with_exponent, fractional, decimal_from, number, parameter};
+ghost use Rattle.squawk_lexer.specs.Numbers.{based_int, numeric, with_exponent, fractional, decimal_from, number, parameter};
 ghost use Rattle.squawk_lexer.specs.Runs.{exponent, fraction_digits, is_sign, is_exponent_letter};
 ghost use Rattle.squawk_lexer.specs.Classes.{is_digit};
 
@@ -59,6 +59,19 @@ impl<'a> Cursor<'a> {
         }
     }
 
+    /// Moves behind junk after a number with a point or an exponent.
+    fn numeric(&mut self, empty_exponent_start: Option<u32>) -> TokenKind
+        ensures text { self.new.text ≡ self.old.text }
+        ensures gives { lexeme result self.new.at ≡ numeric empty_exponent_start self.old.text self.old.at }
+    {
+        let kind = LiteralKind::Numeric {
+            empty_exponent_start,
+            trailing_junk_start: self.position(),
+        };
+        self.eat_junk();
+        literal(kind)
+    }
+
     /// Moves behind an exponent, whose letter stands at the place, and junk.
     #[tactic(auto, using(crate::proofs::Steps::exponent_steps))]
     fn with_exponent(&mut self) -> TokenKind
@@ -67,13 +80,11 @@ impl<'a> Cursor<'a> {
         ensures gives { lexeme result self.new.at ≡ with_exponent self.old.text self.old.at }
     {
         let start = self.position();
-        let has_digits = self.eat_exponent();
-        let trailing_junk_start = self.position();
-        self.eat_junk();
-        literal(LiteralKind::Numeric {
-            empty_exponent_start: if has_digits { None } else { Some(start) },
-            trailing_junk_start,
-        })
+        if self.eat_exponent() {
+            self.numeric(None)
+        } else {
+            self.numeric(Some(start))
+        }
     }
 
     /// Moves behind a number, whose point stands before the place.
@@ -83,14 +94,10 @@ impl<'a> Cursor<'a> {
     {
         self.eat_fraction_digits();
         if is_exponent_letter(self.first()) {
-            return self.with_exponent();
+            self.with_exponent()
+        } else {
+            self.numeric(None)
         }
-        let trailing_junk_start = self.position();
-        self.eat_junk();
-        literal(LiteralKind::Numeric {
-            empty_exponent_start: None,
-            trailing_junk_start,
-        })
     }
 
     /// Moves behind a number without a base, whose first digits end at the place.
