@@ -64,6 +64,7 @@ enum Start {
     Number,
     DotDot,
     Fraction,
+    Psql,
     Symbol,
 }
 
@@ -82,6 +83,7 @@ fn start_of(first: char, second: char) -> Start
         (c, _) if is_digit(c) => Start::Number,
         ('.', '.') => Start::DotDot,
         ('.', d) if is_digit(d) => Start::Fraction,
+        ('\\', _) => Start::Psql,
         _ => Start::Symbol,
     }
 }
@@ -126,6 +128,7 @@ impl<'a> Cursor<'a> {
                 TokenKind::DotDot
             }
             Start::Fraction => self.fractional(),
+            Start::Psql => self.psql_command(),
             Start::Symbol => symbol(first),
         }
     }
