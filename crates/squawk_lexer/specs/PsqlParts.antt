@@ -49,8 +49,9 @@ args_len (suc inside) (c ∷ cs) = 1 + args_len inside cs
 abbrev pub args : List ℕ → ℕ → ℕ
 args u i = i + args_len 0 (drop i u)
 
--- The mark of an argument behind its part that begins with c, where it was `mark` before: a plain character gives itself, and
--- so does the last of those in `'`; a quote in `"` gives `"`, and one in backquotes takes the mark away.
+-- The mark of an argument behind its part that begins with c, where it was `mark` before. A plain character gives itself. A
+-- quote in `'` gives its last character, which of a pair is the second, and nothing new where it is empty; one in `"` gives
+-- `"`, and one in backquotes no mark. What an unclosed quote gives decides nothing, since the arguments end with it.
 abbrev pub mark_behind : Option ℕ → ℕ → List ℕ → Option ℕ
 mark_behind mark c cs =
     if c == apostrophe then option_or (last_inside cs (close_len c cs)) mark
