@@ -1,8 +1,8 @@
 -- The word of a command, by its bytes and by its characters.
-use Rattle.std.proofs.Common.{◌≡◌, ℕ, zero, suc, ◌+◌, ◌<◌, ◌≤◌, Bool, true, false, ◌&&◌, ◌||◌, ltb, eqb, eq-eqb, eqb-true, List, [], ◌∷◌, ◌++◌, map, length, take, drop, get_or, refl, sym, ◌∙◌, ap, arith, IsUtf8, ◌↔◌, IsTrue, codes}
+use Rattle.std.proofs.Common.{◌≡◌, ℕ, zero, suc, ◌+◌, ◌<◌, ◌≤◌, Bool, true, false, ◌&&◌, ◌||◌, ltb, eq-eqb, List, [], ◌∷◌, ◌++◌, map, length, take, drop, get_or, refl, sym, ◌∙◌, ap, arith, IsUtf8, ◌↔◌, IsTrue, codes}
 use Rattle.std.specs.Str.{chars, bytes_eq, encode_utf8_all, IsCharBoundary, IsAscii, str_eq_ignore_ascii_case}
 use Rattle.std.specs.Char.{to_ascii_lowercase, encode_utf8}
-use Rattle.std.specs.List.{list_any, list_all, prefix_len}
+use Rattle.std.specs.List.{list_all, prefix_len}
 use Rattle.std.proofs.lemmas.Bool.Decides.{nat_tests}
 use Rattle.std.proofs.lemmas.Str.{encodes-chars, encodes-IsAscii, chars-IsAscii, encode_ascii, chars_past_char, IsCharBoundary-after_ascii}
 use Rattle.squawk_lexer.specs.PsqlWords.{is_among}

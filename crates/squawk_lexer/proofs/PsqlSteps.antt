@@ -1,12 +1,12 @@
 -- Steps within the arguments of a psql command.
-use Rattle.std.proofs.Common.{◌≡◌, ℕ, zero, suc, ◌+◌, ◌-◌, ◌<◌, ◌≤◌, Bool, true, false, ◌&&◌, ◌||◌, not, List, [], ◌∷◌, length, take, drop, get_or, slice_get, Option, None, Some, refl, sym, ap, ◌∙◌, inl, inr, ◌⊎◌, eqb, eq-eqb, eqb-true, arith, unwrap_or, is_some, option_map, cond}
+use Rattle.std.proofs.Common.{◌≡◌, ℕ, zero, suc, ◌+◌, ◌-◌, ◌<◌, ◌≤◌, Bool, true, false, List, [], ◌∷◌, length, take, drop, get_or, slice_get, Option, None, Some, refl, sym, ap, ◌∙◌, inl, inr, ◌⊎◌, eqb, eq-eqb, arith, unwrap_or, is_some, option_map, cond}
 use Rattle.std.specs.List.{prefix_len}
 use Rattle.std.proofs.lemmas.Bool.Decides.{nat_tests}
-use Rattle.std.proofs.lemmas.Bool.{cases_lt, cases_eq}
+use Rattle.std.proofs.lemmas.Bool.{cases_lt}
 use Rattle.std.proofs.lemmas.List.{drop-drop}
 use Rattle.std.proofs.lemmas.List.Sums.{prefix_len-le-length}
 use Rattle.squawk_lexer.specs.Place.{behind}
-use Rattle.squawk_lexer.specs.Runs.{run, line}
+use Rattle.squawk_lexer.specs.Runs.{line}
 use Rattle.squawk_lexer.specs.Classes.{is_line_end, is_not_line_end, is_blank}
 use Rattle.squawk_lexer.specs.PsqlParts.{is_quote, is_pair, close_len, quote_len, last_inside, ends_arguments, part_rest, args_len, args, mark_behind, is_parenthesis, marked_len, marked}
 use Rattle.squawk_lexer.proofs.Steps.{drop_some, drop_none, drop_read, drop_past, within_some, within_read, behind_some, behind_none, behind_within, behind_past, behind_on, ne-eqb, run_more, run_stop, run_end}

@@ -3,7 +3,7 @@
 use Rattle.std.specs.Prelude.{ℕ, ◌+◌, ◌-◌, zero, suc, Bool, false, not, ◌&&◌, ◌||◌, ◌==◌, List, [], ◌∷◌, take, drop, slice_get, Option, Some, None, option_map, unwrap_or, if◌then◌else◌}
 use Rattle.std.specs.List.{prefix_len}
 use Rattle.std.specs.Option.{option_or}
-use Rattle.squawk_lexer.specs.Classes.{is_white, is_line_end, is_not_line_end, is_blank, apostrophe, quotation_mark, backquote, backslash}
+use Rattle.squawk_lexer.specs.Classes.{is_line_end, is_not_line_end, is_blank, apostrophe, quotation_mark, backquote, backslash}
 
 abbrev pub is_quote : ℕ → Bool
 is_quote c = (c == apostrophe || c == quotation_mark) || c == backquote
@@ -49,8 +49,9 @@ args_len (suc inside) (c ∷ cs) = 1 + args_len inside cs
 abbrev pub args : List ℕ → ℕ → ℕ
 args u i = i + args_len 0 (drop i u)
 
--- The mark of an argument behind its part that begins with c, where it was `mark` before: a plain character gives itself, and
--- so does the last of those in `'`; a quote in `"` gives `"`, and one in backquotes takes the mark away.
+-- The mark of an argument behind its part that begins with c, where it was `mark` before. A plain character gives itself. A
+-- quote in `'` gives its last character, which of a pair is the second, and nothing new where it is empty; one in `"` gives
+-- `"`, and one in backquotes no mark. What an unclosed quote gives decides nothing, since the arguments end with it.
 abbrev pub mark_behind : Option ℕ → ℕ → List ℕ → Option ℕ
 mark_behind mark c cs =
     if c == apostrophe then option_or (last_inside cs (close_len c cs)) mark

@@ -1,8 +1,13 @@
-//! Block comments, which nest.
+//! Comments: those up to the end of the line, and block comments, which nest.
 ghost use Rattle.std.specs.Prelude.{◌≡◌};
+ghost use Rattle.squawk_lexer.specs.Kind.{lexeme};
+ghost use Rattle.squawk_lexer.specs.Place.{behind};
+ghost use Rattle.squawk_lexer.specs.Runs.{line};
 ghost use Rattle.squawk_lexer.specs.Comment.{comment_end, is_closed, opens, closes};
 
+use crate::classes::Class;
 use crate::cursor::Cursor;
+use crate::token::TokenKind;
 
 fn opens(c: char, next: char) -> bool
     ensures { result ≡ opens c next }
@@ -17,6 +22,17 @@ fn closes(c: char, next: char) -> bool
 }
 
 impl<'a> Cursor<'a> {
+    /// Moves behind a line comment, from behind its first dash.
+    pub(crate) fn line_comment(&mut self) -> TokenKind
+        ensures text { self.new.text ≡ self.old.text }
+        ensures gives { lexeme result self.new.at
+            ≡ lexeme TokenKind.LineComment (line self.old.text (behind self.old.text self.old.at)) }
+    {
+        self.bump();
+        self.eat_while(Class::NotLineEnd);
+        TokenKind::LineComment
+    }
+
     /// Moves behind a block comment, from behind its opening, and tells whether it was closed.
     #[tactic(auto, using(crate::proofs::CommentSteps::comment_steps))]
     pub(crate) fn block_comment(&mut self) -> bool

@@ -2,8 +2,8 @@
 ghost use Rattle.std.specs.Prelude.{◌≡◌, ◌≢◌, ◌+◌, ◌<◌, ◌==◌, ◌^◌, ◌∷◌, length, drop, true, false};
 ghost use Rattle.std.specs.Str.{chars, is_utf8, IsCharBoundary};
 ghost use Rattle.squawk_lexer.specs.Kind.{lexeme};
-ghost use Rattle.squawk_lexer.specs.Place.{behind};
-ghost use Rattle.squawk_lexer.specs.Classes.{is_white, apostrophe};
+ghost use Rattle.squawk_lexer.specs.Classes.{is_white};
+ghost use Rattle.squawk_lexer.specs.Runs.{run};
 ghost use Rattle.squawk_lexer.specs.Symbols.{symbol};
 ghost use Rattle.squawk_lexer.specs.Token.{start, lexeme_of, lexeme_at, token_at};
 ghost use Rattle.squawk_lexer.specs.Cut.{tokens_from};
@@ -89,6 +89,15 @@ fn start_of(first: char, second: char) -> Start
 }
 
 impl<'a> Cursor<'a> {
+    /// Moves behind white characters.
+    fn whitespace(&mut self) -> TokenKind
+        ensures text { self.new.text ≡ self.old.text }
+        ensures gives { lexeme result self.new.at ≡ lexeme TokenKind.Whitespace (run is_white self.old.text self.old.at) }
+    {
+        self.eat_while(Class::White);
+        TokenKind::Whitespace
+    }
+
     /// Moves behind the token at the front.
     #[tactic(auto, using(crate::proofs::StartSteps::start_steps))]
     fn advance_token(&mut self, strings: Strings) -> TokenKind
@@ -101,15 +110,8 @@ impl<'a> Cursor<'a> {
         let start = start_of(first, self.second());
         self.bump();
         match start {
-            Start::White => {
-                self.eat_while(Class::White);
-                TokenKind::Whitespace
-            }
-            Start::LineComment => {
-                self.bump();
-                self.eat_while(Class::NotLineEnd);
-                TokenKind::LineComment
-            }
+            Start::White => self.whitespace(),
+            Start::LineComment => self.line_comment(),
             Start::BlockComment => {
                 self.bump();
                 let terminated = self.block_comment();

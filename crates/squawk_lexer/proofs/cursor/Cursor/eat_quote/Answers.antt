@@ -1,4 +1,4 @@
-use Rattle.std.proofs.Common.{◌≡◌, ◌-◌, ◌<◌, ◌≤◌, ℕ, Bool, false, true, Some, get_or, slice_get, length, sym, ◌∙◌}
+use Rattle.std.proofs.Common.{◌≡◌, ◌-◌, ◌<◌, false, true, Some, get_or, slice_get, length, sym, ◌∙◌}
 use Rattle.squawk_lexer.specs.Classes.{is_line_end}
 use Rattle.squawk_lexer.specs.Place.{behind}
 use Rattle.squawk_lexer.specs.PsqlParts.{is_pair}
