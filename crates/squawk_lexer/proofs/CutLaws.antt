@@ -83,6 +83,18 @@ pub token_boundary : (strings : Strings) (s : Bool) (text : List ℕ) (at : ℕ)
 token_boundary strings s text at within utf8 =
     IsCharBoundary-from_rest text at _ within (cut_behind (drop at text) (lexeme_at strings s (chars (drop at text))).end utf8).boundary
 
+-- what is behind it
+behind_token : (strings : Strings) (s : Bool) (text : List ℕ) (at : ℕ) → IsUtf8 (drop at text)
+    → chars (drop (at + (token_at strings s (chars (drop at text))).len) text) ≡ drop (lexeme_at strings s (chars (drop at text))).end (chars (drop at text))
+behind_token strings s text at utf8 =
+    ap chars (sym (drop-drop (token_at strings s (chars (drop at text))).len at text)) ∙ (cut_behind (drop at text) (lexeme_at strings s (chars (drop at text))).end utf8).rest
+
+-- the tokens from a place on are the one that begins there, and those from its end on
+pub token_then : (strings : Strings) (s : Bool) (text : List ℕ) (at : ℕ) → IsUtf8 (drop at text) → 0 < length (chars (drop at text))
+    → tokens_from strings 0 s (chars (drop at text))
+    ≡ token_at strings s (chars (drop at text)) ∷ tokens_from strings 0 false (chars (drop (at + (token_at strings s (chars (drop at text))).len) text))
+token_then strings s text at utf8 some = rw (behind_token strings s text at utf8) (tokens_first strings s (chars (drop at text)) some)
+
 tiles_end : (strings : Strings) (s : Bool) (text : List ℕ) (at : ℕ) → at ≤ length text → IsUtf8 (drop at text)
     → length (chars (drop at text)) ≡ 0 → Tiles text at (tokens_from strings 0 s (chars (drop at text)))
 tiles_end strings s text at within utf8 none =
@@ -102,17 +114,15 @@ tiles (suc n) strings text at s within utf8 h = by (λ next. tiles n strings tex
     token : Token
     token = token_at strings s (chars (drop at text))
 
-    cut : IsCut (drop at text) (lexeme_at strings s (chars (drop at text))).end
-    cut = cut_behind (drop at text) (lexeme_at strings s (chars (drop at text))).end utf8
-
     boundary : IsCharBoundary text (at + token.len)
     boundary = token_boundary strings s text at within utf8
 
-    next : drop token.len (drop at text) ≡ drop (at + token.len) text
-    next = drop-drop token.len at text
+    -- the rest is a text
+    utf8_behind : IsUtf8 (drop (at + token.len) text)
+    utf8_behind = subst IsUtf8 (drop-drop token.len at text) (cut_behind (drop at text) (lexeme_at strings s (chars (drop at text))).end utf8).utf8
 
     rest : chars (drop (at + token.len) text) ≡ drop (lexeme_at strings s (chars (drop at text))).end (chars (drop at text))
-    rest = ap chars (sym next) ∙ cut.rest
+    rest = behind_token strings s text at utf8
 
     by : ((next : ℕ) → Tiled n strings text next false) → (0 < length (chars (drop at text))) ⊎ (length (chars (drop at text)) ≤ 0)
         → Tiles text at (tokens_from strings 0 s (chars (drop at text)))
@@ -120,7 +130,7 @@ tiles (suc n) strings text at s within utf8 h = by (λ next. tiles n strings tex
     by behind (inl some) =
         let less : length (chars (drop (at + token.len) text)) ≤ n =
         omega (arith, ap length rest, length-drop (lexeme_at strings s (chars (drop at text))).end (chars (drop at text)), lexeme_at_some strings s (chars (drop at text)) some, h) in
-        let more = behind (at + token.len) boundary.0 (subst IsUtf8 next cut.utf8) less in
+        let more = behind (at + token.len) boundary.0 utf8_behind less in
         rw (tokens_first strings s (chars (drop at text)) some)
         (token_positive strings s (chars (drop at text)) some, token_never_eof strings s (chars (drop at text)), boundary, rw rest at more)
 

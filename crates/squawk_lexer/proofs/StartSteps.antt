@@ -3,48 +3,97 @@ use Rattle.std.proofs.Common.{◌≡◌, ℕ, ◌+◌, ◌<◌, true, List, leng
 use Rattle.std.proofs.lemmas.Bool.Decides.{nat_tests}
 use Rattle.squawk_lexer.specs.declared.token.Strings.{Strings}
 use Rattle.squawk_lexer.specs.declared.lexer.Start.{Start}
-use Rattle.squawk_lexer.specs.declared.lexer.Start.TheVariants.{White, LineComment, BlockComment, String, QuotedIdent, Word, Dollar, Number, DotDot, Fraction, Symbol}
+use Rattle.squawk_lexer.specs.declared.lexer.Start.TheVariants.{White, LineComment, BlockComment, String, QuotedIdent, Word, Dollar, Number, DotDot, Fraction, Psql, Symbol}
 use Rattle.squawk_lexer.specs.Place.{behind}
 use Rattle.squawk_lexer.specs.Runs.{run}
 use Rattle.squawk_lexer.specs.Classes.{is_white, is_id_start, is_digit}
 use Rattle.squawk_lexer.specs.Token.{start, begun, lexeme_of}
 use Rattle.squawk_lexer.proofs.Steps.{behind_read, behind_within, run_first}
 
-pub start_white : (c d : ℕ) → White ≡ start c d → is_white c ≡ true
+-- the test of each row
+abbrev row_test : Start → ℕ → ℕ → Bool
+row_test White c d = is_white c
+row_test LineComment c d = eqb c 45 && eqb d 45
+row_test BlockComment c d = eqb c 47 && eqb d 42
+row_test String c d = eqb c 39
+row_test QuotedIdent c d = eqb c 34
+row_test Word c d = is_id_start c
+row_test Dollar c d = eqb c 36
+row_test Number c d = is_digit c
+row_test DotDot c d = eqb c 46 && eqb d 46
+row_test Fraction c d = eqb c 46 && is_digit d
+row_test Psql c d = eqb c 92
+row_test Symbol c d = true
+
+-- of one test for each row, that of a row
+abbrev pick : Start → Bool → Bool → Bool → Bool → Bool → Bool → Bool → Bool → Bool → Bool → Bool → Bool
+pick White w l b s q i x n p f y = w
+pick LineComment w l b s q i x n p f y = l
+pick BlockComment w l b s q i x n p f y = b
+pick String w l b s q i x n p f y = s
+pick QuotedIdent w l b s q i x n p f y = q
+pick Word w l b s q i x n p f y = i
+pick Dollar w l b s q i x n p f y = x
+pick Number w l b s q i x n p f y = n
+pick DotDot w l b s q i x n p f y = p
+pick Fraction w l b s q i x n p f y = f
+pick Psql w l b s q i x n p f y = y
+pick Symbol w l b s q i x n p f y = true
+
+picked : (w l b s q i x n p f y : Bool)
+    → pick (cond w White (cond l LineComment (cond b BlockComment (cond s String (cond q QuotedIdent (cond i Word (cond x Dollar (cond n Number (cond p DotDot (cond f Fraction (cond y Psql Symbol))))))))))) w l b s q i x n p f y ≡ true
+picked true l b s q i x n p f y = refl
+picked false true b s q i x n p f y = refl
+picked false false true s q i x n p f y = refl
+picked false false false true q i x n p f y = refl
+picked false false false false true i x n p f y = refl
+picked false false false false false true x n p f y = refl
+picked false false false false false false true n p f y = refl
+picked false false false false false false false true p f y = refl
+picked false false false false false false false false true f y = refl
+picked false false false false false false false false false true y = refl
+picked false false false false false false false false false false true = refl
+picked false false false false false false false false false false false = refl
+
+same_test : (r : Start) (c d : ℕ) → pick r (is_white c) (eqb c 45 && eqb d 45) (eqb c 47 && eqb d 42) (eqb c 39) (eqb c 34) (is_id_start c) (eqb c 36) (is_digit c) (eqb c 46 && eqb d 46) (eqb c 46 && is_digit d) (eqb c 92) ≡ row_test r c d
+same_test White c d = refl
+same_test LineComment c d = refl
+same_test BlockComment c d = refl
+same_test String c d = refl
+same_test QuotedIdent c d = refl
+same_test Word c d = refl
+same_test Dollar c d = refl
+same_test Number c d = refl
+same_test DotDot c d = refl
+same_test Fraction c d = refl
+same_test Psql c d = refl
+same_test Symbol c d = refl
+
+-- the row that is chosen fits
+row_fits : (r : Start) (c d : ℕ) → r ≡ start c d → row_test r c d ≡ true
 unfolding start
-start_white c d e = grind (arith, nat_tests)
+row_fits r c d e =
+    sym (same_test r c d)
+    ∙ subst (λ t. pick t (is_white c) (eqb c 45 && eqb d 45) (eqb c 47 && eqb d 42) (eqb c 39) (eqb c 34) (is_id_start c) (eqb c 36) (is_digit c) (eqb c 46 && eqb d 46) (eqb c 46 && is_digit d) (eqb c 92) ≡ true) (sym e)
+    (picked (is_white c) (eqb c 45 && eqb d 45) (eqb c 47 && eqb d 42) (eqb c 39) (eqb c 34) (is_id_start c) (eqb c 36) (is_digit c) (eqb c 46 && eqb d 46) (eqb c 46 && is_digit d) (eqb c 92))
+
+pub start_white : (c d : ℕ) → White ≡ start c d → is_white c ≡ true
+start_white c d e = row_fits White c d e
 
 start_line : (c d : ℕ) → LineComment ≡ start c d → 0 < d
-unfolding start
-start_line c d e = grind (arith, nat_tests)
+start_line c d e = let t = row_fits LineComment c d e in grind (arith, nat_tests)
 
 start_block : (c d : ℕ) → BlockComment ≡ start c d → 0 < d
-unfolding start
-start_block c d e = grind (arith, nat_tests)
+start_block c d e = let t = row_fits BlockComment c d e in grind (arith, nat_tests)
 
 start_dots : (c d : ℕ) → DotDot ≡ start c d → 0 < d
-unfolding start
-start_dots c d e = grind (arith, nat_tests)
-
--- the row of `$` fits only where its test does
-dollar_row : (w l b s q i x n p f : Bool)
-    → Dollar ≡ cond w White (cond l LineComment (cond b BlockComment (cond s String (cond q QuotedIdent (cond i Word (cond x Dollar (cond n Number (cond p DotDot (cond f Fraction Symbol))))))))) → x ≡ true
-dollar_row true l b s q i x n p f e = absurd (cc)
-dollar_row false true b s q i x n p f e = absurd (cc)
-dollar_row false false true s q i x n p f e = absurd (cc)
-dollar_row false false false true q i x n p f e = absurd (cc)
-dollar_row false false false false true i x n p f e = absurd (cc)
-dollar_row false false false false false true x n p f e = absurd (cc)
-dollar_row false false false false false false true n p f e = refl
-dollar_row false false false false false false false true p f e = absurd (cc)
-dollar_row false false false false false false false false true f e = absurd (cc)
-dollar_row false false false false false false false false false true e = absurd (cc)
-dollar_row false false false false false false false false false false e = absurd (cc)
+start_dots c d e = let t = row_fits DotDot c d e in grind (arith, nat_tests)
 
 start_dollar : (c d : ℕ) → Dollar ≡ start c d → c ≡ 36
-unfolding start
-start_dollar c d e =
-    eqb-true c 36 (dollar_row (is_white c) (eqb c 45 && eqb d 45) (eqb c 47 && eqb d 42) (eqb c 39) (eqb c 34) (is_id_start c) (eqb c 36) (is_digit c) (eqb c 46 && eqb d 46) (eqb c 46 && is_digit d) e)
+start_dollar c d e = eqb-true c 36 (row_fits Dollar c d e)
+
+start_psql : (c d : ℕ) → Psql ≡ start c d → c ≡ 92
+start_psql c d e = eqb-true c 92 (row_fits Psql c d e)
 
 pub begin_white : (u : List ℕ) (i c d : ℕ) → i ≡ 0 → 0 < length u → c ≡ get_or u i 0 → White ≡ start c d → run is_white u (behind u i) ≡ run is_white u 0
 begin_white u i c d none some first e =
@@ -72,8 +121,11 @@ begin_dots u i c d none some second e =
 pub begin_dollar : (u : List ℕ) (i c d : ℕ) → i ≡ 0 → c ≡ get_or u i 0 → Dollar ≡ start c d → get_or u 0 0 ≡ 36
 begin_dollar u i c d none first e = sym (rw none at first) ∙ start_dollar c d e
 
+pub begin_psql : (u : List ℕ) (i c d : ℕ) → i ≡ 0 → c ≡ get_or u i 0 → Psql ≡ start c d → get_or u 0 0 ≡ 92
+begin_psql u i c d none first e = sym (rw none at first) ∙ start_psql c d e
+
 -- the row of a token, with the premises that the code has
 pub row : (strings : Strings) (u : List ℕ) (i c d : ℕ) (s : Start) → i ≡ 0 → c ≡ get_or u i 0 → d ≡ get_or u (i + 1) 0 → s ≡ start c d → lexeme_of strings u ≡ begun strings s u
 row strings u i c d s none first second e = rw (e, first, second, none) refl
 
-pub ruleset start_steps = (begin_white, begin_line, begin_block, begin_dollar, begin_dots, behind_within)
+pub ruleset start_steps = (begin_white, begin_line, begin_block, begin_dollar, begin_psql, begin_dots, behind_within)

@@ -1,5 +1,5 @@
 -- What holds of every token: it has a character at least, and is no `Eof`.
-use Rattle.std.proofs.Common.{◌≡◌, ℕ, zero, suc, ◌+◌, ◌<◌, ◌≤◌, Bool, true, false, List, [], ◌∷◌, length, get_or, take, None, refl, sym, ap, ◌∙◌, ◌&&◌, eqb, cond, arith}
+use Rattle.std.proofs.Common.{◌≡◌, ℕ, zero, suc, ◌+◌, ◌<◌, ◌≤◌, Bool, true, false, List, [], ◌∷◌, length, get_or, take, None, refl, sym, ap, ◌∙◌, ◌&&◌, eqb, cond, arith, Option, Some}
 use Rattle.std.proofs.lemmas.Bool.{false≢true}
 use Rattle.std.proofs.lemmas.Bool.Decides.{nat_tests}
 use Rattle.std.proofs.lemmas.List.Sums.{sum_by-cons}
@@ -8,15 +8,18 @@ use Rattle.std.specs.Char.{len_utf8}
 use Rattle.squawk_lexer.specs.Text.{bytes}
 use Rattle.squawk_lexer.specs.declared.token.Strings.{Strings}
 use Rattle.squawk_lexer.specs.declared.lexer.Start.{Start}
-use Rattle.squawk_lexer.specs.declared.lexer.Start.TheVariants.{White, LineComment, BlockComment, String, QuotedIdent, Word, Dollar, Number, DotDot, Fraction, Symbol}
+use Rattle.squawk_lexer.specs.declared.lexer.Start.TheVariants.{White, LineComment, BlockComment, String, QuotedIdent, Word, Dollar, Number, DotDot, Fraction, Psql, Symbol}
 use Rattle.squawk_lexer.specs.declared.word.Opening.{Opening}
 use Rattle.squawk_lexer.specs.declared.word.Opening.TheVariants.{National, Bit, Byte, Escape, UnicodeString, UnicodeIdent, Plain}
-use Rattle.squawk_lexer.specs.Classes.{is_id_start, is_digit, byte_order_mark}
-use Rattle.squawk_lexer.specs.Runs.{run, junk, digits, hex, exponent, is_exponent_letter, is_sign, fraction_digits}
+use Rattle.squawk_lexer.specs.Classes.{is_id_start, is_digit, byte_order_mark, is_blank}
+use Rattle.squawk_lexer.specs.Runs.{run, junk, digits, hex, exponent, is_exponent_letter, is_sign, fraction_digits, line}
 use Rattle.squawk_lexer.specs.Kind.{Lexeme, lexeme}
 use Rattle.squawk_lexer.specs.declared.token.Base.TheVariants.{Binary, Octal, Decimal, Hexadecimal}
 use Rattle.squawk_lexer.specs.Numbers.{number, decimal_from, fractional, with_exponent, numeric, int, based_int, parameter}
 use Rattle.squawk_lexer.specs.Dollar.{opens_dollar, dollar_string}
+use Rattle.squawk_lexer.specs.PsqlWords.{is_among, query_ending_words, pipe_words, option_words, takes_line}
+use Rattle.squawk_lexer.specs.PsqlParts.{args, marked}
+use Rattle.squawk_lexer.specs.Psql.{psql, word, word_end, options_end, output_start, output_end, command_end}
 use Rattle.squawk_lexer.specs.Symbols.{symbol}
 use Rattle.squawk_lexer.specs.Token.{start, opening, begun, opened, lexeme_of, lexeme_at, token_at}
 use Rattle.squawk_lexer.specs.declared.token.TokenKind.{TokenKind}
@@ -84,6 +87,35 @@ opened_on UnicodeString u = omega arith
 opened_on UnicodeIdent u = omega arith
 opened_on Plain u = omega arith
 
+-- of two ends, either is behind n
+later : (b : Bool) (x y n : ℕ) → n ≤ x → n ≤ y → n ≤ cond b x y
+later true x y n p q = p
+later false x y n p q = q
+
+options_on : (u : List ℕ) (i : ℕ) (o : Option ℕ) → i ≤ options_end u i o
+options_on u i None = omega arith
+options_on u i (Some n) = omega arith
+
+output_start_on : (b : Bool) (u : List ℕ) (i : ℕ) → i ≤ output_start b u i
+output_start_on b u i = later (b && eqb (get_or u i 0) 40) (options_end u i (marked u i)) i i (options_on u i (marked u i)) (omega arith)
+
+output_end_on : (u : List ℕ) (p : ℕ) → p ≤ output_end u p
+output_end_on u p = later (eqb (get_or u p 0) 124) (line u p) (args u p) p (omega arith) (omega arith)
+
+command_on : (u : List ℕ) → 1 ≤ command_end u
+command_on u =
+    let i = run is_blank u (word_end u) in
+    let p = output_start (is_among option_words (word u)) u i in
+    later (takes_line (word u)) (line u (word_end u)) _ 1 (omega arith)
+    (later (is_among pipe_words (word u)) (output_end u p) (args u (word_end u)) 1
+    (omega (arith, output_end_on u p, output_start_on (is_among option_words (word u)) u i)) (omega arith))
+
+psql_on : (u : List ℕ) → 1 ≤ (psql u).end
+psql_on u =
+    either_on (eqb (get_or u 1 0) 92) (lexeme (kinds.PsqlCommand false) 2) _ 1 (omega arith)
+    (either_on (eqb (get_or u 1 0) 59) (lexeme kinds.Semi 2) _ 1 (omega arith)
+    (either_on (eqb (get_or u 1 0) 58) (lexeme kinds.Colon 2) (lexeme (kinds.PsqlCommand (is_among query_ending_words (word u))) (command_end u)) 1 (omega arith) (command_on u)))
+
 begun_on : (strings : Strings) (s : Start) (u : List ℕ) → 0 < length u → s ≡ start (get_or u 0 0) (get_or u 1 0) → 1 ≤ (begun strings s u).end
 begun_on strings White u h e = rw (drop_read u 0 h, start_white (get_or u 0 0) (get_or u 1 0) e) (omega arith)
 begun_on strings LineComment u h e = omega arith
@@ -95,6 +127,7 @@ begun_on strings Dollar u h e = either_on (opens_dollar u) (dollar_string u) (pa
 begun_on strings Number u h e = number_on u
 begun_on strings DotDot u h e = omega arith
 begun_on strings Fraction u h e = fractional_on u 1
+begun_on strings Psql u h e = psql_on u
 begun_on strings Symbol u h e = omega arith
 
 -- a token has a character
@@ -155,6 +188,12 @@ opened_real UnicodeString u = record { real = refl }
 opened_real UnicodeIdent u = record { real = refl }
 opened_real Plain u = record { real = refl }
 
+psql_real : (u : List ℕ) → IsReal (psql u)
+psql_real u =
+    either_real (eqb (get_or u 1 0) 92) (lexeme (kinds.PsqlCommand false) 2) _ (record { real = refl })
+    (either_real (eqb (get_or u 1 0) 59) (lexeme kinds.Semi 2) _ (record { real = refl })
+    (either_real (eqb (get_or u 1 0) 58) (lexeme kinds.Colon 2) (lexeme (kinds.PsqlCommand (is_among query_ending_words (word u))) (command_end u)) (record { real = refl }) (record { real = refl })))
+
 begun_real : (strings : Strings) (s : Start) (u : List ℕ) → IsReal (begun strings s u)
 begun_real strings White u = record { real = refl }
 begun_real strings LineComment u = record { real = refl }
@@ -166,6 +205,7 @@ begun_real strings Dollar u = either_real (opens_dollar u) (dollar_string u) (pa
 begun_real strings Number u = number_real u
 begun_real strings DotDot u = record { real = refl }
 begun_real strings Fraction u = fractional_real u 1
+begun_real strings Psql u = psql_real u
 begun_real strings Symbol u = record { real = symbol_real (get_or u 0 0) }
 
 pub token_never_eof : (strings : Strings) (s : Bool) (u : List ℕ) → (token_at strings s u).kind ≡ kinds.Eof → ⊥

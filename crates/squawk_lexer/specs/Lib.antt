@@ -9,6 +9,8 @@ pub mod Kind
 pub mod Numbers
 pub mod Symbols
 pub mod Dollar
+pub mod PsqlWords
+pub mod PsqlParts
 pub mod Psql
 pub mod Token
 pub mod Cut

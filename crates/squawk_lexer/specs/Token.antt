@@ -7,7 +7,7 @@ use Rattle.squawk_lexer.specs.declared.token.LiteralKind.TheVariants.{Str, Natio
 use Rattle.squawk_lexer.specs.declared.token.Strings.{Strings}
 use Rattle.squawk_lexer.specs.declared.token.Strings.TheVariants.{Standard, Backslash}
 use Rattle.squawk_lexer.specs.declared.lexer.Start.{Start}
-use Rattle.squawk_lexer.specs.declared.lexer.Start.TheVariants.{White, LineComment, BlockComment, String, QuotedIdent, Word, Dollar, Number, DotDot, Fraction, Symbol}
+use Rattle.squawk_lexer.specs.declared.lexer.Start.TheVariants.{White, LineComment, BlockComment, String, QuotedIdent, Word, Dollar, Number, DotDot, Fraction, Psql, Symbol}
 use Rattle.squawk_lexer.specs.declared.word.Opening.{Opening}
 use Rattle.squawk_lexer.specs.declared.word.Opening.TheVariants.{National, Bit, Byte, Escape, UnicodeString, UnicodeIdent, Plain}
 use Rattle.squawk_lexer.specs.Kind.{Lexeme, lexeme, literal}
@@ -18,6 +18,7 @@ use Rattle.squawk_lexer.specs.Quoted.{quoted, is_terminated}
 use Rattle.squawk_lexer.specs.Comment.{comment_end, is_closed}
 use Rattle.squawk_lexer.specs.Numbers.{number, fractional}
 use Rattle.squawk_lexer.specs.Dollar.{dollar}
+use Rattle.squawk_lexer.specs.Psql.{psql}
 use Rattle.squawk_lexer.specs.Symbols.{symbol}
 
 -- whether a backslash and the character behind it are a pair in a string without a prefix
@@ -75,6 +76,7 @@ start c d =
     else if is_digit c then Number
     else if c == 46 && d == 46 then DotDot
     else if c == 46 && is_digit d then Fraction
+    else if c == 92 then Psql
     else Symbol
 
 -- the token of each row
@@ -89,6 +91,7 @@ begun strings Dollar u = dollar u
 begun strings Number u = number u
 begun strings DotDot u = lexeme kinds.DotDot 2
 begun strings Fraction u = fractional u 1
+begun strings Psql u = psql u
 begun strings Symbol u = lexeme (symbol (slice_index u 0)) 1
 
 -- the token at the front of a text

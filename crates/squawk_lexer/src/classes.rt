@@ -1,16 +1,18 @@
 //! Sets of characters.
 ghost use Rattle.std.specs.Prelude.{◌≡◌};
-ghost use Rattle.squawk_lexer.specs.Classes.{class_test, is_white, is_id_cont, is_digit, is_hex_digit, is_id_start};
+ghost use Rattle.squawk_lexer.specs.Classes.{class_test, is_white, is_blank, is_id_cont, is_digit, is_hex_digit, is_id_start};
 
 /// A set of characters that a cursor can pass over.
 #[derive(Clone, Copy)]
 pub(crate) enum Class {
     White,
+    Blank,
     IdCont,
     Digit,
     NotLineEnd,
     TagCont,
     NotDollar,
+    CommandWord,
 }
 
 /// Space, TAB, LF, VT, FF or CR.
@@ -18,6 +20,13 @@ pub(crate) fn is_white(c: char) -> bool
     ensures { result ≡ is_white c }
 {
     matches!(c, ' ' | '\t' | '\n' | '\r' | '\u{B}' | '\u{C}')
+}
+
+/// White that ends no line.
+pub(crate) fn is_blank(c: char) -> bool
+    ensures { result ≡ is_blank c }
+{
+    matches!(c, ' ' | '\t' | '\u{B}' | '\u{C}')
 }
 
 /// What an identifier begins with.
@@ -52,10 +61,12 @@ pub(crate) fn is_in(class: Class, c: char) -> bool
 {
     match class {
         Class::White => is_white(c),
+        Class::Blank => is_blank(c),
         Class::IdCont => is_id_cont(c),
         Class::Digit => is_digit(c),
         Class::NotLineEnd => c != '\n' && c != '\r',
         Class::TagCont => is_id_cont(c) && c != '$',
         Class::NotDollar => c != '$',
+        Class::CommandWord => !is_white(c) && c != '\\',
     }
 }

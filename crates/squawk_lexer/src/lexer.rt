@@ -1,11 +1,12 @@
 //! The token at the front of a text.
-ghost use Rattle.std.specs.Prelude.{◌≡◌, ◌≢◌, ◌+◌, ◌<◌, ◌==◌, ◌^◌, length, drop, true};
+ghost use Rattle.std.specs.Prelude.{◌≡◌, ◌≢◌, ◌+◌, ◌<◌, ◌==◌, ◌^◌, ◌∷◌, length, drop, true, false};
 ghost use Rattle.std.specs.Str.{chars, is_utf8, IsCharBoundary};
 ghost use Rattle.squawk_lexer.specs.Kind.{lexeme};
 ghost use Rattle.squawk_lexer.specs.Place.{behind};
 ghost use Rattle.squawk_lexer.specs.Classes.{is_white, apostrophe};
 ghost use Rattle.squawk_lexer.specs.Symbols.{symbol};
 ghost use Rattle.squawk_lexer.specs.Token.{start, lexeme_of, lexeme_at, token_at};
+ghost use Rattle.squawk_lexer.specs.Cut.{tokens_from};
 
 use crate::classes::{Class, is_digit, is_id_start, is_white};
 use crate::cursor::Cursor;
@@ -63,6 +64,7 @@ enum Start {
     Number,
     DotDot,
     Fraction,
+    Psql,
     Symbol,
 }
 
@@ -81,6 +83,7 @@ fn start_of(first: char, second: char) -> Start
         (c, _) if is_digit(c) => Start::Number,
         ('.', '.') => Start::DotDot,
         ('.', d) if is_digit(d) => Start::Fraction,
+        ('\\', _) => Start::Psql,
         _ => Start::Symbol,
     }
 }
@@ -125,6 +128,7 @@ impl<'a> Cursor<'a> {
                 TokenKind::DotDot
             }
             Start::Fraction => self.fractional(),
+            Start::Psql => self.psql_command(),
             Start::Symbol => symbol(first),
         }
     }
@@ -160,6 +164,8 @@ pub fn cut_at(input: &str, at: usize) -> Token
     requires boundary { IsCharBoundary input.now at }
     requires fits { length input.now < 2 ^ 32 }
     ensures token { result ≡ token_at Strings.Standard (at == 0) (chars (drop at input.now)) }
+    ensures first { tokens_from Strings.Standard 0 (at == 0) (chars (drop at input.now))
+        ≡ result ∷ tokens_from Strings.Standard 0 false (chars (drop (at + result.len) input.now)) }
     ensures positive { 0 < result.len }
     ensures ends_between { IsCharBoundary input.now (at + result.len) }
     ensures never_eof { result.kind ≢ TokenKind.Eof }
@@ -173,6 +179,8 @@ pub fn cut_at_in(input: &str, at: usize, strings: Strings) -> Token
     requires boundary { IsCharBoundary input.now at }
     requires fits { length input.now < 2 ^ 32 }
     ensures token { result ≡ token_at strings (at == 0) (chars (drop at input.now)) }
+    ensures first { tokens_from strings 0 (at == 0) (chars (drop at input.now))
+        ≡ result ∷ tokens_from strings 0 false (chars (drop (at + result.len) input.now)) }
     ensures positive { 0 < result.len }
     ensures ends_between { IsCharBoundary input.now (at + result.len) }
     ensures never_eof { result.kind ≢ TokenKind.Eof }

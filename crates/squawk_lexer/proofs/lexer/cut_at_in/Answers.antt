@@ -2,7 +2,7 @@ use Rattle.std.proofs.Common.{◌<◌, length, arith, subst, IsUtf8}
 use Rattle.std.specs.Str.{chars}
 use Rattle.squawk_lexer.proofs.Chars.{some_chars}
 use Rattle.squawk_lexer.proofs.TokenLaws.{token_positive, token_never_eof}
-use Rattle.squawk_lexer.proofs.CutLaws.{token_boundary}
+use Rattle.squawk_lexer.proofs.CutLaws.{token_boundary, token_then}
 use Rattle.squawk_lexer.proofs.lexer.cut_at_in.Goals as goal
 
 has_chars : (c : goal.After-result-1) → 0 < length (chars c.range_from.result.now)
@@ -18,3 +18,9 @@ returns-clause-ends_between c =
 
 pub returns-clause-never_eof : goal.returns-clause-never_eof
 returns-clause-never_eof c = λ e. token_never_eof c.args.strings _ (chars c.range_from.result.now) (rw c.cut.ensures.token at e)
+
+pub returns-clause-first : goal.returns-clause-first
+returns-clause-first c =
+    let rest = subst IsUtf8 c.range_from.ensures.value c.range_from.utf8 in
+    let some = subst (λ x. 0 < length (chars x)) c.range_from.ensures.value (has_chars c) in
+    rw (c.cut.ensures.token, c.range_from.ensures.value) (token_then c.args.strings _ c.args.input.now c.args.at rest some)

@@ -1,0 +1,331 @@
+-- Steps within the arguments of a psql command.
+use Rattle.std.proofs.Common.{◌≡◌, ℕ, zero, suc, ◌+◌, ◌-◌, ◌<◌, ◌≤◌, Bool, true, false, ◌&&◌, ◌||◌, not, List, [], ◌∷◌, length, take, drop, get_or, slice_get, Option, None, Some, refl, sym, ap, ◌∙◌, inl, inr, ◌⊎◌, eqb, eq-eqb, eqb-true, arith, unwrap_or, is_some, option_map, cond}
+use Rattle.std.specs.List.{prefix_len}
+use Rattle.std.proofs.lemmas.Bool.Decides.{nat_tests}
+use Rattle.std.proofs.lemmas.Bool.{cases_lt, cases_eq}
+use Rattle.std.proofs.lemmas.List.{drop-drop}
+use Rattle.std.proofs.lemmas.List.Sums.{prefix_len-le-length}
+use Rattle.squawk_lexer.specs.Place.{behind}
+use Rattle.squawk_lexer.specs.Runs.{run, line}
+use Rattle.squawk_lexer.specs.Classes.{is_line_end, is_not_line_end, is_blank}
+use Rattle.squawk_lexer.specs.PsqlParts.{is_quote, is_pair, close_len, quote_len, last_inside, ends_arguments, part_rest, args_len, args, mark_behind, is_parenthesis, marked_len, marked}
+use Rattle.squawk_lexer.proofs.Steps.{drop_some, drop_none, drop_read, drop_past, within_some, within_read, behind_some, behind_none, behind_within, behind_past, behind_on, ne-eqb, run_more, run_stop, run_end}
+
+-- ---- a quote, whose opening stands before the place
+
+-- the place behind the closing quote
+abbrev pub close_end : ℕ → List ℕ → ℕ → Option ℕ
+close_end q u i = option_map (λ n. i + n) (close_len q (drop i u))
+
+-- the last character from i on before j
+abbrev pub last_before : List ℕ → ℕ → ℕ → Option ℕ
+last_before u i j = slice_get (take (j - i) (drop i u)) (j - i - 1)
+
+further : (o : Option ℕ) (i n : ℕ) → option_map (λ m. i + m) (option_map (λ m. m + n) o) ≡ option_map (λ m. i + n + m) o
+further None i n = refl
+further (Some m) i n = ap Some (omega arith)
+
+pub quote_plain : (q : ℕ) (u : List ℕ) (i c : ℕ) → Some c ≡ slice_get u i → is_line_end c ≡ false → (c ≡ q → ⊥) → is_pair q c (get_or u (behind u i) 0) ≡ false
+    → (close_end q u i ≡ close_end q u (behind u i)) × (line u i ≡ line u (behind u i))
+quote_plain q u i c s plain other no_pair = (by (cases_lt (i + 1) (length u)), rw b (sym (run_more is_not_line_end u i c s (rw plain refl))))
+  where
+    b : behind u i ≡ i + 1
+    b = behind_some u i c s
+
+    by : (i + 1 < length u) ⊎ (length u ≤ i + 1) → close_end q u i ≡ close_end q u (behind u i)
+    by (inl h) =
+        let single : is_pair q c (get_or u (i + 1) 0) ≡ false = rw b at no_pair in
+        rw (b, drop_some u i c s, drop_read u (i + 1) h, plain, ne-eqb c q other, single) (further (close_len q (get_or u (i + 1) 0 ∷ drop (i + 1 + 1) u)) i 1)
+    by (inr h) = rw (b, drop_some u i c s, drop_past u (i + 1) h, ne-eqb c q other) refl
+
+slice_some : (u : List ℕ) (i : ℕ) → i < length u → Some (get_or u i 0) ≡ slice_get u i
+slice_some [] i h = absurd (omega arith)
+slice_some (x ∷ u) zero h = refl
+slice_some (x ∷ u) (suc i) h = slice_some u i (omega arith)
+
+pub quote_pair : (q : ℕ) (u : List ℕ) (i c : ℕ) → Some c ≡ slice_get u i → is_line_end c ≡ false → (c ≡ q → ⊥) → is_pair q c (get_or u (behind u i) 0) ≡ true
+    → (close_end q u i ≡ close_end q u (behind u (behind u i))) × (line u i ≡ line u (behind u (behind u i)))
+quote_pair q u i c s plain other pair = by (cases_lt (i + 1) (length u))
+  where
+    b : behind u i ≡ i + 1
+    b = behind_some u i c s
+
+    d : ℕ
+    d = get_or u (i + 1) 0
+
+    both : is_pair q c (get_or u (i + 1) 0) ≡ true
+    both = rw b at pair
+
+    next_plain : (d : ℕ) → is_pair q c d ≡ true → is_not_line_end d ≡ true
+    next_plain d h = grind (arith, nat_tests)
+
+    on : line u (i + 1) ≡ line u i
+    on = run_more is_not_line_end u i c s (rw plain refl)
+
+    by : (i + 1 < length u) ⊎ (length u ≤ i + 1) → (close_end q u i ≡ close_end q u (behind u (behind u i))) × (line u i ≡ line u (behind u (behind u i)))
+    by (inl h) =
+        let two : i + 1 + 1 ≡ i + 2 = omega arith in
+        let more : line u (i + 1 + 1) ≡ line u (i + 1) = run_more is_not_line_end u (i + 1) (get_or u (i + 1) 0) (slice_some u (i + 1) h) (next_plain (get_or u (i + 1) 0) both) in
+        rw (b, behind_within u (i + 1) h)
+        ((rw (drop_some u i c s, drop_read u (i + 1) h, plain, ne-eqb c q other, both, two) (further (close_len q (drop (i + 2) u)) i 2)), sym on ∙ sym more)
+    by (inr h) = rw (b, behind_past u (i + 1) h) ((rw (drop_some u i c s, drop_past u (i + 1) h, ne-eqb c q other) refl), sym on)
+
+pub quote_close : (q : ℕ) (u : List ℕ) (i c : ℕ) → Some c ≡ slice_get u i → is_line_end c ≡ false → c ≡ q → close_end q u i ≡ Some (behind u i)
+quote_close q u i c s plain same = rw (behind_some u i c s, drop_some u i c s) (at (drop (i + 1) u))
+  where
+    at : (r : List ℕ) → option_map (λ n. i + n) (close_len q (c ∷ r)) ≡ Some (i + 1)
+    at [] = rw (eq-eqb c q same) refl
+    at (d ∷ r) = rw (plain, eq-eqb c q same) refl
+
+quote_is_plain : (q c : ℕ) → is_quote q ≡ true → is_line_end c ≡ true → eqb c q ≡ false
+quote_is_plain q c h e = grind (arith, nat_tests)
+
+pub quote_stop : (q : ℕ) (u : List ℕ) (i c : ℕ) → is_quote q ≡ true → Some c ≡ slice_get u i → is_line_end c ≡ true → (close_end q u i ≡ None) × (line u i ≡ i)
+quote_stop q u i c quote s ends = (rw (drop_some u i c s) (at (drop (i + 1) u)), run_stop is_not_line_end u i c s (rw ends refl))
+  where
+    at : (r : List ℕ) → option_map (λ n. i + n) (close_len q (c ∷ r)) ≡ None
+    at [] = rw (quote_is_plain q c quote ends) refl
+    at (d ∷ r) = rw ends refl
+
+pub quote_none : (q : ℕ) (u : List ℕ) (i : ℕ) → None ≡ slice_get u i → (close_end q u i ≡ None) × (line u i ≡ i)
+quote_none q u i s = (rw (drop_none u i s) refl, run_end is_not_line_end u i s)
+
+-- the end of a quote, and the last character in it
+pub closed : (q : ℕ) (u : List ℕ) (i j : ℕ) → close_end q u i ≡ Some (j + 1)
+    → (i + quote_len q (drop i u) ≡ j + 1) × (last_inside (drop i u) (close_len q (drop i u)) ≡ last_before u i j)
+closed q u i j e = by (close_len q (drop i u)) e
+  where
+    by : (o : Option ℕ) → option_map (λ n. i + n) o ≡ Some (j + 1) → (i + unwrap_or o (prefix_len is_not_line_end (drop i u)) ≡ j + 1) × (last_inside (drop i u) o ≡ last_before u i j)
+    by None e = absurd (cc)
+    by (Some n) e =
+        let ends : i + n ≡ j + 1 = cc in
+        let inside : n - 1 ≡ j - i = omega arith in
+        let last : n - 2 ≡ j - i - 1 = omega arith in
+        (ends, rw (inside, last) refl)
+
+pub unclosed : (q : ℕ) (u : List ℕ) (i j : ℕ) → close_end q u i ≡ None → line u i ≡ j
+    → (i + quote_len q (drop i u) ≡ j) × (last_inside (drop i u) (close_len q (drop i u)) ≡ None)
+unclosed q u i j e l = by (close_len q (drop i u)) e
+  where
+    by : (o : Option ℕ) → option_map (λ n. i + n) o ≡ None → (i + unwrap_or o (prefix_len is_not_line_end (drop i u)) ≡ j) × (last_inside (drop i u) o ≡ None)
+    by None e = (l, refl)
+    by (Some n) e = absurd (cc)
+
+take_last : (v : List ℕ) (k : ℕ) → slice_get (take (k + 1) v) k ≡ slice_get v k
+take_last [] k = let next : k + 1 ≡ suc k = omega arith in rw next refl
+take_last (x ∷ v) zero = refl
+take_last (x ∷ v) (suc k) = let next : suc k + 1 ≡ suc (k + 1) = omega arith in rw next (take_last v k)
+
+read_on : (u : List ℕ) (i k : ℕ) → slice_get (drop i u) k ≡ slice_get u (i + k)
+read_on u zero k = let none : 0 + k ≡ k = omega arith in rw none refl
+read_on [] (suc i) k = refl
+read_on (x ∷ u) (suc i) k = let next : suc i + k ≡ suc (i + k) = omega arith in rw next (read_on u i k)
+
+pub last_one : (u : List ℕ) (i j c : ℕ) → i ≤ j → Some c ≡ slice_get u j → Some c ≡ last_before u i (behind u j)
+last_one u i j c on s =
+    let k : j + 1 - i ≡ j - i + 1 = omega arith in
+    let k' : j - i + 1 - 1 ≡ j - i = omega arith in
+    let to : i + (j - i) ≡ j = omega arith in
+    let here : slice_get (take (j - i + 1) (drop i u)) (j - i) ≡ slice_get u (i + (j - i)) = take_last (drop i u) (j - i) ∙ read_on u i (j - i) in
+    rw (behind_some u j c s, k, k') (s ∙ sym (rw to at here))
+
+pub last_none : (u : List ℕ) (i : ℕ) → None ≡ last_before u i i
+last_none u i = let none : i - i ≡ 0 = omega arith in rw none refl
+
+-- ---- the same in the loop over a quote that begins at i of u: its place is j of v, the same text
+
+pub quote_closed : (q : ℕ) (u : List ℕ) (i : ℕ) (v : List ℕ) (j c : ℕ) → v ≡ u → close_end q v j ≡ close_end q u i → Some c ≡ slice_get v j → is_line_end c ≡ false → c ≡ q
+    → (behind v j ≡ i + quote_len q (drop i u)) × (last_before u i j ≡ last_inside (drop i u) (close_len q (drop i u)))
+quote_closed q u i v j c same inv s plain is_q =
+    let b : behind v j ≡ j + 1 = behind_some v j c s in
+    let e : close_end q u i ≡ Some (j + 1) = sym inv ∙ quote_close q v j c s plain is_q ∙ ap Some b in
+    let k = closed q u i j e in
+    (b ∙ sym k.0, sym k.1)
+
+last_read : (u : List ℕ) (i j : ℕ) (r : Option ℕ) → i ≤ j → r ≡ slice_get u j → behind u j < length u → r ≡ last_before u i (behind u j)
+last_read u i j None on s within = absurd (let past = past_none u j s in let b = behind_none u j s in omega arith)
+  where
+    past_none : (u : List ℕ) (j : ℕ) → None ≡ slice_get u j → length u ≤ j
+    past_none [] j s = omega arith
+    past_none (x ∷ u) zero s = absurd (cc)
+    past_none (x ∷ u) (suc j) s = omega (arith, past_none u j s)
+last_read u i j (Some c) on s within = last_one u i j c on s
+
+-- behind a piece, at the place k
+pub record IsTurn (q : ℕ) (u : List ℕ) (i : ℕ) (v : List ℕ) (k : ℕ) : Type 0 where
+  pub on : i ≤ k
+  pub close : close_end q v k ≡ close_end q u i
+  pub line : line v k ≡ line u i
+
+pub one_piece : (q : ℕ) (u : List ℕ) (i : ℕ) (v : List ℕ) (j c : ℕ) → v ≡ u → IsTurn q u i v j → Some c ≡ slice_get v j → is_line_end c ≡ false → (c ≡ q → ⊥)
+    → is_pair q c (get_or v (behind v j) 0) ≡ false → IsTurn q u i v (behind v j) × (Some c ≡ last_before u i (behind v j)) × (length v - behind v j < length v - j)
+one_piece q u i v j c same t s plain other no_pair =
+    let p = quote_plain q v j c s plain other no_pair in
+    let b : behind v j ≡ j + 1 = behind_some v j c s in
+    let within : j < length v = within_some v j c s in
+    let on : i ≤ j = t.on in
+    let last : Some c ≡ last_before v i (behind v j) = last_one v i j c on s in
+    (record { on = omega arith; close = sym p.0 ∙ t.close; line = sym p.1 ∙ t.line }, last ∙ ap (λ x. last_before x i (behind v j)) same, omega arith)
+
+pub two_pieces : (q : ℕ) (u : List ℕ) (i : ℕ) (v : List ℕ) (j c : ℕ) (r : Option ℕ) → v ≡ u → IsTurn q u i v j → Some c ≡ slice_get v j → is_line_end c ≡ false → (c ≡ q → ⊥)
+    → is_pair q c (get_or v (behind v j) 0) ≡ true → r ≡ slice_get v (behind v j)
+    → IsTurn q u i v (behind v (behind v j)) × (behind v (behind v j) < length v → r ≡ last_before u i (behind v (behind v j))) × (length v - behind v (behind v j) < length v - j)
+two_pieces q u i v j c r same t s plain other pair read =
+    let p = quote_pair q v j c s plain other pair in
+    let b : behind v j ≡ j + 1 = behind_some v j c s in
+    let more : behind v j ≤ behind v (behind v j) = (behind_on v (behind v j)).1 in
+    let within : j < length v = within_some v j c s in
+    let on : i ≤ j = t.on in
+    let on' : i ≤ behind v j = omega arith in (
+      record { on = omega arith; close = sym p.0 ∙ t.close; line = sym p.1 ∙ t.line },
+      (λ h. last_read v i (behind v j) r on' read h ∙ ap (λ x. last_before x i (behind v (behind v j))) same),
+      omega arith,
+    )
+
+pub ruleset quote_steps = (quote_stop, quote_none, unclosed, last_none)
+
+-- ---- the arguments
+
+close_within : (q : ℕ) (cs : List ℕ) → unwrap_or (close_len q cs) 0 ≤ length cs
+close_within q [] = omega arith
+close_within q (c ∷ []) = elim (eqb c q) as (λ b. unwrap_or (cond b (Some 1) None) 0 ≤ 1) [ true ↦ omega arith | false ↦ omega arith ]
+close_within q (c ∷ d ∷ cs) = each (is_line_end c) (eqb c q) (is_pair q c d) (close_len q cs) (close_len q (d ∷ cs)) (close_within q cs) (close_within q (d ∷ cs))
+  where
+    each : (b1 b2 b3 : Bool) (x y : Option ℕ) → unwrap_or x 0 ≤ length cs → unwrap_or y 0 ≤ length (d ∷ cs)
+        → unwrap_or (cond b1 None (cond b2 (Some 1) (cond b3 (option_map (λ n. n + 2) x) (option_map (λ n. n + 1) y)))) 0 ≤ length (c ∷ d ∷ cs)
+    each true b2 b3 x y p q = omega arith
+    each false true b3 x y p q = omega arith
+    each false false true None y p q = omega arith
+    each false false true (Some n) y p q = omega arith
+    each false false false x None p q = omega arith
+    each false false false x (Some n) p q = omega arith
+
+quote_within : (q : ℕ) (cs : List ℕ) → quote_len q cs ≤ length cs
+quote_within q cs = by (close_len q cs) (close_within q cs)
+  where
+    by : (o : Option ℕ) → unwrap_or o 0 ≤ length cs → unwrap_or o (prefix_len is_not_line_end cs) ≤ length cs
+    by None h = prefix_len-le-length is_not_line_end cs
+    by (Some n) h = h
+
+rest_within : (c : ℕ) (cs : List ℕ) → part_rest c cs ≤ length cs
+rest_within c cs = elim (is_quote c) as (λ b. cond b (quote_len c cs) 0 ≤ length cs) [ true ↦ quote_within c cs | false ↦ omega arith ]
+
+args_inside : (k : ℕ) (cs : List ℕ) → k ≤ length cs → args_len k cs ≡ k + args_len 0 (drop k cs)
+args_inside zero cs h = omega arith
+args_inside (suc k) [] h = absurd (omega arith)
+args_inside (suc k) (c ∷ cs) h = omega (arith, args_inside k cs (omega arith))
+
+pub args_part : (u : List ℕ) (i c : ℕ) → Some c ≡ slice_get u i → ends_arguments c ≡ false → args u i ≡ args u (i + 1 + part_rest c (drop (i + 1) u))
+args_part u i c s more =
+    let p = part_rest c (drop (i + 1) u) in
+    let inside : args_len p (drop (i + 1) u) ≡ p + args_len 0 (drop p (drop (i + 1) u)) = args_inside p (drop (i + 1) u) (rest_within c (drop (i + 1) u)) in
+    let there : drop p (drop (i + 1) u) ≡ drop (i + 1 + p) u = drop-drop p (i + 1) u in
+    let rest = rw there at inside in
+    rw (drop_some u i c s, more) (omega arith)
+
+pub args_stop : (u : List ℕ) (i c : ℕ) → Some c ≡ slice_get u i → ends_arguments c ≡ true → args u i ≡ i
+args_stop u i c s ends = rw (drop_some u i c s, ends) (omega arith)
+
+pub args_none : (u : List ℕ) (i : ℕ) → None ≡ slice_get u i → args u i ≡ i
+args_none u i s = rw (drop_none u i s) (omega arith)
+
+-- behind a quote, from behind its opening at i
+pub part_quote : (u : List ℕ) (i c : ℕ) (v : List ℕ) (j k : ℕ) → Some c ≡ slice_get u i → is_quote c ≡ true → v ≡ u → j ≡ behind u i → k ≡ j + quote_len c (drop j v)
+    → k ≡ i + 1 + part_rest c (drop (i + 1) u)
+part_quote u i c v j k s quote same to past = rw (quote, ← behind_some u i c s, ← to, ← same) past
+
+pub ruleset part_steps = (behind_some, behind_on, nat_tests)
+
+pub ruleset args_steps = (args_part, args_stop, args_none, within_some)
+
+-- ---- the first argument whose mark is `)`
+
+abbrev pub marked_end : Option ℕ → List ℕ → ℕ → Option ℕ
+marked_end mark u i = option_map (λ n. i + n) (marked_len 0 mark (drop i u))
+
+map_on : (o : Option ℕ) (k : ℕ) → option_map (λ n. n + 1) (option_map (λ n. k + n) o) ≡ option_map (λ n. suc k + n) o
+map_on None k = refl
+map_on (Some m) k = ap Some (omega arith)
+
+map_none : (o : Option ℕ) → o ≡ option_map (λ n. 0 + n) o
+map_none None = refl
+map_none (Some m) = ap Some (omega arith)
+
+map_past : (o : Option ℕ) (i k : ℕ) → option_map (λ n. i + n) (option_map (λ n. n + 1) (option_map (λ n. k + n) o)) ≡ option_map (λ n. i + 1 + k + n) o
+map_past None i k = refl
+map_past (Some m) i k = ap Some (omega arith)
+
+marked_inside : (k : ℕ) (mark : Option ℕ) (cs : List ℕ) → k ≤ length cs → marked_len k mark cs ≡ option_map (λ n. k + n) (marked_len 0 mark (drop k cs))
+marked_inside zero mark cs h = map_none (marked_len 0 mark cs)
+marked_inside (suc k) mark [] h = absurd (omega arith)
+marked_inside (suc k) mark (c ∷ cs) h = ap (option_map (λ n. n + 1)) (marked_inside k mark cs (omega arith)) ∙ map_on (marked_len 0 mark (drop k cs)) k
+
+pub marked_part : (mark : Option ℕ) (u : List ℕ) (i c : ℕ) → Some c ≡ slice_get u i → ends_arguments c ≡ false → is_blank c ≡ false
+    → marked_end mark u i ≡ marked_end (mark_behind mark c (drop (i + 1) u)) u (i + 1 + part_rest c (drop (i + 1) u))
+marked_part mark u i c s more no_blank =
+    let p = part_rest c (drop (i + 1) u) in
+    let m = mark_behind mark c (drop (i + 1) u) in
+    let inside = marked_inside p m (drop (i + 1) u) (rest_within c (drop (i + 1) u)) in
+    let there : drop p (drop (i + 1) u) ≡ drop (i + 1 + p) u = drop-drop p (i + 1) u in
+    let rest = rw there at inside in
+    rw (drop_some u i c s, more, no_blank) (ap (λ o. option_map (λ n. i + n) (option_map (λ n. n + 1) o)) rest ∙ map_past (marked_len 0 m (drop (i + 1 + p) u)) i p)
+
+blank_is_plain : (c : ℕ) → is_blank c ≡ true → is_quote c ≡ false
+blank_is_plain c e = grind (arith, nat_tests)
+
+pub marked_blank : (mark : Option ℕ) (u : List ℕ) (i c : ℕ) → Some c ≡ slice_get u i → ends_arguments c ≡ false → is_blank c ≡ true → is_parenthesis mark ≡ false
+    → (marked_end mark u i ≡ marked_end None u (behind u i)) × (args u i ≡ args u (behind u i))
+marked_blank mark u i c s more blank other = (
+  (rw (behind_some u i c s, drop_some u i c s, more, blank, other) (past (marked_len 0 None (drop (i + 1) u)))),
+  (args_part u i c s more ∙ ap (λ b. args u (i + 1 + cond b (quote_len c (drop (i + 1) u)) 0)) (blank_is_plain c blank) ∙ ap (args u) (omega arith ∙ sym (behind_some u i c s))),
+)
+  where
+    past : (o : Option ℕ) → option_map (λ n. i + n) (option_map (λ n. n + 1) o) ≡ option_map (λ n. i + 1 + n) o
+    past None = refl
+    past (Some m) = ap Some (omega arith)
+
+pub marked_found : (mark : Option ℕ) (u : List ℕ) (i c : ℕ) → Some c ≡ slice_get u i → ends_arguments c ≡ false → is_blank c ≡ true → is_parenthesis mark ≡ true
+    → marked_end mark u i ≡ Some i
+marked_found mark u i c s more blank found = rw (drop_some u i c s, more, blank, found) (ap Some (omega arith))
+
+-- where the arguments end, that at hand may have the mark
+pub marked_stop : (mark : Option ℕ) (u : List ℕ) (i c : ℕ) → Some c ≡ slice_get u i → ends_arguments c ≡ true
+    → (marked_end mark u i ≡ cond (is_parenthesis mark) (Some i) None) × (args u i ≡ i)
+marked_stop mark u i c s ends = ((rw (drop_some u i c s, ends) (last (is_parenthesis mark) i)), args_stop u i c s ends)
+  where
+    last : (b : Bool) (i : ℕ) → option_map (λ n. i + n) (cond b (Some 0) None) ≡ cond b (Some i) None
+    last true i = ap Some (omega arith)
+    last false i = refl
+
+pub marked_none : (mark : Option ℕ) (u : List ℕ) (i : ℕ) → None ≡ slice_get u i
+    → (marked_end mark u i ≡ cond (is_parenthesis mark) (Some i) None) × (args u i ≡ i)
+marked_none mark u i s = ((rw (drop_none u i s) (last (is_parenthesis mark) i)), args_none u i s)
+  where
+    last : (b : Bool) (i : ℕ) → option_map (λ n. i + n) (cond b (Some 0) None) ≡ cond b (Some i) None
+    last true i = ap Some (omega arith)
+    last false i = refl
+
+-- what the end says of the length
+pub marked_at : (u : List ℕ) (i : ℕ) (o : Option ℕ) → marked_end None u i ≡ o
+    → (i + unwrap_or (marked u i) (args_len 0 (drop i u)) ≡ unwrap_or o (args u i)) × (is_some (marked u i) ≡ is_some o)
+marked_at u i o e = by (marked u i) e
+  where
+    by : (m : Option ℕ) → option_map (λ n. i + n) m ≡ o → (i + unwrap_or m (args_len 0 (drop i u)) ≡ unwrap_or o (args u i)) × (is_some m ≡ is_some o)
+    by None e = rw (← e) (refl, refl)
+    by (Some n) e = rw (← e) (refl, refl)
+
+pub marked_last : (mark : Option ℕ) (u : List ℕ) (i j : ℕ) → marked_end None u i ≡ cond (is_parenthesis mark) (Some j) None → args u i ≡ j
+    → (i + unwrap_or (marked u i) (args_len 0 (drop i u)) ≡ j) × (is_some (marked u i) ≡ is_parenthesis mark)
+marked_last mark u i j e ends = by (is_parenthesis mark) e
+  where
+    by : (b : Bool) → marked_end None u i ≡ cond b (Some j) None → (i + unwrap_or (marked u i) (args_len 0 (drop i u)) ≡ j) × (is_some (marked u i) ≡ b)
+    by true e = let m = marked_at u i (Some j) e in (m.0, m.1)
+    by false e = let m = marked_at u i None e in (m.0 ∙ ends, m.1)
+
+-- the same in the loop from i of u on, at the place j of v, the same text
+pub marked_returns : (mark : Option ℕ) (u : List ℕ) (i : ℕ) (v : List ℕ) (j : ℕ) → args v j ≡ args u i → marked_end mark v j ≡ marked_end None u i
+    → (marked_end mark v j ≡ cond (is_parenthesis mark) (Some j) None) × (args v j ≡ j)
+    → (j ≡ i + unwrap_or (marked u i) (args_len 0 (drop i u))) × (is_parenthesis mark ≡ is_some (marked u i))
+marked_returns mark u i v j ends marks e = let m = marked_last mark u i j (sym marks ∙ e.0) (sym ends ∙ e.1) in (sym m.0, sym m.1)
+
+pub ruleset marked_steps = (marked_part, marked_blank, marked_found, args_part, within_some, behind_some, behind_on)
