@@ -40,3 +40,8 @@ text-status words (Some bytes) new before now Fault WriteFault h = λ text calm 
 pub all-valid : (old : Option (List ℕ)) (text : List ℕ) (Calm Answer : Type 0) → IsAll old text → IsText text → IfSome old (λ bytes. ¬ (IsUtf8 bytes) → length bytes ≤ limit → Calm → Answer)
 all-valid None text Calm Answer all h = tt
 all-valid (Some bytes) text Calm Answer all h = λ invalid within calm. absurd (invalid (some-text bytes text all h).valid)
+
+-- what holds of the bytes of a tree holds of all bytes left
+pub all-parsed : (old : Option (List ℕ)) (text : List ℕ) (P : List ℕ → Type 0) → IsAll old text → P text → IfSome old P
+all-parsed None text P all h = tt
+all-parsed (Some bytes) text P all h = subst P (sym all) h

@@ -1,15 +1,18 @@
 -- When a run ends with a report, and when with each refusal.
-use Rattle.std.specs.Prelude.{ℕ, ◌≡◌, ◌≤◌, ◌<◌, ◌+◌, List, length, Option, Some, None, Result, Ok, Err, IsUtf8, ⊤}
+use Rattle.std.specs.Prelude.{ℕ, ◌≡◌, ◌≤◌, ◌<◌, ◌+◌, List, length, map, Option, Some, None, Result, Ok, Err, IsUtf8, chars, ⊤}
 use Rattle.std.specs.Io.KnownBytes.{IsAtEnd}
 use Rattle.std.specs.Str.Lossy.{utf8_valid_len}
 use Rattle.squawk_events.specs.declared.error.FrontError.TheVariants.{TooLong, OutOfMemory}
+use Rattle.squawk_lexer.specs.Cut.{tokens, token_ends}
 use Rattle.squawk_lexer.specs.declared.token.Strings.TheVariants.{Standard}
 use Rattle.squawk_show.specs.Causes.{Rose}
 use Rattle.squawk_show.specs.Outcome.{status_of_error}
 use Rattle.squawk_show.specs.Reading.{TakesExactly}
 use Rattle.squawk_show.specs.declared.error.RunError.{RunError}
 use Rattle.squawk_show.specs.declared.error.RunError.TheVariants.{BadWords, ReadFault, NotUtf8, Front, WriteFault}
+use Rattle.squawk_tree.specs.Children.{children, forms_of, root_child}
 use Rattle.squawk_tree.specs.ParseOf.{parse_of}
+use Rattle.squawk_tree.specs.Steps.{leaves, ranges_through, root_children}
 use Rattle.squawk_tree.specs.Tree.{Tree}
 use Rattle.squawk_tree.specs.declared.division.Division.TheVariants.{Flat}
 
@@ -20,6 +23,14 @@ limit = 4294967295
 -- the tree of a text of these bytes
 unfoldable pub tree_of : List ℕ → Tree
 tree_of text = parse_of Standard Flat text
+
+-- the leaves of a tree are the tokens of a text, each by its range in bytes
+unfoldable pub HasLeavesOf : List ℕ → Tree → Type 0
+HasLeavesOf text tree = leaves tree.steps ≡ ranges_through 0 (token_ends 0 (tokens Standard (chars text)))
+
+-- the children of a tree's root are those into which the tokens of a text are divided, as leaves and nodes
+unfoldable pub HasChildrenOf : List ℕ → Tree → Type 0
+HasChildrenOf text tree = root_children tree.steps ≡ map root_child (children Flat (forms_of (tokens Standard (chars text))))
 
 -- the status that a run ends with
 abbrev pub status_of : Result Tree RunError → ℕ
@@ -46,6 +57,8 @@ pub record IsNoText (bytes : List ℕ) (at : ℕ) : Type 0 where
 pub record IsParsed (bytes : List ℕ) (tree : Tree) : Type 0 where
   pub text : IsText bytes
   pub parsed : tree ≡ tree_of bytes
+  pub leaves_of : HasLeavesOf bytes tree
+  pub children_of : HasChildrenOf bytes tree
 
 -- the tree of all that a source had left, which is a text within the limit
 abbrev pub IsTreeOfAll : Option (List ℕ) → Tree → Type 0

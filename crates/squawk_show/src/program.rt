@@ -5,7 +5,7 @@ ghost use Rattle.squawk_show.specs.Causes.{Rose};
 ghost use Rattle.squawk_show.specs.Outcome.{line_of};
 ghost use Rattle.squawk_show.specs.Reading.{TakesExactly, AppendsFront};
 ghost use Rattle.squawk_show.specs.Report.{report_of};
-ghost use Rattle.squawk_show.specs.Run.{limit, status_of, IsText, IsParsed, IsTreeOfAll, IsNoTextOfAll, IsUndisturbed, IsRefused, IsParseRefusal};
+ghost use Rattle.squawk_show.specs.Run.{limit, status_of, IsText, IsParsed, IsTreeOfAll, IsNoTextOfAll, HasLeavesOf, HasChildrenOf, IsUndisturbed, IsRefused, IsParseRefusal};
 ghost use Rattle.squawk_tree.specs.Tree.{Tree, IsTree};
 
 use crate::telling::tell;
@@ -110,7 +110,10 @@ pub fn run<S: Source, K: Sink, E: Sink>(
     ensures written { IfOk result.outcome (λ tree. Appends (K.taken out.old) (K.taken out.new) (report_of tree)) }
     ensures tree { IfOk result.outcome (IsTreeOfAll (S.left source.old)) }
     ensures balanced { IfOk result.outcome IsTree }
-    ensures quiet { result.status ≡ 0 → err.new ≡ err.old }
+
+    // Its leaves are the tokens of that text, and its root's children those into which the tokens are divided.
+    ensures leaves { IfOk result.outcome (λ tree. IfSome (S.left source.old) (λ text. HasLeavesOf text tree)) }
+    ensures children { IfOk result.outcome (λ tree. IfSome (S.left source.old) (λ text. HasChildrenOf text tree)) }
 
     // When each refusal comes. Where the words are bad, nothing is read.
     ensures bad_words { IsErrOf result.outcome RunError.BadWords ↔ (0 < length words.now) }
@@ -122,10 +125,11 @@ pub fn run<S: Source, K: Sink, E: Sink>(
     ensures write_fault { IsErrOf result.outcome RunError.WriteFault → Rose (K.faults out.old) (K.faults out.new) }
     ensures read_to_end { (result.status ≡ 0) ⊎ (result.status ≡ 4) ⊎ (result.status ≡ 7) → IsAtEnd (S.left source.new) }
 
-    // What a refusal leaves.
+    // What a refusal leaves, and that nothing is told with status 0.
     ensures untouched { IfErr result.outcome (λ e. e ≢ RunError.WriteFault → out.new ≡ out.old) }
     ensures front { IsErrOf result.outcome RunError.WriteFault → (tree : Tree)
         × IsTreeOfAll (S.left source.old) tree × AppendsFront (K.taken out.old) (K.taken out.new) (report_of tree) }
+    ensures quiet { result.status ≡ 0 → err.new ≡ err.old }
     ensures told { IfErr result.outcome (λ e. AppendsFront (E.taken err.old) (E.taken err.new) (line_of e)) }
     ensures told_whole { IfErr result.outcome (λ e. ¬ (Rose (E.faults err.old) (E.faults err.new))
         → Appends (E.taken err.old) (E.taken err.new) (line_of e)) }
