@@ -52,7 +52,6 @@ pub fn make_report(alloc: Global, parse: &Parse) -> Result<Vec<u8>, AllocError>
     ensures { IfOk result (λ text. text.items ≡ report_of parse.now) }
 {
     let mut out = make_step_lines(alloc, parse)?;
-    let _len = parse.len();
     for error in parse.errors() {
         push_error(&mut out, *error)?;
     }
