@@ -1,11 +1,12 @@
 -- Laws that the definitions obey, each for every text. A function of src/laws.rt proves each by its clause.
-use Rattle.std.specs.Prelude.{◌≡◌, ℕ, zero, suc, ◌+◌, ◌<◌, ◌≤◌, Bool, true, false, List, [], ◌∷◌, length, drop, take, slice_index, nat_eq, Option, Some, None}
+use Rattle.std.specs.Prelude.{◌≡◌, ℕ, zero, suc, ◌+◌, ◌<◌, ◌≤◌, Bool, true, false, List, [], ◌∷◌, length, drop, take, slice_index, nat_eq, Option, Some, None, if◌then◌else◌}
 use Rattle.std.specs.List.{starts_with, sum_by}
 use Rattle.squawk_lexer.specs.declared.token.Token.{Token}
 use Rattle.squawk_lexer.specs.declared.token.Strings.{Strings}
 use Rattle.squawk_lexer.specs.Text.{bytes}
 use Rattle.squawk_lexer.specs.Runs.{run}
 use Rattle.squawk_lexer.specs.Dollar.{find_end}
+use Rattle.squawk_lexer.specs.Comment.{opens, closes, comment_len}
 use Rattle.squawk_lexer.specs.Token.{lexeme_at}
 use Rattle.squawk_lexer.specs.Cut.{tokens_from}
 
@@ -32,6 +33,10 @@ RunsAreOne = (class : ℕ → Bool) (u : List ℕ) (i j : ℕ) → IsRun class u
 abbrev pub TokensProgress : Type 0
 TokensProgress = (strings : Strings) (start : Bool) (u : List ℕ) → 1 ≤ length u → 1 ≤ (lexeme_at strings start u).end
 
+-- and no more than the text
+abbrev pub TokensWithin : Type 0
+TokensWithin = (strings : Strings) (start : Bool) (u : List ℕ) → 1 ≤ length u → (lexeme_at strings start u).end ≤ length u
+
 -- how many characters the first n tokens have, or all tokens where there are fewer
 abbrev pub place : Strings → Bool → ℕ → List ℕ → ℕ
 place strings start zero u = 0
@@ -44,6 +49,10 @@ abbrev pub PlacesAddUp : Type 0
 PlacesAddUp =
     (strings : Strings) (start : Bool) (n : ℕ) (u : List ℕ)
     → bytes (take (place strings start n u) u) ≡ sum_by (λ (t : Token). t.len) (take n (tokens_from strings 0 start u))
+
+-- and the text has so many
+abbrev pub PlacesWithin : Type 0
+PlacesWithin = (strings : Strings) (start : Bool) (n : ℕ) (u : List ℕ) → place strings start n u ≤ length u
 
 -- behind a token, the tokens are those of the text that is left, which begins no text
 abbrev pub TokensRestart : Type 0
@@ -65,3 +74,53 @@ FoundIsFirst = (d v : List ℕ) (n : ℕ) → find_end d v ≡ Some n → (k : �
 -- where none is found, there is no place
 abbrev pub NoneIsNowhere : Type 0
 NoneIsNowhere = (d v : List ℕ) → find_end d v ≡ None → (k : ℕ) → k < length v → starts_with nat_eq (drop k v) d ≡ false
+
+-- ---- block comments
+
+-- a part of a comment's inside
+pub data Part : Type 0 where
+  Open : Part
+  Close : Part
+  Plain : Part
+
+-- the parts from the left: an open or a close where the next two characters are one, or else the next character
+abbrev pub parts : List ℕ → List Part
+parts [] = []
+parts (c ∷ []) = Plain ∷ []
+parts (c ∷ d ∷ cs) =
+    if opens c d then Open ∷ parts cs
+    else if closes c d then Close ∷ parts cs
+    else Plain ∷ parts (d ∷ cs)
+
+-- how many characters a part has
+abbrev pub part_len : Part → ℕ
+part_len Plain = 1
+part_len _ = 2
+
+abbrev pub opened : Part → ℕ
+opened Open = 1
+opened _ = 0
+
+abbrev pub closed : Part → ℕ
+closed Close = 1
+closed _ = 0
+
+-- where n comments are open before the parts, one is still open behind the first k
+abbrev pub StaysOpen : ℕ → List Part → ℕ → Type 0
+StaysOpen n ps k = sum_by closed (take k ps) < n + sum_by opened (take k ps)
+
+-- where n comments are open before the parts, none is behind the first k, for the first time
+pub record IsBalance (n : ℕ) (ps : List Part) (k : ℕ) : Type 0 where
+  pub within : k ≤ length ps
+  pub balanced : sum_by closed (take k ps) ≡ n + sum_by opened (take k ps)
+  pub first : (j : ℕ) → j < k → StaysOpen n ps j
+
+-- a comment ends at the first balance
+abbrev pub CommentsBalance : Type 0
+CommentsBalance =
+    (inner : ℕ) (v : List ℕ) (n : ℕ) → comment_len inner v ≡ Some n
+    → (k : ℕ) × (n ≡ sum_by part_len (take k (parts v))) × IsBalance (inner + 1) (parts v) k
+
+-- and where it does not end, there is no balance
+abbrev pub OpenCommentsStayOpen : Type 0
+OpenCommentsStayOpen = (inner : ℕ) (v : List ℕ) → comment_len inner v ≡ None → (k : ℕ) → StaysOpen (inner + 1) (parts v) k

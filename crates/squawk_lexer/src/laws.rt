@@ -1,5 +1,5 @@
 //! Laws that the definitions of the grammar obey. Each is the clause of a function that does nothing.
-ghost use Rattle.squawk_lexer.specs.Laws.{RunsAreLongest, RunsAreOne, TokensProgress, PlacesAddUp, TokensRestart, FoundIsFirst, NoneIsNowhere};
+ghost use Rattle.squawk_lexer.specs.Laws.{RunsAreLongest, RunsAreOne, TokensProgress, TokensWithin, PlacesAddUp, PlacesWithin, TokensRestart, FoundIsFirst, NoneIsNowhere, CommentsBalance, OpenCommentsStayOpen};
 
 /// A run of a class is the longest: all its characters are of the class, and the one behind it is not. Only one end is such.
 pub(crate) fn runs_are_longest()
@@ -7,14 +7,16 @@ pub(crate) fn runs_are_longest()
     ensures only { RunsAreOne }
 {}
 
-/// Each token of a text has a character at least.
+/// Each token of a text has a character at least, and no more than the text.
 pub(crate) fn tokens_progress()
-    ensures { TokensProgress }
+    ensures some { TokensProgress }
+    ensures within { TokensWithin }
 {}
 
-/// The characters of the first tokens have the bytes of these tokens.
+/// The text has the characters of its first tokens, and they have the bytes of these tokens.
 pub(crate) fn places_add_up()
-    ensures { PlacesAddUp }
+    ensures within { PlacesWithin }
+    ensures bytes { PlacesAddUp }
 {}
 
 /// From behind any token on, the tokens are those of the text that is left, in which a byte order mark begins no text.
@@ -26,4 +28,10 @@ pub(crate) fn tokens_restart()
 pub(crate) fn found_is_first()
     ensures first { FoundIsFirst }
     ensures nowhere { NoneIsNowhere }
+{}
+
+/// A block comment ends behind the first close that leaves no comment open, and is unterminated only where none does.
+pub(crate) fn comments_balance()
+    ensures ends { CommentsBalance }
+    ensures unterminated { OpenCommentsStayOpen }
 {}
