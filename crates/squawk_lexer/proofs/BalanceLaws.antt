@@ -3,18 +3,18 @@ use Rattle.std.proofs.Common.{◌≡◌, ℕ, zero, suc, ◌+◌, ◌<◌, ◌�
 use Rattle.std.proofs.lemmas.List.Sums.{sum_by-cons}
 use Rattle.std.specs.List.{sum_by}
 use Rattle.squawk_lexer.specs.Comment.{opens, closes, comment_len}
-use Rattle.squawk_lexer.specs.Laws.{Part, Open, Close, Plain, parts, part_len, opened, closed, StaysOpen, IsBalance, CommentsBalance, OpenCommentsStayOpen}
+use Rattle.squawk_lexer.specs.Laws.{Part, Open, Close, Plain, parts, part_len, opens_of, closes_of, StaysOpen, IsBalance, CommentsBalance, OpenCommentsStayOpen}
 
 -- what an end says of the parts, where n comments are open before them
 abbrev Ends : ℕ → List Part → Option ℕ → Type 0
 Ends n ps None = (k : ℕ) → StaysOpen n ps k
 Ends n ps (Some m) = (k : ℕ) × (m ≡ sum_by part_len (take k ps)) × IsBalance n ps k
 
-open_on : (p : Part) (ps : List Part) (n m k : ℕ) → n + opened p ≡ m + closed p → StaysOpen m ps k → StaysOpen n (p ∷ ps) (suc k)
-open_on p ps n m k e h = omega (arith, h, e, sum_by-cons opened p (take k ps), sum_by-cons closed p (take k ps))
+open_on : (p : Part) (ps : List Part) (n m k : ℕ) → n + opens_of p ≡ m + closes_of p → StaysOpen m ps k → StaysOpen n (p ∷ ps) (suc k)
+open_on p ps n m k e h = omega (arith, h, e, sum_by-cons opens_of p (take k ps), sum_by-cons closes_of p (take k ps))
 
 -- before a part, where n are open before it and m behind it
-more : (p : Part) (ps : List Part) (n m : ℕ) (o : Option ℕ) → 0 < n → n + opened p ≡ m + closed p → Ends m ps o → Ends n (p ∷ ps) (option_map (λ l. l + part_len p) o)
+more : (p : Part) (ps : List Part) (n m : ℕ) (o : Option ℕ) → 0 < n → n + opens_of p ≡ m + closes_of p → Ends m ps o → Ends n (p ∷ ps) (option_map (λ l. l + part_len p) o)
 more p ps n m None some e h = stays
   where
     stays : (k : ℕ) → StaysOpen n (p ∷ ps) k
@@ -25,8 +25,8 @@ more p ps n m (Some l) some e (k, is, b) = (suc k, omega (arith, is, sum_by-cons
     within : suc k ≤ length (p ∷ ps)
     within = let h : k ≤ length ps = b.within in omega arith
 
-    balanced : sum_by closed (take (suc k) (p ∷ ps)) ≡ n + sum_by opened (take (suc k) (p ∷ ps))
-    balanced = omega (arith, b.balanced, e, sum_by-cons opened p (take k ps), sum_by-cons closed p (take k ps))
+    balanced : sum_by closes_of (take (suc k) (p ∷ ps)) ≡ n + sum_by opens_of (take (suc k) (p ∷ ps))
+    balanced = omega (arith, b.balanced, e, sum_by-cons opens_of p (take k ps), sum_by-cons closes_of p (take k ps))
 
     first : (j : ℕ) → j < suc k → StaysOpen n (p ∷ ps) j
     first zero h = omega arith

@@ -1,19 +1,18 @@
 -- The laws of specs/Laws.antt.
-use Rattle.std.proofs.Common.{◌≡◌, ℕ, zero, suc, ◌+◌, ◌-◌, ◌<◌, ◌≤◌, Bool, true, false, List, [], ◌∷◌, ◌++◌, length, get_or, drop, take, Option, Some, None, refl, sym, ap, ◌∙◌, inl, inr, ◌⊎◌, arith}
+use Rattle.std.proofs.Common.{◌≡◌, ℕ, zero, suc, ◌+◌, ◌-◌, ◌<◌, ◌≤◌, Bool, false, List, [], ◌∷◌, length, get_or, drop, take, refl, sym, ap, ◌∙◌, inl, inr, ◌⊎◌, arith}
 use Rattle.std.proofs.lemmas.Bool.{cases_lt, false≢true}
 use Rattle.std.proofs.lemmas.List.{drop-drop, length-drop, get_or-drop}
 use Rattle.std.proofs.lemmas.List.Sums.{prefix_len-le-length, prefix_len_passes, prefix_len_stops, sum_by-append, sum_by-cons}
 use Rattle.std.proofs.Math.Seq.{take-add}
 use Rattle.std.specs.Char.{len_utf8}
-use Rattle.std.specs.List.{prefix_len, sum_by, starts_with}
+use Rattle.std.specs.List.{prefix_len, sum_by}
 use Rattle.squawk_lexer.specs.declared.token.Token.{Token}
 use Rattle.squawk_lexer.specs.declared.token.Strings.{Strings}
 use Rattle.squawk_lexer.specs.Text.{bytes}
 use Rattle.squawk_lexer.specs.Runs.{run}
-use Rattle.squawk_lexer.specs.Dollar.{find_end}
 use Rattle.squawk_lexer.specs.Token.{lexeme_at, token_at}
 use Rattle.squawk_lexer.specs.Cut.{tokens_from}
-use Rattle.squawk_lexer.specs.Laws.{IsRun, RunsAreLongest, RunsAreOne, TokensProgress, place, PlacesAddUp, TokensRestart, IsFirst, FoundIsFirst, NoneIsNowhere}
+use Rattle.squawk_lexer.specs.Laws.{IsRun, RunsAreLongest, RunsAreOne, TokensProgress, place, PlacesAddUp, TokensRestart, FoundIsFirst, NoneIsNowhere}
 use Rattle.squawk_lexer.proofs.TokenLaws.{lexeme_at_some}
 use Rattle.squawk_lexer.proofs.CutLaws.{tokens_first}
 use Rattle.squawk_lexer.proofs.DollarLaws as dollar

@@ -13,7 +13,7 @@ use Rattle.squawk_lexer.specs.declared.token.Base.TheVariants.{Binary, Octal, De
 use Rattle.squawk_lexer.specs.declared.token.TokenKind.TheVariants as kinds
 use Rattle.squawk_lexer.specs.Kind.{Lexeme, lexeme}
 use Rattle.squawk_lexer.specs.Place.{behind}
-use Rattle.squawk_lexer.specs.Classes.{is_white, is_id_start, is_id_cont, is_digit, is_hex_digit, is_blank, is_command_word, is_tag_cont, is_not_line_end, apostrophe, quotation_mark, byte_order_mark}
+use Rattle.squawk_lexer.specs.Classes.{is_white, is_id_start, is_id_cont, is_digit, is_hex_digit, is_blank, is_command_word, is_not_line_end, apostrophe, quotation_mark, byte_order_mark}
 use Rattle.squawk_lexer.specs.Runs.{run, line, junk, digits_len, digits, hex, is_sign, exponent, is_exponent_letter, fraction_digits}
 use Rattle.squawk_lexer.specs.Quoted.{quoted_len, end_of, quoted}
 use Rattle.squawk_lexer.specs.Comment.{comment_len, opens, closes}
@@ -22,9 +22,8 @@ use Rattle.squawk_lexer.specs.Dollar.{find_end, tag_end, delimiter, closing, ope
 use Rattle.squawk_lexer.specs.PsqlWords.{is_among, query_ending_words, pipe_words, option_words, takes_line}
 use Rattle.squawk_lexer.specs.PsqlParts.{args_len, args, part_rest, mark_behind, is_parenthesis, ends_arguments, marked_len, marked}
 use Rattle.squawk_lexer.specs.Psql.{psql, word, word_end, options_end, output_start, output_end, command_end}
-use Rattle.squawk_lexer.specs.Symbols.{symbol}
 use Rattle.squawk_lexer.specs.Token.{start as row, opening, begun, opened, lexeme_of, lexeme_at}
-use Rattle.squawk_lexer.specs.Laws.{TokensWithin, place, PlacesWithin}
+use Rattle.squawk_lexer.specs.Laws.{TokensWithin, PlacesWithin}
 use Rattle.squawk_lexer.proofs.Steps.{within_read, letter_within}
 use Rattle.squawk_lexer.proofs.WordSteps.{opens_national, opens_bit, opens_byte, opens_escape, opens_string, opens_ident}
 use Rattle.squawk_lexer.proofs.StartSteps.{begin_line, begin_block, begin_dots}

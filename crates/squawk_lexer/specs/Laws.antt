@@ -1,5 +1,5 @@
 -- Laws that the definitions obey, each for every text. A function of src/laws.rt proves each by its clause.
-use Rattle.std.specs.Prelude.{◌≡◌, ℕ, zero, suc, ◌+◌, ◌<◌, ◌≤◌, Bool, true, false, List, [], ◌∷◌, length, drop, take, slice_index, nat_eq, Option, Some, None, if◌then◌else◌}
+use Rattle.std.specs.Prelude.{◌≡◌, ℕ, zero, suc, ◌+◌, ◌<◌, ◌≤◌, Bool, true, false, List, [], ◌∷◌, length, drop, take, slice_index, nat_eq, Some, None, if◌then◌else◌}
 use Rattle.std.specs.List.{starts_with, sum_by}
 use Rattle.squawk_lexer.specs.declared.token.Token.{Token}
 use Rattle.squawk_lexer.specs.declared.token.Strings.{Strings}
@@ -54,7 +54,7 @@ PlacesAddUp =
 abbrev pub PlacesWithin : Type 0
 PlacesWithin = (strings : Strings) (start : Bool) (n : ℕ) (u : List ℕ) → place strings start n u ≤ length u
 
--- behind a token, the tokens are those of the text that is left, which begins no text
+-- behind a token, the tokens are those of the text that is left, read without the rule for a leading U+FEFF
 abbrev pub TokensRestart : Type 0
 TokensRestart =
     (strings : Strings) (start : Bool) (n : ℕ) (u : List ℕ) → 1 ≤ n
@@ -97,22 +97,24 @@ abbrev pub part_len : Part → ℕ
 part_len Plain = 1
 part_len _ = 2
 
-abbrev pub opened : Part → ℕ
-opened Open = 1
-opened _ = 0
+-- how many comments it opens
+abbrev pub opens_of : Part → ℕ
+opens_of Open = 1
+opens_of _ = 0
 
-abbrev pub closed : Part → ℕ
-closed Close = 1
-closed _ = 0
+-- and closes
+abbrev pub closes_of : Part → ℕ
+closes_of Close = 1
+closes_of _ = 0
 
 -- where n comments are open before the parts, one is still open behind the first k
 abbrev pub StaysOpen : ℕ → List Part → ℕ → Type 0
-StaysOpen n ps k = sum_by closed (take k ps) < n + sum_by opened (take k ps)
+StaysOpen n ps k = sum_by closes_of (take k ps) < n + sum_by opens_of (take k ps)
 
--- where n comments are open before the parts, none is behind the first k, for the first time
+-- where n comments are open before the parts, none is open behind the first k, and k is the least such
 pub record IsBalance (n : ℕ) (ps : List Part) (k : ℕ) : Type 0 where
   pub within : k ≤ length ps
-  pub balanced : sum_by closed (take k ps) ≡ n + sum_by opened (take k ps)
+  pub balanced : sum_by closes_of (take k ps) ≡ n + sum_by opens_of (take k ps)
   pub first : (j : ℕ) → j < k → StaysOpen n ps j
 
 -- a comment ends at the first balance

@@ -19,7 +19,7 @@ pub(crate) fn places_add_up()
     ensures bytes { PlacesAddUp }
 {}
 
-/// From behind any token on, the tokens are those of the text that is left, in which a byte order mark begins no text.
+/// Behind any token, the tokens are those of the text that is left, read without the rule for a leading byte order mark.
 pub(crate) fn tokens_restart()
     ensures { TokensRestart }
 {}
