@@ -15,3 +15,4 @@ pub mod Psql
 pub mod Token
 pub mod Cut
 pub mod TokensModel
+pub mod Laws
