@@ -2,11 +2,7 @@
 use Rattle.std.proofs.Common.{◌≡◌, ℕ, zero, suc, ◌+◌, ◌-◌, ◌<◌, ◌≤◌, Bool, true, false, List, [], ◌∷◌, length, drop, Option, Some, None, nat_eq, refl, arith}
 use Rattle.std.specs.List.{starts_with}
 use Rattle.squawk_lexer.specs.Dollar.{find_end}
-
--- d stands at the place, and at none before it
-pub record IsFirst (d v : List ℕ) (at : ℕ) : Type 0 where
-  pub stands : starts_with nat_eq (drop at v) d ≡ true
-  pub first : (k : ℕ) → k < at → starts_with nat_eq (drop k v) d ≡ false
+use Rattle.squawk_lexer.specs.Laws.{IsFirst}
 
 pub found : (d v : List ℕ) (n : ℕ) → find_end d v ≡ Some n → (length d ≤ n) × IsFirst d v (n - length d)
 found d [] n e = absurd (cc)

@@ -96,7 +96,7 @@ places_add_up strings start (suc n) (c ∷ cs) =
 pub found_is_first : FoundIsFirst
 found_is_first d v n e =
     let (within, is) = dollar.found d v n e in
-    (n - length d, omega arith, record { stands = is.stands; first = is.first })
+    (n - length d, omega arith, is)
 
 pub none_is_nowhere : NoneIsNowhere
 none_is_nowhere d v e = dollar.nowhere d v e
