@@ -57,14 +57,29 @@ fn runs_without_words(rt: HostRuntime) -> Result<(), Fail> {
         2 T whitespace 8..9\n\
         2 T psql meta-command 9..17\n\
         2 T psql terminator 17..25\n";
+    let semicolon_in_group = b"0 N source file 0..8\n\
+        1 N error 0..7\n\
+        2 T identifier 0..3\n\
+        2 T whitespace 3..4\n\
+        2 T `(` 4..5\n\
+        2 T identifier 5..6\n\
+        2 T `;` 6..7\n\
+        1 N error 7..8\n\
+        2 T identifier 7..8\n";
+    let mark_and_semicolon = b"0 N source file 0..4\n\
+        1 T whitespace 0..3\n\
+        1 N empty stmt 3..4\n\
+        2 T `;` 3..4\n";
     let read_line = b"cannot read the input\n";
     let write_line = b"cannot write the output\n";
     let rows = [
-        // empty_text, select_one, lone_command, commands_in_statement
+        // empty_text, select_one, lone_command, commands_in_statement, semicolon_in_group, and a mark before a semicolon
         Row::new(b"", 0, b"0 N source file 0..0\n", b""),
         Row::new(b"select 1;", 0, SELECT_ONE, b""),
         Row::new(b" ;\n\\dt\n", 0, lone_command, b""),
         Row::new(b"select 1 \\echo x \\gset x_", 0, commands, b""),
+        Row::new(b"foo (a;b", 0, semicolon_in_group, b""),
+        Row::new(b"\xef\xbb\xbf;", 0, mark_and_semicolon, b""),
         // edge_faults: no text, a source and a sink that fail, too little room, a byte at a time
         Row::new(b"\x73\xff", 4, b"", b"not UTF-8 at 1\n"),
         Row {
