@@ -7,7 +7,8 @@ use Rattle.squawk_lexer.specs.Cut.{tokens, token_ends}
 use Rattle.squawk_lexer.specs.declared.token.Strings.TheVariants.{Standard}
 use Rattle.squawk_show.specs.Causes.{Rose}
 use Rattle.squawk_show.specs.Outcome.{status_of_error}
-use Rattle.squawk_show.specs.Reading.{TakesExactly}
+use Rattle.squawk_show.specs.Reading.{TakesExactly, AppendsFront}
+use Rattle.squawk_show.specs.Report.{report_of}
 use Rattle.squawk_show.specs.declared.error.RunError.{RunError}
 use Rattle.squawk_show.specs.declared.error.RunError.TheVariants.{BadWords, ReadFault, NotUtf8, Front, WriteFault}
 use Rattle.squawk_tree.specs.Children.{children, forms_of, root_child}
@@ -63,6 +64,10 @@ pub record IsParsed (bytes : List ℕ) (tree : Tree) : Type 0 where
 -- the tree of all that a source had left, which is a text within the limit
 abbrev pub IsTreeOfAll : Option (List ℕ) → Tree → Type 0
 IsTreeOfAll left tree = (text : List ℕ) × IsAll left text × IsParsed text tree
+
+-- a sink's known bytes grew by a front of the report of that tree
+abbrev pub IsFrontOfAll : Option (List ℕ) → Option (List ℕ) → Option (List ℕ) → Type 0
+IsFrontOfAll left before now = (tree : Tree) × IsTreeOfAll left tree × AppendsFront before now (report_of tree)
 
 -- all that a source had left is within the limit and no text; so many bytes of it are valid
 abbrev pub IsNoTextOfAll : Option (List ℕ) → ℕ → Type 0

@@ -5,8 +5,8 @@ ghost use Rattle.squawk_show.specs.Causes.{Rose};
 ghost use Rattle.squawk_show.specs.Outcome.{line_of};
 ghost use Rattle.squawk_show.specs.Reading.{TakesExactly, AppendsFront};
 ghost use Rattle.squawk_show.specs.Report.{report_of};
-ghost use Rattle.squawk_show.specs.Run.{limit, status_of, IsText, IsParsed, IsTreeOfAll, IsNoTextOfAll, HasLeavesOf, HasChildrenOf, IsUndisturbed, IsRefused, IsParseRefusal};
-ghost use Rattle.squawk_tree.specs.Tree.{Tree, IsTree};
+ghost use Rattle.squawk_show.specs.Run.{limit, status_of, IsText, IsParsed, IsTreeOfAll, IsFrontOfAll, IsNoTextOfAll, HasLeavesOf, HasChildrenOf, IsUndisturbed, IsRefused, IsParseRefusal};
+ghost use Rattle.squawk_tree.specs.Tree.{IsTree};
 
 use crate::telling::tell;
 use crate::{LIMIT, RunError, Sink, Source, make_report, read_all, write_whole};
@@ -79,8 +79,7 @@ fn show<S: Source, K: Sink>(
         (Rose (K.faults out.old) (K.faults out.new))) }
     ensures untouched { IfErr result (λ e. e ≢ RunError.WriteFault → out.new ≡ out.old) }
     ensures unread { 0 < length words.now → source.new ≡ source.old }
-    ensures front { IsErrOf result RunError.WriteFault → (tree : Tree)
-        × IsTreeOfAll (S.left source.old) tree × AppendsFront (K.taken out.old) (K.taken out.new) (report_of tree) }
+    ensures front { IsErrOf result RunError.WriteFault → IsFrontOfAll (S.left source.old) (K.taken out.old) (K.taken out.new) }
 {
     let (parse, report) = match prepare(alloc, words, source) {
         Ok(made) => made,
@@ -110,7 +109,6 @@ pub fn run<S: Source, K: Sink, E: Sink>(
     ensures written { IfOk result.outcome (λ tree. Appends (K.taken out.old) (K.taken out.new) (report_of tree)) }
     ensures tree { IfOk result.outcome (IsTreeOfAll (S.left source.old)) }
     ensures balanced { IfOk result.outcome IsTree }
-
     // Its leaves are the tokens of that text, and its root's children those into which the tokens are divided.
     ensures leaves { IfOk result.outcome (λ tree. IfSome (S.left source.old) (λ text. HasLeavesOf text tree)) }
     ensures children { IfOk result.outcome (λ tree. IfSome (S.left source.old) (λ text. HasChildrenOf text tree)) }
@@ -127,8 +125,7 @@ pub fn run<S: Source, K: Sink, E: Sink>(
 
     // What a refusal leaves, and that nothing is told with status 0.
     ensures untouched { IfErr result.outcome (λ e. e ≢ RunError.WriteFault → out.new ≡ out.old) }
-    ensures front { IsErrOf result.outcome RunError.WriteFault → (tree : Tree)
-        × IsTreeOfAll (S.left source.old) tree × AppendsFront (K.taken out.old) (K.taken out.new) (report_of tree) }
+    ensures front { IsErrOf result.outcome RunError.WriteFault → IsFrontOfAll (S.left source.old) (K.taken out.old) (K.taken out.new) }
     ensures quiet { result.status ≡ 0 → err.new ≡ err.old }
     ensures told { IfErr result.outcome (λ e. AppendsFront (E.taken err.old) (E.taken err.new) (line_of e)) }
     ensures told_whole { IfErr result.outcome (λ e. ¬ (Rose (E.faults err.old) (E.faults err.new))
