@@ -1,0 +1,5 @@
+pub mod Halved
+pub mod KindLemmas
+pub mod LookUp
+pub mod Placed
+pub mod WordTables

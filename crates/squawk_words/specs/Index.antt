@@ -1,6 +1,8 @@
 -- A table of words, sorted, and where the words of each length begin.
-use Rattle.std.specs.Prelude.{◌≡◌, ℕ, ◌+◌, ◌-◌, ◌<◌, ◌≤◌, List, [], ◌∷◌, All, AllPairs, map, length, slice_range, slice_index, slice_index_or, Ordering, Less}
+use Rattle.std.specs.Prelude.{◌≡◌, ℕ, ◌+◌, ◌-◌, ◌<◌, ◌≤◌, List, [], ◌∷◌, All, AllPairs, map, length, slice_range, slice_index, slice_index_or}
 use Rattle.std.specs.Cmp.Lexicographic.{slice_cmp}
+use Rattle.std.specs.declared.cmp.Ordering.{Ordering}
+use Rattle.std.specs.declared.cmp.Ordering.TheVariants.{Less}
 use Rattle.std.specs.List.Sorted.{IsNonDecreasing}
 use Rattle.std.specs.Ordering.{nat_cmp, ordering_then}
 use Rattle.std.specs.Str.{str_to_ascii_lowercase}
@@ -33,4 +35,4 @@ pub record IsIndex (kinds starts : List ℕ) : Type 0 where
   pub rising : AllPairs (λ a b. word_cmp (word_of a) (word_of b) ≡ Less) kinds
   pub ordered : IsNonDecreasing starts
   pub within : All (λ start. start ≤ length kinds) starts
-  pub placed : (place : ℕ) → place < length kinds → IsPlace starts (length (word_of (slice_index kinds place))) place
+  pub placed : (place d : ℕ) → place < length kinds → IsPlace starts (length (word_of (slice_index_or kinds place d))) place
