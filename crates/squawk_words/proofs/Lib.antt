@@ -1,3 +1,5 @@
+pub mod Flagged
+pub mod FlagsAgree
 pub mod Halved
 pub mod KindLemmas
 pub mod LookUp

@@ -1,5 +1,5 @@
 -- The sets of kinds, their lists of members, and the flags that tell membership.
-use Rattle.std.specs.Prelude.{◌≡◌, ℕ, List, slice_index, Contains, ◌↔◌}
+use Rattle.std.specs.Prelude.{◌≡◌, ◌<◌, ℕ, List, length, slice_index, All, Contains, ◌↔◌}
 use Rattle.std.specs.Int.{bit_at}
 use Rattle.squawk_kinds.specs.declared.SyntaxKind.{SyntaxKind}
 use Rattle.squawk_words.specs.KeywordSets.{all_keywords, unreserved_keywords, column_or_table_keywords, type_keywords, bare_label_keywords}
@@ -44,6 +44,7 @@ bit_of ReservedKeywords = 10
 bit_of PlpgsqlReservedKeywords = 11
 bit_of PlpgsqlReservedContextualKeywords = 12
 
--- a kind has the flag of a set exactly where it is a member; past the last flags stands no member
+-- a kind has the flag of a set exactly where it is a member, and each member has flags
 pub record HasFlags (flags : List ℕ) : Type 0 where
-  pub each : (set : Set) (kind : ℕ) → (bit_at (slice_index flags kind) (bit_of set) ≡ 1) ↔ Contains (members_of set) kind
+  pub each : (set : Set) (kind : ℕ) → kind < length flags → (bit_at (slice_index flags kind) (bit_of set) ≡ 1) ↔ Contains (members_of set) kind
+  pub within : (set : Set) → All (λ kind. kind < length flags) (members_of set)

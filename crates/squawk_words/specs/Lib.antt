@@ -1,3 +1,4 @@
+pub mod Classes
 pub mod Flags
 pub mod Index
 pub mod KeywordSets

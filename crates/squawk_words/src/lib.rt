@@ -12,6 +12,7 @@ ghost use Rattle.squawk_words.specs.Words.{keywords, contextual_keywords};
 mod class;
 mod flags;
 mod halving;
+pub mod laws;
 mod sets;
 mod tables;
 #[cfg(test)]
