@@ -1,5 +1,7 @@
 -- That the flags say the same as the list of each set, by a computation over both.
 use Rattle.std.proofs.Common.{◌≡◌, true, refl}
+use Rattle.std.specs.List.{list_all}
+use Rattle.squawk_words.proofs.ClassLemmas.{is_sum}
 use Rattle.squawk_words.proofs.Flagged.{flagged, HasFlags-from}
 use Rattle.squawk_words.specs.Flags.{members_of, bit_of, HasFlags}
 use Rattle.squawk_words.specs.KeywordSets.{all_keywords, unreserved_keywords, column_or_table_keywords, type_keywords, bare_label_keywords}
@@ -77,3 +79,7 @@ each_flagged PlpgsqlReservedContextualKeywords = plpgsql_reserved_contextual_key
 
 pub HasFlags-FLAGS : HasFlags FLAGS
 HasFlags-FLAGS = HasFlags-from FLAGS each_flagged
+
+-- the flag of all keywords is the sum of the flags of the four classes
+pub sums-FLAGS : list_all is_sum FLAGS ≡ true
+sums-FLAGS = refl

@@ -24,7 +24,7 @@ differs_if a b o e other same =
 -- where the search found no place, no word is the text
 pub none_equal : (part text : List ℕ) (i : ℕ) → IsSortedBy (λ a b. is_lt (slice_cmp nat_cmp (word_of a) (word_of b))) part
     → (IsNonDecreasingBy (λ n. ordering_index (slice_cmp nat_cmp (word_of n) text)) part
-      → IsPartitionPoint (λ n. slice_cmp nat_cmp (word_of n) text ≡ Less) (λ n. slice_cmp nat_cmp (word_of n) text ≡ Greater) part i)
+    → IsPartitionPoint (λ n. slice_cmp nat_cmp (word_of n) text ≡ Less) (λ n. slice_cmp nat_cmp (word_of n) text ≡ Greater) part i)
     → All (λ n. word_of n ≢ text) part
 none_equal part text i sorted parts k d lt =
     let both = parts (searchable_from_sorted nat_list_cmp_total word_of part text sorted) in

@@ -78,11 +78,11 @@ some-kind_of [] text kind e = cc
 some-kind_of (pair ∷ pairs) text kind e =
     ⊎_elim
     (λ here.
-      let same = some_same pair.1 kind (sym (ap (step pair.1 (kind_of pairs text)) here) ∙ e) in
-      (0, pair, zero-lt-suc _, refl, ((bytes_eq-Decides _ _).0 here, same)))
+    let same = some_same pair.1 kind (sym (ap (step pair.1 (kind_of pairs text)) here) ∙ e) in
+    (0, pair, zero-lt-suc _, refl, ((bytes_eq-Decides _ _).0 here, same)))
     (λ later.
-      let rest = some-kind_of pairs text kind (sym (ap (step pair.1 (kind_of pairs text)) later) ∙ e) in
-      (suc rest.0, rest.1, suc-le-suc rest.2, rest.3, rest.4))
+    let rest = some-kind_of pairs text kind (sym (ap (step pair.1 (kind_of pairs text)) later) ∙ e) in
+    (suc rest.0, rest.1, suc-le-suc rest.2, rest.3, rest.4))
     (cases_Bool (str_eq_ignore_ascii_case pair.0 text))
 
 -- texts that are one when compared without case have one kind

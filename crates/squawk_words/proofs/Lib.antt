@@ -1,3 +1,4 @@
+pub mod ClassLemmas
 pub mod Flagged
 pub mod FlagsAgree
 pub mod Halved

@@ -1,14 +1,15 @@
 -- That tables of words are in order, by computations over them.
-use Rattle.std.proofs.Common.{◌≡◌, ℕ, zero, suc, ◌+◌, ◌<◌, ◌≤◌, Bool, true, ◌&&◌, nat_lt, nat_le, ltb-true, leb-true, List, [], ◌∷◌, length, get_or, slice_index, All, AllPairs, Ordering, Less, Equal, Greater, refl, sym, subst, arith, suc-le-suc, le_of_suc-le-suc, not-suc-le-zero}
+use Rattle.std.proofs.Common.{◌≡◌, ℕ, zero, suc, ◌+◌, ◌<◌, ◌≤◌, Bool, true, ◌&&◌, nat_lt, nat_le, ltb-true, leb-true, List, [], ◌∷◌, length, get_or, slice_index, All, AllPairs, Ordering, Less, Equal, Greater, refl, sym, subst, ◌∙◌, arith, suc-le-suc, le_of_suc-le-suc, not-suc-le-zero}
 use Rattle.std.specs.List.{list_all}
 use Rattle.std.specs.List.Sorted.{IsNonDecreasing}
 use Rattle.std.specs.Ordering.{is_lt}
 use Rattle.std.specs.Str.{bytes_eq, str_to_ascii_lowercase}
 use Rattle.std.proofs.lemmas.Bool.{and_parts}
 use Rattle.std.proofs.lemmas.Cmp.{nat_list_cmp_total}
+use Rattle.std.proofs.lemmas.List.{get_or-map, length-map}
 use Rattle.std.proofs.lemmas.List.Sums.{AllPass-from_list_all}
 use Rattle.std.proofs.lemmas.Slice.Eq.{bytes_eq-Decides}
-use Rattle.squawk_words.specs.Index.{word_of, word_cmp, IsIndex, IsPlace}
+use Rattle.squawk_words.specs.Index.{word_of, word_cmp, pairs_of, IsIndex, IsPlace}
 
 less_if : (o : Ordering) → is_lt o ≡ true → o ≡ Less
 less_if Less e = refl
@@ -110,3 +111,12 @@ IsIndex-from kinds starts numbers lower rise climb within place =
       within = λ k d lt. leb-true _ _ (AllPass-from_list_all (λ start. nat_le start (length kinds)) starts within k d lt);
       placed = λ i d lt. subst (IsPlace starts (length (word_of (get_or kinds i d)))) (let h : 0 + i ≡ i = omega arith in h) (placed-at starts 0 kinds place i d lt);
     }
+
+-- kinds that rise by their words, in the words of pairs
+pub rising-pairs_of : (kinds : List ℕ) → AllPairs (λ a b. word_cmp (word_of a) (word_of b) ≡ Less) kinds
+    → AllPairs (λ a b. word_cmp a.0 b.0 ≡ Less) (pairs_of kinds)
+rising-pairs_of kinds rise i j d before lt =
+    let size : length (pairs_of kinds) ≡ length kinds = length-map kinds (λ kind. (word_of kind, kind)) in
+    let x = get_or-map (λ kind. (word_of kind, kind)) kinds i d.1 d (omega arith) in
+    let y = get_or-map (λ kind. (word_of kind, kind)) kinds j d.1 d (omega arith) in
+    (λ t. word_cmp (x t).0 (y t).0) ∙ rise i j d.1 before (omega arith)
