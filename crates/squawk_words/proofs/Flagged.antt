@@ -1,5 +1,5 @@
 -- That the table of flags says the same as the lists, by a computation over both.
-use Rattle.std.proofs.Common.{◌≡◌, ℕ, zero, suc, ◌+◌, ◌/◌, ◌%◌, ◌^◌, ◌<◌, ◌≤◌, Bool, true, false, ◌&&◌, ◌==◌, List, [], ◌∷◌, length, slice_index, slice_index_or, Contains, ◌↔◌, if◌then◌else◌, refl, sym, ap, subst, ◌∙◌, arith, eqb-true, le_of_suc-le-suc, suc-le-suc, not-suc-le-zero, zero-lt-suc, inl, inr}
+use Rattle.std.proofs.Common.{◌≡◌, ℕ, zero, suc, ◌+◌, ◌<◌, Bool, true, false, ◌&&◌, ◌==◌, List, [], ◌∷◌, length, slice_index, slice_index_or, Contains, ◌↔◌, if◌then◌else◌, refl, sym, ap, ◌∙◌, arith, eqb-true, le_of_suc-le-suc, suc-le-suc, not-suc-le-zero, zero-lt-suc, inl, inr}
 use Rattle.std.proofs.lemmas.Bool.{and_parts}
 use Rattle.std.proofs.lemmas.Bool.Decides.{eqb_tells}
 use Rattle.std.specs.Int.{bit_at}

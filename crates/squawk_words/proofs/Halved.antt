@@ -1,5 +1,5 @@
 -- What a binary search and a comparison of words say.
-use Rattle.std.proofs.Common.{◌≡◌, ◌≢◌, ℕ, ◌<◌, ◌≤◌, true, false, List, [], ◌∷◌, length, drop, slice_index_or, All, Ordering, Less, Equal, Greater, refl, sym, ap, ◌∙◌, arith, ⊎_elim, unwrap_or, zero-le, zero, suc, ◌⊎◌, le_of_suc-le-suc, not-suc-le-zero, inl, inr}
+use Rattle.std.proofs.Common.{◌≡◌, ◌≢◌, ℕ, ◌≤◌, true, false, List, [], ◌∷◌, length, drop, slice_index_or, All, Ordering, Less, Equal, Greater, refl, sym, ap, ◌∙◌, arith, ⊎_elim, unwrap_or, zero-le, zero, suc, ◌⊎◌, le_of_suc-le-suc, not-suc-le-zero, inl, inr}
 use Rattle.std.proofs.lemmas.Bool.{cases_lt}
 use Rattle.std.proofs.lemmas.Grind.{common_steps}
 use Rattle.std.specs.Ordering.{is_eq, is_lt, nat_cmp, ordering_index, ordering_then}

@@ -1,5 +1,5 @@
 -- That tables of words are in order, by computations over them.
-use Rattle.std.proofs.Common.{◌≡◌, ℕ, zero, suc, ◌+◌, ◌<◌, ◌≤◌, Bool, true, ◌&&◌, nat_lt, nat_le, ltb-true, leb-true, List, [], ◌∷◌, length, get_or, slice_index, All, AllPairs, Ordering, Less, Equal, Greater, refl, sym, subst, ◌∙◌, arith, suc-le-suc, le_of_suc-le-suc, not-suc-le-zero}
+use Rattle.std.proofs.Common.{◌≡◌, ℕ, zero, suc, ◌+◌, ◌<◌, ◌≤◌, Bool, true, ◌&&◌, nat_lt, nat_le, ltb-true, leb-true, List, [], ◌∷◌, length, get_or, slice_index, All, AllPairs, Ordering, Less, Equal, Greater, refl, subst, ◌∙◌, arith, le_of_suc-le-suc, not-suc-le-zero}
 use Rattle.std.specs.List.{list_all}
 use Rattle.std.specs.List.Sorted.{IsNonDecreasing}
 use Rattle.std.specs.Ordering.{is_lt}

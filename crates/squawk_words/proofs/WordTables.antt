@@ -1,12 +1,12 @@
 -- What the tables of words hold, by computation.
-use Rattle.std.proofs.Common.{◌≡◌, true, [], refl, length, nat_lt, nat_le}
+use Rattle.std.proofs.Common.{◌≡◌, true, refl}
 use Rattle.std.specs.List.{list_all}
 use Rattle.squawk_names.specs.Texts.{texts}
 use Rattle.squawk_words.specs.Index.{pairs_of, IsIndex}
 use Rattle.squawk_words.specs.Words.{keywords, contextual_keywords}
 use Rattle.squawk_words.specs.declared.tables.TheConstants.{KEYWORDS, KEYWORD_STARTS, CONTEXTUAL_KEYWORDS, CONTEXTUAL_STARTS}
 use Rattle.squawk_words.proofs.KindLemmas.{prints, is_apart}
-use Rattle.squawk_words.proofs.Placed.{rising, climbing, placed, is_place, is_lower, IsIndex-from}
+use Rattle.squawk_words.proofs.Placed.{rising, climbing, placed, is_place, IsIndex-from}
 
 pub keywords_same : pairs_of KEYWORDS ≡ keywords
 unfolding texts keywords

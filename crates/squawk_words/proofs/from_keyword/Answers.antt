@@ -1,4 +1,4 @@
-use Rattle.std.proofs.Common.{◌≡◌, ap, ◌∙◌}
+use Rattle.std.proofs.Common.{ap, ◌∙◌}
 use Rattle.squawk_words.specs.KindOf.{kind_of, keyword_of, contextual_keyword_of}
 use Rattle.squawk_words.specs.Words.{keywords, contextual_keywords}
 use Rattle.squawk_words.proofs.KindLemmas.{answer-none, answer-some, answer-printed, answer-apart}

@@ -1,4 +1,4 @@
-use Rattle.std.proofs.Common.{◌≡◌, ◌≢◌, All, IfSome, IfNone, slice_range, slice_index, length, ◌+◌, sym, subst}
+use Rattle.std.proofs.Common.{◌≡◌, ◌≢◌, All, IfSome, IfNone, length, sym, subst}
 use Rattle.std.specs.Str.{str_to_ascii_lowercase}
 use Rattle.squawk_words.specs.Index.{word_of}
 use Rattle.squawk_words.proofs.LookUp.{part, part_sorted, look_up_part, look_up_past}
