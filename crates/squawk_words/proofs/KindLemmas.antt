@@ -1,5 +1,5 @@
 -- What the kind of the word that equals a text is, over any list of words.
-use Rattle.std.proofs.Common.{◌≡◌, ℕ, zero, suc, ◌<◌, Bool, true, false, not, List, [], ◌∷◌, ◌++◌, length, get_or, slice_get, slice_index_or, All, Any, Option, None, Some, IsNone, IfSome, OnSome, is_some, ◌↔◌, if◌then◌else◌, refl, sym, ap, subst, ◌∙◌, ⊎_elim, zero-lt-suc, suc-le-suc, le_of_suc-le-suc, not-suc-le-zero}
+use Rattle.std.proofs.Common.{◌≡◌, ℕ, zero, suc, ◌<◌, Bool, true, false, not, List, [], ◌∷◌, ◌++◌, length, get_or, slice_get, slice_index_or, codes, Option, None, Some, IsNone, IfSome, OnSome, is_some, ◌↔◌, if◌then◌else◌, refl, sym, ap, subst, ◌∙◌, ⊎_elim, zero-lt-suc, suc-le-suc, le_of_suc-le-suc, not-suc-le-zero}
 use Rattle.std.specs.List.{list_all}
 use Rattle.std.specs.Str.{bytes_eq, str_to_ascii_lowercase, str_eq_ignore_ascii_case}
 use Rattle.std.proofs.lemmas.Bool.{cases_Bool, cases_lt}
@@ -8,7 +8,7 @@ use Rattle.std.proofs.lemmas.List.Sums.{AllPass-from_list_all}
 use Rattle.std.proofs.lemmas.Option.{slice_get-get_or}
 use Rattle.std.proofs.lemmas.Slice.Eq.{bytes_eq-Decides}
 use Rattle.squawk_names.specs.Texts.{texts}
-use Rattle.squawk_words.specs.KindOf.{kind_of, IsWord}
+use Rattle.squawk_words.specs.KindOf.{kind_of, IsWord, HasNoWord, HasWord, backquoted}
 use Rattle.squawk_words.specs.Index.{word_of, pairs_of}
 
 false_unless : (b : Bool) → (b ≡ true → ⊥) → b ≡ false
@@ -18,6 +18,7 @@ false_unless false h = refl
 some_same : (a b : ℕ) → Some a ≡ Some b → a ≡ b
 some_same a b e = cc
 
+-- one step of the definition
 abbrev step : ℕ → Option ℕ → Bool → Option ℕ
 step kind rest b = if b then Some kind else rest
 
@@ -51,7 +52,7 @@ kind_of-missing (kind ∷ kinds) text d none =
     ∙ kind_of-missing kinds text d (λ i lt. none (suc i) (suc-le-suc lt))
 
 -- no word equals the text
-pub kind_of-none : (pairs : List (List ℕ × ℕ)) (text : List ℕ) → All (λ pair. IsWord pair.0 text → ⊥) pairs → kind_of pairs text ≡ None
+pub kind_of-none : (pairs : List (List ℕ × ℕ)) (text : List ℕ) → HasNoWord pairs text → kind_of pairs text ≡ None
 kind_of-none [] text none = refl
 kind_of-none (pair ∷ pairs) text none =
     kind_of-later pair.0 pair.1 pairs text (none 0 pair (zero-lt-suc _))
@@ -68,12 +69,13 @@ kind_of-is_some (pair ∷ pairs) text (suc k) d lt is =
     (λ later. ap (λ b. is_some (step pair.1 (kind_of pairs text) b)) later ∙ kind_of-is_some pairs text k d (le_of_suc-le-suc lt) is)
     (cases_Bool (str_eq_ignore_ascii_case pair.0 text))
 
-pub none-kind_of : (pairs : List (List ℕ × ℕ)) (text : List ℕ) → is_some (kind_of pairs text) ≡ false → All (λ pair. IsWord pair.0 text → ⊥) pairs
+-- where no kind is found, no word equals the text
+pub none-kind_of : (pairs : List (List ℕ × ℕ)) (text : List ℕ) → is_some (kind_of pairs text) ≡ false → HasNoWord pairs text
 none-kind_of pairs text none k d lt is = let clash : true ≡ false = sym (kind_of-is_some pairs text k d lt is) ∙ none in cc
 
 -- a kind that is found stands in the list, with a word that equals the text
 pub some-kind_of : (pairs : List (List ℕ × ℕ)) (text : List ℕ) (kind : ℕ) → kind_of pairs text ≡ Some kind
-    → Any (λ pair. IsWord pair.0 text × (pair.1 ≡ kind)) pairs
+    → HasWord pairs text kind
 some-kind_of [] text kind e = cc
 some-kind_of (pair ∷ pairs) text kind e =
     ⊎_elim
@@ -93,14 +95,15 @@ kind_of-same (pair ∷ pairs) a b e =
 
 -- what a test of each pair says of the one that is found
 found_passes : (test : List ℕ × ℕ → Bool) (pairs : List (List ℕ × ℕ)) (text : List ℕ) (kind : ℕ) → list_all test pairs ≡ true
-    → (found : Any (λ pair. IsWord pair.0 text × (pair.1 ≡ kind)) pairs) → test found.1 ≡ true
+    → (found : HasWord pairs text kind) → test found.1 ≡ true
 found_passes test pairs text kind all found =
     subst (λ pair. test pair ≡ true) found.3 (AllPass-from_list_all test pairs all found.0 found.1 found.2)
 
 -- whether the kind of the pair prints as its word between backquotes
 abbrev pub prints : List ℕ × ℕ → Bool
-prints pair = bytes_eq (slice_index_or texts pair.1 []) (96 ∷ str_to_ascii_lowercase pair.0 ++ 96 ∷ [])
+prints pair = bytes_eq (slice_index_or texts pair.1 []) (backquoted pair.0)
 
+-- a printed text that is not empty is a kind's
 printed_at : (kind : ℕ) (text : List ℕ) (b : ℕ) → slice_index_or texts kind [] ≡ b ∷ text → slice_get texts kind ≡ Some (b ∷ text)
 printed_at kind text b e =
     ⊎_elim
@@ -108,13 +111,14 @@ printed_at kind text b e =
     (λ past. let clash : [] ≡ b ∷ text = sym (get_or_past texts kind [] past) ∙ e in cc)
     (cases_lt kind (length texts))
 
+-- a kind that is found prints as the text between backquotes
 pub kind_of-printed : (pairs : List (List ℕ × ℕ)) (text : List ℕ) (kind : ℕ) → list_all prints pairs ≡ true → kind_of pairs text ≡ Some kind
-    → slice_get texts kind ≡ Some (96 ∷ str_to_ascii_lowercase text ++ 96 ∷ [])
+    → slice_get texts kind ≡ Some (backquoted text)
 kind_of-printed pairs text kind all e =
     let found = some-kind_of pairs text kind e in
     let shown = (bytes_eq-Decides _ _).0 (found_passes prints pairs text kind all found) in
     printed_at kind (str_to_ascii_lowercase text ++ 96 ∷ []) 96
-    (ap (λ n. slice_index_or texts n []) (sym found.4.1) ∙ shown ∙ ap (λ low. 96 ∷ low ++ 96 ∷ []) found.4.0)
+    (ap (λ n. slice_index_or texts n []) (sym found.4.1) ∙ shown ∙ ap (λ low. codes "`" ++ low ++ codes "`") found.4.0)
 
 -- whether the word of the pair is none of the others
 abbrev pub is_apart : List (List ℕ × ℕ) → List ℕ × ℕ → Bool
@@ -124,6 +128,7 @@ not_true : (b : Bool) → not b ≡ true → b ≡ false
 not_true true h = cc
 not_true false h = refl
 
+-- where a kind is found, none is found among the others
 pub kind_of-apart : (pairs others : List (List ℕ × ℕ)) (text : List ℕ) (kind : ℕ) → list_all (is_apart others) pairs ≡ true
     → kind_of pairs text ≡ Some kind → is_some (kind_of others text) ≡ false
 kind_of-apart pairs others text kind all e =
@@ -137,20 +142,25 @@ apart_back pairs others text kind None all other e = ap is_some e
 apart_back pairs others text kind (Some k) all other e =
     let clash : true ≡ false = sym (ap is_some other) ∙ kind_of-apart pairs others text k all e in cc
 
+-- the kinds of a table are those of its pairs
+pub in_pairs : (kinds : List ℕ) (pairs : List (List ℕ × ℕ)) (text : List ℕ) (kind : Option ℕ) → kind ≡ kind_of (pairs_of kinds) text
+    → pairs_of kinds ≡ pairs → kind ≡ kind_of pairs text
+in_pairs kinds pairs text kind found same = found ∙ ap (λ ps. kind_of ps text) same
+
 -- what the answer of a look-up says
 module _ (pairs : List (List ℕ × ℕ)) (text : List ℕ) where
-  pub answer-none : (kind : Option ℕ) → kind ≡ kind_of pairs text → IsNone kind ↔ All (λ pair. ¬ IsWord pair.0 text) pairs
+  pub answer-none : (kind : Option ℕ) → kind ≡ kind_of pairs text → IsNone kind ↔ HasNoWord pairs text
   answer-none kind e = (
     λ none. none-kind_of pairs text (sym (ap is_some e) ∙ none),
     λ all. ap is_some (e ∙ kind_of-none pairs text all),
   )
 
-  pub answer-some : (kind : Option ℕ) → kind ≡ kind_of pairs text → IfSome kind (λ k. Any (λ pair. IsWord pair.0 text × (pair.1 ≡ k)) pairs)
+  pub answer-some : (kind : Option ℕ) → kind ≡ kind_of pairs text → IfSome kind (HasWord pairs text)
   answer-some None e = tt
   answer-some (Some k) e = some-kind_of pairs text k (sym e)
 
   pub answer-printed : (kind : Option ℕ) → kind ≡ kind_of pairs text → list_all prints pairs ≡ true
-      → IfSome kind (λ k. slice_get texts k ≡ Some (96 ∷ str_to_ascii_lowercase text ++ 96 ∷ []))
+      → IfSome kind (λ k. slice_get texts k ≡ Some (backquoted text))
   answer-printed None e all = tt
   answer-printed (Some k) e all = kind_of-printed pairs text k all (sym e)
 

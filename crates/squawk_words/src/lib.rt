@@ -3,10 +3,9 @@
 //! No call takes memory. A word is found by halving among the words of its length; a set is a flag of each kind.
 #![tactic(auto)]
 
-ghost use Rattle.std.specs.Prelude.{◌≡◌, ◌↔◌, [], ◌∷◌, ◌++◌, All, Any, IsNone, IfSome, OnSome, Some, slice_get};
-ghost use Rattle.std.specs.Str.{str_to_ascii_lowercase};
+ghost use Rattle.std.specs.Prelude.{◌≡◌, ◌↔◌, IsNone, IfSome, OnSome, Some, slice_get};
 ghost use Rattle.squawk_names.specs.Texts.{texts};
-ghost use Rattle.squawk_words.specs.KindOf.{keyword_of, contextual_keyword_of, IsWord};
+ghost use Rattle.squawk_words.specs.KindOf.{keyword_of, contextual_keyword_of, HasNoWord, HasWord, backquoted};
 ghost use Rattle.squawk_words.specs.Words.{keywords, contextual_keywords};
 
 mod class;
@@ -32,9 +31,9 @@ use squawk_kinds::SyntaxKind;
 /// `None` exactly where no keyword is. A kind that is found prints as its word, in small letters, between backquotes.
 pub fn from_keyword(ident: &str) -> Option<SyntaxKind>
     ensures kind { result ≡ keyword_of ident.now }
-    ensures none { IsNone result ↔ All (λ pair. ¬ IsWord pair.0 ident.now) keywords }
-    ensures some { IfSome result (λ kind. Any (λ pair. IsWord pair.0 ident.now × (pair.1 ≡ kind)) keywords) }
-    ensures printed { IfSome result (λ kind. slice_get texts kind ≡ Some (96 ∷ str_to_ascii_lowercase ident.now ++ 96 ∷ [])) }
+    ensures none { IsNone result ↔ HasNoWord keywords ident.now }
+    ensures some { IfSome result (HasWord keywords ident.now) }
+    ensures printed { IfSome result (λ kind. slice_get texts kind ≡ Some (backquoted ident.now)) }
     ensures apart { OnSome result (IsNone (contextual_keyword_of ident.now)) }
 {
     halving::look_up(tables::keywords(), ident)
@@ -47,9 +46,9 @@ pub fn from_keyword(ident: &str) -> Option<SyntaxKind>
 /// backquotes.
 pub fn from_contextual_keyword(ident: &str) -> Option<SyntaxKind>
     ensures kind { result ≡ contextual_keyword_of ident.now }
-    ensures none { IsNone result ↔ All (λ pair. ¬ IsWord pair.0 ident.now) contextual_keywords }
-    ensures some { IfSome result (λ kind. Any (λ pair. IsWord pair.0 ident.now × (pair.1 ≡ kind)) contextual_keywords) }
-    ensures printed { IfSome result (λ kind. slice_get texts kind ≡ Some (96 ∷ str_to_ascii_lowercase ident.now ++ 96 ∷ [])) }
+    ensures none { IsNone result ↔ HasNoWord contextual_keywords ident.now }
+    ensures some { IfSome result (HasWord contextual_keywords ident.now) }
+    ensures printed { IfSome result (λ kind. slice_get texts kind ≡ Some (backquoted ident.now)) }
     ensures apart { OnSome result (IsNone (keyword_of ident.now)) }
 {
     halving::look_up(tables::contextual_keywords(), ident)
