@@ -1,4 +1,4 @@
--- What a binary search and a comparison of words say.
+-- What a comparison of words says.
 use Rattle.std.proofs.Common.{◌≡◌, ◌≢◌, ℕ, ◌≤◌, true, false, List, [], ◌∷◌, length, drop, slice_index_or, All, Ordering, Less, Equal, Greater, refl, sym, ap, ◌∙◌, arith, ⊎_elim, unwrap_or, zero-le, zero, suc, ◌⊎◌, le_of_suc-le-suc, not-suc-le-zero, inl, inr}
 use Rattle.std.proofs.lemmas.Bool.{cases_lt}
 use Rattle.std.proofs.lemmas.Grind.{common_steps}
@@ -14,35 +14,14 @@ use Rattle.std.proofs.lemmas.Option.{unwrap_or-slice_get, slice_get_past}
 use Rattle.squawk_names.specs.Texts.{texts}
 use Rattle.squawk_words.specs.Index.{word_of, word_cmp}
 
+-- lists that compare as equal are
 pub same_if_equal : (a b : List ℕ) → slice_cmp nat_cmp a b ≡ Equal → a ≡ b
 same_if_equal a b e = (bytes_eq-Decides a b).0 (sym (is_eq-slice_cmp a b) ∙ ap is_eq e)
 
+-- lists that compare as another are not
 pub differs_if : (a b : List ℕ) (o : Ordering) → slice_cmp nat_cmp a b ≡ o → is_eq o ≡ false → a ≢ b
 differs_if a b o e other same =
     let clash : true ≡ false = sym ((bytes_eq-Decides a b).1 same) ∙ sym (is_eq-slice_cmp a b) ∙ ap is_eq e ∙ other in cc
-
--- where the search found no place, no word is the text
-pub none_equal : (part text : List ℕ) (i : ℕ) → IsSortedBy (λ a b. is_lt (slice_cmp nat_cmp (word_of a) (word_of b))) part
-    → (IsNonDecreasingBy (λ n. ordering_index (slice_cmp nat_cmp (word_of n) text)) part
-    → IsPartitionPoint (λ n. slice_cmp nat_cmp (word_of n) text ≡ Less) (λ n. slice_cmp nat_cmp (word_of n) text ≡ Greater) part i)
-    → All (λ n. word_of n ≢ text) part
-none_equal part text i sorted parts k d lt =
-    let both = parts (searchable_from_sorted nat_list_cmp_total word_of part text sorted) in
-    ⊎_elim
-    (λ below. differs_if _ _ Less (both.0 k d zero-le below) refl)
-    (λ above. differs_if _ _ Greater (both.1 k d above lt) refl)
-    (cases_lt k i)
-
-length-texts : length texts ≡ 2068
-unfolding texts
-length-texts = refl
-
--- a number that is no kind's has no word
-pub word_of-past : (number : ℕ) → 2068 ≤ number → word_of number ≡ []
-word_of-past number le =
-    let none : slice_index_or texts number [] ≡ [] =
-    sym (unwrap_or-slice_get texts number []) ∙ ap (λ o. unwrap_or o []) (slice_get_past texts number (omega (arith, length-texts))) in
-    rw none refl
 
 cmp_suc : (a b : ℕ) → nat_cmp (suc a) (suc b) ≡ nat_cmp a b
 cmp_suc a b = grind (arith, common_steps)

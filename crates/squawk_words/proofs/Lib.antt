@@ -5,4 +5,5 @@ pub mod Halved
 pub mod KindLemmas
 pub mod LookUp
 pub mod Placed
+pub mod Spelled
 pub mod WordTables

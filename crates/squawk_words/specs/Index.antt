@@ -1,5 +1,5 @@
 -- A table of words, sorted, and where the words of each length begin.
-use Rattle.std.specs.Prelude.{◌≡◌, ℕ, ◌+◌, ◌-◌, ◌<◌, ◌≤◌, List, [], All, AllPairs, map, length, slice_range, slice_index, slice_index_or}
+use Rattle.std.specs.Prelude.{◌≡◌, ℕ, ◌+◌, ◌-◌, ◌*◌, ◌<◌, ◌≤◌, List, [], All, AllPairs, map, length, slice_range, slice_index, slice_index_or}
 use Rattle.std.specs.Cmp.Lexicographic.{slice_cmp}
 use Rattle.std.specs.declared.cmp.Ordering.{Ordering}
 use Rattle.std.specs.declared.cmp.Ordering.TheVariants.{Less}
@@ -36,3 +36,19 @@ pub record IsIndex (kinds starts : List ℕ) : Type 0 where
   pub ordered : IsNonDecreasing starts
   pub within : All (λ start. start ≤ length kinds) starts
   pub placed : (place d : ℕ) → place < length kinds → IsPlace starts (length (word_of (slice_index_or kinds place d))) place
+
+-- where the word of a place begins in the text: behind the words of its length before it, each with one byte behind it
+abbrev pub word_start : List ℕ → List ℕ → ℕ → ℕ → ℕ
+word_start starts offsets size place = slice_index offsets size + (place - slice_index starts size) * (size + 1)
+
+-- the text has this word where the word of this place begins
+pub record IsSpelledAt (starts text offsets word : List ℕ) (place : ℕ) : Type 0 where
+  pub listed : length word < length offsets
+  pub started : length word < length starts
+  pub begun : slice_index starts (length word) ≤ place
+  pub within : word_start starts offsets (length word) place + length word ≤ length text
+  pub gives : slice_range text (word_start starts offsets (length word) place) (word_start starts offsets (length word) place + length word) ≡ word
+
+-- the text has the words of the kinds, in their order
+pub record IsSpelled (kinds starts text offsets : List ℕ) : Type 0 where
+  pub each : (place d : ℕ) → place < length kinds → IsSpelledAt starts text offsets (word_of (slice_index_or kinds place d)) place

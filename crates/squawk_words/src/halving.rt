@@ -1,51 +1,58 @@
 //! The search for a word: by halving among the words of its length.
-ghost use Rattle.std.specs.Prelude.{◌≡◌, ◌≢◌, ◌<◌, All, Contains, IfSome, IfNone};
+ghost use Rattle.std.specs.Prelude.{◌≡◌, ◌+◌, ◌<◌, length, slice_index};
 ghost use Rattle.std.specs.Cmp.Lexicographic.{slice_cmp};
-ghost use Rattle.std.specs.List.Sorted.{IsSortedBy};
-ghost use Rattle.std.specs.Ordering.{is_lt, nat_cmp};
+ghost use Rattle.std.specs.Ordering.{nat_cmp};
 ghost use Rattle.std.specs.Str.{str_to_ascii_lowercase};
-ghost use Rattle.squawk_words.specs.Index.{IsIndex, pairs_of, word_of};
+ghost use Rattle.squawk_words.specs.Index.{IsIndex, IsSpelled, pairs_of, word_of};
 ghost use Rattle.squawk_words.specs.KindOf.{kind_of};
 
 use crate::tables::Words;
 use squawk_kinds::SyntaxKind;
-use squawk_names::{COUNT, name};
 use std::cmp::Ordering;
 
 /// The kind of the word that `ident` is when ASCII letters are compared without case.
 pub(crate) fn look_up(words: Words, ident: &str) -> Option<SyntaxKind>
-    requires { IsIndex words.kinds.now words.starts.now }
+    requires index { IsIndex words.kinds.now words.starts.now }
+    requires spelled { IsSpelled words.kinds.now words.starts.now words.text.now words.offsets.now }
     ensures { result ≡ kind_of (pairs_of words.kinds.now) ident.now }
 {
-    let size = ident.len();
-    if size + 1 < words.starts.len() {
-        let start = words.starts[size] as usize;
-        let end = words.starts[size + 1] as usize;
-        find(&words.kinds[start..end], ident.as_bytes())
+    if ident.len() + 1 < words.starts.len() {
+        halve(words, ident.as_bytes())
     } else {
         None
     }
 }
 
-/// The kind in a part of a table, sorted by its words, whose word is `ident` in small letters.
-fn find(part: &[u16], ident: &[u8]) -> Option<SyntaxKind>
-    requires numbers { All (λ number. number < COUNT) part.now }
-    requires sorted { IsSortedBy (λ a b. is_lt (slice_cmp nat_cmp (word_of a) (word_of b))) part.now }
-    ensures found { IfSome result (λ kind. Contains part.now kind) }
-    ensures word { IfSome result (λ kind. word_of kind ≡ str_to_ascii_lowercase ident.now) }
-    ensures missing { IfNone result (All (λ number. word_of number ≢ str_to_ascii_lowercase ident.now) part.now) }
+/// The same for a text that is no longer than the longest word.
+fn halve(words: Words, ident: &[u8]) -> Option<SyntaxKind>
+    requires index { IsIndex words.kinds.now words.starts.now }
+    requires spelled { IsSpelled words.kinds.now words.starts.now words.text.now words.offsets.now }
+    requires listed { length ident.now + 1 < length words.starts.now }
+    ensures { result ≡ kind_of (pairs_of words.kinds.now) ident.now }
 {
-    match part.binary_search_by(|number| order(*number, ident)) {
-        Ok(place) => SyntaxKind::from_raw(part[place]),
-        Err(_) => None,
+    let size = ident.len();
+    let mut low = words.starts[size] as usize;
+    let mut high = words.starts[size + 1] as usize;
+    while low < high {
+        let middle = low + (high - low) / 2;
+        match compare(word(words, size, middle), ident) {
+            Ordering::Less => low = middle + 1,
+            Ordering::Equal => return SyntaxKind::from_raw(words.kinds[middle]),
+            Ordering::Greater => high = middle,
+        }
     }
+    None
 }
 
-/// How the word of the kind compares with the text in small letters.
-fn order(number: u16, ident: &[u8]) -> Ordering
-    ensures { result ≡ slice_cmp nat_cmp (word_of number) (str_to_ascii_lowercase ident.now) }
+/// The word of this length at a place of the table.
+fn word(words: Words, size: usize, place: usize) -> &'static [u8]
+    requires spelled { IsSpelled words.kinds.now words.starts.now words.text.now words.offsets.now }
+    requires listed { place < length words.kinds.now }
+    requires size { length (word_of (slice_index words.kinds.now place)) ≡ size }
+    ensures { result.now ≡ word_of (slice_index words.kinds.now place) }
 {
-    compare(word(number), ident)
+    let start = words.offsets[size] as usize + (place - words.starts[size] as usize) * (size + 1);
+    &words.text[start..start + size]
 }
 
 /// How a word compares with the text in small letters.
@@ -61,21 +68,4 @@ fn compare(word: &[u8], ident: &[u8]) -> Ordering
         place += 1;
     }
     word.len().cmp(&ident.len())
-}
-
-/// The word of the kind: its printed text without the first and the last byte.
-fn word(number: u16) -> &'static [u8]
-    ensures { result.now ≡ word_of number }
-{
-    match name(number) {
-        Some(text) => {
-            let bytes = text.as_bytes();
-            if bytes.len() < 2 {
-                &bytes[..0]
-            } else {
-                &bytes[1..bytes.len() - 1]
-            }
-        }
-        None => b"",
-    }
 }

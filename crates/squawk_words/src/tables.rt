@@ -1,5 +1,5 @@
 //! The words of both tables, as the numbers of their kinds, and where the words of each length begin.
-ghost use Rattle.squawk_words.specs.Index.{IsIndex, pairs_of};
+ghost use Rattle.squawk_words.specs.Index.{IsIndex, IsSpelled, pairs_of};
 ghost use Rattle.squawk_words.specs.Words.{keywords, contextual_keywords};
 ghost use Rattle.std.specs.Prelude.{◌≡◌};
 
@@ -10,18 +10,25 @@ use squawk_kinds::numbers::Number;
 pub(crate) struct Words {
     /// The numbers of the kinds, by the length of the word and then by its bytes.
     pub(crate) kinds: &'static [u16],
-    /// Where the words of each length begin, from length 0 on, and where the longest end.
+    /// Where the kinds of the words of each length begin, from length 0 on, and where those of the longest end.
     pub(crate) starts: &'static [u16],
+    /// The words in the same order, each with one byte behind it.
+    pub(crate) text: &'static [u8],
+    /// Where the words of each length begin in the text, from length 0 on.
+    pub(crate) offsets: &'static [u16],
 }
 
 /// The keywords.
 pub(crate) fn keywords() -> Words
     ensures same { pairs_of result.kinds.now ≡ keywords }
     ensures index { IsIndex result.kinds.now result.starts.now }
+    ensures spelled { IsSpelled result.kinds.now result.starts.now result.text.now result.offsets.now }
 {
     Words {
         kinds: &KEYWORDS,
         starts: &KEYWORD_STARTS,
+        text: KEYWORD_TEXT.as_bytes(),
+        offsets: &KEYWORD_OFFSETS,
     }
 }
 
@@ -29,10 +36,13 @@ pub(crate) fn keywords() -> Words
 pub(crate) fn contextual_keywords() -> Words
     ensures same { pairs_of result.kinds.now ≡ contextual_keywords }
     ensures index { IsIndex result.kinds.now result.starts.now }
+    ensures spelled { IsSpelled result.kinds.now result.starts.now result.text.now result.offsets.now }
 {
     Words {
         kinds: &CONTEXTUAL_KEYWORDS,
         starts: &CONTEXTUAL_STARTS,
+        text: CONTEXTUAL_TEXT.as_bytes(),
+        offsets: &CONTEXTUAL_OFFSETS,
     }
 }
 
@@ -110,6 +120,59 @@ static KEYWORD_STARTS: [u16; 19] = [
     0, 0, 0, 12, 39, 109, 180, 262, 340, 395, 439, 470, 486, 498, 504, 508, 510, 510, 511,
 ];
 
+/// The keywords in the order of their kinds, each with one byte behind it.
+#[rattlefmt::skip]
+const KEYWORD_TEXT: &str = "\
+as at by do if in is no of on or to
+add all and any asc bit csv day dec end for int key lsn new nfc nfd not off old out ref row set sql xml yes
+also both call case cast char copy cost cube data desc drop each edge else enum from full hold hour into join json
+keep keys last left like load lock mode move name next nfkc nfkd node none null oids omit only over path plan read
+real role rows rule sets show skip some temp text then ties time trim true type user view wait when with work year
+zone
+abort admin after alter array begin cache chain check class close cross cycle depth empty error event false fetch
+first float force grant graph group ilike index inner inout input label large least level limit local match merge
+month names nchar nulls order outer owned owner plans prior quote range reset right setof share split start stdin
+strip sysid table treat types union until using valid value views where write xmlpi
+absent access action always atomic attach before bigint binary called column commit create cursor delete detach domain
+double enable escape except exists family filter format freeze global groups having header ignore import indent inline
+insert isnull listen locked logged method minute nested notify nowait nullif object offset option others parser period
+policy quotes rename repack return revoke rollup scalar schema scroll search second select server simple source stable
+stdout stored strict string system tables target unique update vacuum values vertex window within
+analyse analyze between boolean breadth cascade catalog cluster collate columns comment content current decimal
+declare default definer depends disable discard exclude execute explain extract foreign forward granted handler
+include indexes inherit instead integer invoker lateral leading mapping matched natural nothing notnull numeric
+objects options overlay partial passing placing portion prepare primary program refresh reindex release replace
+replica respect restart returns routine schemas session similar storage support trigger trusted uescape unknown
+varchar varying verbose version virtual without wrapper xmlroot
+absolute backward cascaded coalesce comments conflict continue database defaults deferred distinct document encoding
+enforced external finalize function greatest grouping identity implicit inherits interval language location maxvalue
+minvalue national operator overlaps parallel password position prepared preserve property reassign relative restrict
+rollback routines security sequence smallint snapshot template trailing truncate unlisten unlogged validate variadic
+volatile xmlparse xmltable
+aggregate assertion attribute character collation committed delimiter encrypted excluding exclusive extension
+following functions generated immediate immutable including increment initially intersect isolation leakproof
+localtime normalize parameter partition preceding precision procedure recursive returning savepoint sequences
+statement substring symmetric temporary timestamp transform unbounded validator xmlconcat xmlexists xmlforest
+asensitive assignment asymmetric checkpoint connection constraint conversion deallocate deferrable delimiters
+dictionary expression json_array json_query json_table json_value normalized ordinality overriding partitions
+privileges procedural procedures properties references repeatable standalone statistics tablespace whitespace
+xmlelement
+compression conditional constraints destination graph_table insensitive json_exists json_object json_scalar
+publication referencing system_user tablesample transaction uncommitted unencrypted
+concurrently current_date current_role current_time current_user materialized merge_action relationship serializable
+session_user subscription xmlserialize
+authorization configuration json_arrayagg unconditional xmlattributes xmlnamespaces
+current_schema json_objectagg json_serialize localtimestamp
+characteristics current_catalog
+current_timestamp
+";
+
+/// Where the keywords of each length begin in the text.
+#[rattlefmt::skip]
+static KEYWORD_OFFSETS: [u16; 18] = [
+    0, 0, 0, 36, 144, 494, 920, 1494, 2118, 2613, 3053, 3394, 3586, 3742, 3826, 3886, 3918, 3918,
+];
+
 /// The kinds of the contextual keywords, in the same order.
 #[rattlefmt::skip]
 static CONTEXTUAL_KEYWORDS: [u16; 49] = numbers_of![
@@ -135,4 +198,31 @@ static CONTEXTUAL_KEYWORDS: [u16; 49] = numbers_of![
 #[rattlefmt::skip]
 static CONTEXTUAL_STARTS: [u16; 22] = [
     0, 0, 0, 0, 2, 8, 15, 19, 27, 30, 32, 35, 38, 40, 40, 41, 42, 43, 46, 46, 48, 49,
+];
+
+/// The contextual keywords in the order of their kinds, each with one byte behind it.
+#[rattlefmt::skip]
+const CONTEXTUAL_TEXT: &str = "\
+get log
+dump exit hint info loop open
+alias debug elsif query raise slice while
+assert detail elseif notice
+errcode foreach message perform reverse rowtype stacked warning
+constant datatype sqlstate
+exception row_count
+pg_context table_name use_column
+column_name diagnostics schema_name
+message_text use_variable
+pg_routine_oid
+constraint_name
+pg_datatype_name
+pg_exception_hint returned_sqlstate variable_conflict
+pg_exception_detail print_strict_params
+pg_exception_context
+";
+
+/// Where the contextual keywords of each length begin in the text.
+#[rattlefmt::skip]
+static CONTEXTUAL_OFFSETS: [u16; 21] = [
+    0, 0, 0, 0, 8, 38, 80, 108, 172, 199, 219, 252, 288, 314, 314, 329, 345, 362, 416, 416, 456,
 ];
