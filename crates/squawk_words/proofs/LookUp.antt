@@ -8,7 +8,7 @@ use Rattle.std.proofs.lemmas.Cmp.{nat_list_cmp_total}
 use Rattle.std.proofs.lemmas.List.{length-map}
 use Rattle.squawk_words.specs.Index.{word_of, word_cmp, pairs_of, IsIndex, IsPlace}
 use Rattle.squawk_words.specs.KindOf.{kind_of, IsWord}
-use Rattle.squawk_words.proofs.Halved.{differs_if, word_cmp-bytes}
+use Rattle.squawk_words.proofs.WordOrder.{differs_if, word_cmp-bytes}
 use Rattle.squawk_words.proofs.KindLemmas.{kind_of-at, kind_of-missing}
 
 -- a word is as long as a text that it equals

@@ -1,5 +1,5 @@
 -- That tables of words are in order, by computations over them.
-use Rattle.std.proofs.Common.{◌≡◌, ℕ, zero, suc, ◌+◌, ◌<◌, ◌≤◌, Bool, true, ◌&&◌, nat_lt, nat_le, ltb-true, leb-true, List, [], ◌∷◌, length, get_or, slice_index, All, AllPairs, Ordering, Less, Equal, Greater, refl, subst, ◌∙◌, arith, le_of_suc-le-suc, not-suc-le-zero}
+use Rattle.std.proofs.Common.{◌≡◌, ℕ, zero, suc, ◌+◌, ◌<◌, ◌≤◌, Bool, true, ◌&&◌, nat_lt, nat_le, ltb-true, leb-true, List, [], ◌∷◌, length, get_or, slice_index, All, AllPairs, Ordering, Less, Equal, Greater, refl, subst, ◌∙◌, arith, le_of_suc-le-suc, not-suc-le-zero, ◌≢◌, ap}
 use Rattle.std.specs.List.{list_all}
 use Rattle.std.specs.List.Sorted.{IsNonDecreasing}
 use Rattle.std.specs.Ordering.{is_lt}
@@ -9,6 +9,7 @@ use Rattle.std.proofs.lemmas.Cmp.{nat_list_cmp_total}
 use Rattle.std.proofs.lemmas.List.{get_or-map, length-map}
 use Rattle.std.proofs.lemmas.List.Sums.{AllPass-from_list_all}
 use Rattle.std.proofs.lemmas.Slice.Eq.{bytes_eq-Decides}
+use Rattle.squawk_words.proofs.WordOrder.{differs_if}
 use Rattle.squawk_words.specs.Index.{word_of, word_cmp, pairs_of, IsIndex, IsPlace}
 
 less_if : (o : Ordering) → is_lt o ≡ true → o ≡ Less
@@ -120,3 +121,8 @@ rising-pairs_of kinds rise i j d before lt =
     let x = get_or-map (λ kind. (word_of kind, kind)) kinds i d.1 d (omega arith) in
     let y = get_or-map (λ kind. (word_of kind, kind)) kinds j d.1 d (omega arith) in
     (λ t. word_cmp (x t).0 (y t).0) ∙ rise i j d.1 before (omega arith)
+
+-- words that rise differ
+pub differing : (pairs : List (List ℕ × ℕ)) → AllPairs (λ a b. word_cmp a.0 b.0 ≡ Less) pairs → AllPairs (λ a b. a.0 ≢ b.0) pairs
+differing pairs rise i j d before lt same =
+    differs_if _ _ Less (rise i j d before lt) refl (ap (λ word. length word ∷ word) same)

@@ -1,18 +1,18 @@
-//! The words of both tables, as the numbers of their kinds, and where the words of each length begin.
+//! The two tables of words, by the length of the word and then by its bytes.
+ghost use Rattle.std.specs.Prelude.{◌≡◌};
 ghost use Rattle.squawk_words.specs.Index.{IsIndex, IsSpelled, pairs_of};
 ghost use Rattle.squawk_words.specs.Words.{keywords, contextual_keywords};
-ghost use Rattle.std.specs.Prelude.{◌≡◌};
 
 use squawk_kinds::numbers::Number;
 
-/// The words of a table.
+/// A table of words. All words of one length stand side by side, in the order of their bytes.
 #[derive(Clone, Copy)]
 pub(crate) struct Words {
-    /// The numbers of the kinds, by the length of the word and then by its bytes.
+    /// The numbers of the words' kinds.
     pub(crate) kinds: &'static [u16],
     /// Where the kinds of the words of each length begin, from length 0 on, and where those of the longest end.
     pub(crate) starts: &'static [u16],
-    /// The words in the same order, each with one byte behind it.
+    /// The words, in the same order, each with one byte behind it that parts it from the next.
     pub(crate) text: &'static [u8],
     /// Where the words of each length begin in the text, from length 0 on.
     pub(crate) offsets: &'static [u16],

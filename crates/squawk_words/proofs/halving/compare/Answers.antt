@@ -1,5 +1,5 @@
 use Rattle.std.proofs.Common.{◌≤◌, ◌⊎◌, length, sym, ◌∙◌, inl, inr, arith}
-use Rattle.squawk_words.proofs.Halved.{ended}
+use Rattle.squawk_words.proofs.WordOrder.{ended}
 use Rattle.squawk_words.proofs.halving.compare.Goals as goal
 use Rattle.squawk_words.proofs.halving.compare.Goals.{then-loop-place-test+else-place-ident, else-loop-place-test}
 

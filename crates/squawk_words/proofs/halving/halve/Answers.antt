@@ -1,10 +1,9 @@
-use Rattle.std.proofs.Common.{◌≡◌, ◌+◌, ◌-◌, ◌/◌, ◌<◌, ◌≤◌, length, slice_index, ap, sym, arith, ◌∙◌, inl, inr}
+use Rattle.std.proofs.Common.{◌+◌, ◌-◌, ◌/◌, ap, sym, arith, ◌∙◌, inl, inr}
 use Rattle.std.specs.Cmp.Lexicographic.{slice_cmp}
 use Rattle.std.specs.Ordering.{nat_cmp}
 use Rattle.std.specs.Str.{str_to_ascii_lowercase}
 use Rattle.std.proofs.lemmas.Bool.{cases_lt}
-use Rattle.squawk_words.specs.Index.{word_of}
-use Rattle.squawk_words.proofs.Halved.{same_if_equal}
+use Rattle.squawk_words.proofs.WordOrder.{same_if_equal}
 use Rattle.squawk_words.proofs.LookUp.{found_at, none_below, none_above, place_within, look_up_none, some_from_raw}
 use Rattle.squawk_words.proofs.halving.halve.Goals as goal
 

@@ -1,4 +1,4 @@
-use Rattle.std.proofs.Common.{◌≡◌, ◌≢◌, ℕ, ◌+◌, ◌-◌, ◌<◌, ◌≤◌, length, slice_index}
+use Rattle.std.proofs.Common.{◌≢◌, ℕ, ◌+◌, ◌-◌, ◌<◌, ◌≤◌, length, slice_index}
 use Rattle.std.specs.Str.{str_to_ascii_lowercase}
 use Rattle.squawk_words.specs.Index.{word_of}
 use Rattle.squawk_words.proofs.halving.halve.Given as goal

@@ -1,6 +1,4 @@
-use Rattle.std.proofs.Common.{◌≡◌, ◌+◌, ◌<◌, length, sym, subst}
-use Rattle.squawk_words.specs.Index.{pairs_of}
-use Rattle.squawk_words.specs.KindOf.{kind_of}
+use Rattle.std.proofs.Common.{sym}
 use Rattle.squawk_words.proofs.LookUp.{look_up_past}
 use Rattle.squawk_words.proofs.halving.look_up.Goals as goal
 

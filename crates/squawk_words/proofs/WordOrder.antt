@@ -1,18 +1,12 @@
 -- What a comparison of words says.
-use Rattle.std.proofs.Common.{◌≡◌, ◌≢◌, ℕ, ◌≤◌, true, false, List, [], ◌∷◌, length, drop, slice_index_or, All, Ordering, Less, Equal, Greater, refl, sym, ap, ◌∙◌, arith, ⊎_elim, unwrap_or, zero-le, zero, suc, ◌⊎◌, le_of_suc-le-suc, not-suc-le-zero, inl, inr}
-use Rattle.std.proofs.lemmas.Bool.{cases_lt}
+use Rattle.std.proofs.Common.{◌≡◌, ◌≢◌, ℕ, ◌≤◌, true, false, List, [], ◌∷◌, length, drop, Ordering, Less, Equal, Greater, refl, sym, ap, ◌∙◌, arith, ⊎_elim, zero, suc, ◌⊎◌, le_of_suc-le-suc, not-suc-le-zero, inl, inr}
 use Rattle.std.proofs.lemmas.Grind.{common_steps}
-use Rattle.std.specs.Ordering.{is_eq, is_lt, nat_cmp, ordering_index, ordering_then}
+use Rattle.std.specs.Ordering.{is_eq, nat_cmp, ordering_then}
 use Rattle.std.specs.Cmp.Lexicographic.{slice_cmp}
-use Rattle.std.specs.List.Sorted.{IsSortedBy, IsPartitionPoint, IsNonDecreasingBy}
 use Rattle.std.specs.Str.{str_to_ascii_lowercase}
-use Rattle.std.proofs.lemmas.Cmp.{nat_list_cmp_total}
 use Rattle.std.proofs.lemmas.Map.Text.{is_eq-slice_cmp}
 use Rattle.std.proofs.lemmas.Slice.Eq.{bytes_eq-Decides}
-use Rattle.std.proofs.lemmas.List.Sorted.{searchable_from_sorted}
-use Rattle.std.proofs.lemmas.Option.{unwrap_or-slice_get, slice_get_past}
-use Rattle.squawk_names.specs.Texts.{texts}
-use Rattle.squawk_words.specs.Index.{word_of, word_cmp}
+use Rattle.squawk_words.specs.Index.{word_cmp}
 
 -- lists that compare as equal are
 pub same_if_equal : (a b : List ℕ) → slice_cmp nat_cmp a b ≡ Equal → a ≡ b
@@ -23,6 +17,7 @@ pub differs_if : (a b : List ℕ) (o : Ordering) → slice_cmp nat_cmp a b ≡ o
 differs_if a b o e other same =
     let clash : true ≡ false = sym ((bytes_eq-Decides a b).1 same) ∙ sym (is_eq-slice_cmp a b) ∙ ap is_eq e ∙ other in cc
 
+-- how two numbers compare
 cmp_suc : (a b : ℕ) → nat_cmp (suc a) (suc b) ≡ nat_cmp a b
 cmp_suc a b = grind (arith, common_steps)
 
