@@ -1,14 +1,14 @@
 #!/usr/bin/env bash
 # Measures the look-up of keywords: nanoseconds a call over the words of a text, for keywords and for other words.
 #
-# Use: words.sh [TEXT]      TEXT is a file; without it, the input of the program's own run
+# Use: words.sh [TEXT]      TEXT is a file; without it, statements.sql beside this script
 #
 # The program that measures is written, with the crates that it needs, to a temporary folder, and is proved and built there.
 # It goes over the words of each sort until it has made ten million calls, and prints the time of the loop, by the
 # clock, divided by their number. The time of the loop itself, with its sum, is in the figure.
 set -eu
 here=$(cd "$(dirname "${BASH_SOURCE[0]}")/.." && pwd)
-text=$(realpath "${1:-$here/crates/squawk_show/stdin}")
+text=$(realpath "${1:-$here/bench/statements.sql}")
 folder=$(mktemp -d)
 trap 'rm -rf "$folder"' EXIT
 
