@@ -47,6 +47,7 @@ has-true (m ∷ ms) k h =
           (suc rest.0, suc-le-suc rest.1, rest.2)
     ]
 
+-- an element is found
 has-at : (ms : List ℕ) (k i : ℕ) → i < length ms → slice_index_or ms i k ≡ k → has ms k ≡ true
 has-at [] k i lt at = absurd (not-suc-le-zero lt)
 has-at (m ∷ ms) k zero lt at = has-same m ms k at
@@ -57,7 +58,8 @@ has-at (m ∷ ms) k (suc i) lt at =
     ]
 
 -- what the test says of the first kind and of the rest
-flagged-same : (bit n f : ℕ) (fs : List ℕ) (m : ℕ) (ms : List ℕ) → m ≡ n → flagged bit n (f ∷ fs) (m ∷ ms) ≡ true → (bit_at f bit ≡ 1) × (flagged bit (suc n) fs ms ≡ true)
+flagged-same : (bit n f : ℕ) (fs : List ℕ) (m : ℕ) (ms : List ℕ) → m ≡ n
+    → flagged bit n (f ∷ fs) (m ∷ ms) ≡ true → (bit_at f bit ≡ 1) × (flagged bit (suc n) fs ms ≡ true)
 unfolding flagged
 flagged-same bit n f fs m ms same ok =
     let first = λ (b : Bool). (bit_at f bit == (if b then 1 else 0)) && flagged bit (suc n) fs (if b then ms else m ∷ ms) in
@@ -68,7 +70,9 @@ flagged-same bit n f fs m ms same ok =
       | inr other ↦ absurd (other.1 same)
     ]
 
-flagged-other : (bit n f : ℕ) (fs : List ℕ) (m : ℕ) (ms : List ℕ) → (m ≡ n → ⊥) → flagged bit n (f ∷ fs) (m ∷ ms) ≡ true → (bit_at f bit ≡ 0) × (flagged bit (suc n) fs (m ∷ ms) ≡ true)
+-- the same where the first member is a later kind
+flagged-other : (bit n f : ℕ) (fs : List ℕ) (m : ℕ) (ms : List ℕ) → (m ≡ n → ⊥)
+    → flagged bit n (f ∷ fs) (m ∷ ms) ≡ true → (bit_at f bit ≡ 0) × (flagged bit (suc n) fs (m ∷ ms) ≡ true)
 unfolding flagged
 flagged-other bit n f fs m ms differs ok =
     let first = λ (b : Bool). (bit_at f bit == (if b then 1 else 0)) && flagged bit (suc n) fs (if b then ms else m ∷ ms) in
@@ -100,7 +104,8 @@ abbrev one_if : Bool → ℕ
 one_if b = if b then 1 else 0
 
 -- the bit of each kind says whether the list has it
-flagged-at : (bit n : ℕ) (fs ms : List ℕ) (k : ℕ) → flagged bit n fs ms ≡ true → k < length fs → bit_at (slice_index fs k) bit ≡ one_if (has ms (n + k))
+flagged-at : (bit n : ℕ) (fs ms : List ℕ) (k : ℕ)
+    → flagged bit n fs ms ≡ true → k < length fs → bit_at (slice_index fs k) bit ≡ one_if (has ms (n + k))
 unfolding flagged has
 flagged-at bit n [] ms k ok lt = absurd (not-suc-le-zero lt)
 flagged-at bit n (f ∷ fs) [] zero ok lt = eqb-true _ _ (and_parts (bit_at f bit == 0) (flagged bit (suc n) fs []) ok).0
@@ -126,12 +131,14 @@ flagged-at bit n (f ∷ fs) (m ∷ ms) (suc k) ok lt =
           ∙ ap (λ j. one_if (has (m ∷ ms) j)) moved
     ]
 
+-- a bit that is set is the answer true
 one_if-true : (b : Bool) → one_if b ≡ 1 → b ≡ true
 one_if-true true h = refl
 one_if-true false h = absurd (omega arith)
 
 -- the bit is set exactly at the members
-IsFlag : (flags ms : List ℕ) (bit kind : ℕ) → flagged bit 0 flags ms ≡ true → kind < length flags → (bit_at (slice_index flags kind) bit ≡ 1) ↔ Contains ms kind
+IsFlag : (flags ms : List ℕ) (bit kind : ℕ)
+    → flagged bit 0 flags ms ≡ true → kind < length flags → (bit_at (slice_index flags kind) bit ≡ 1) ↔ Contains ms kind
 IsFlag flags ms bit kind ok lt =
     let at : bit_at (slice_index flags kind) bit ≡ one_if (has ms kind) =
     flagged-at bit 0 flags ms kind ok lt ∙ ap (λ j. one_if (has ms j)) (let h : 0 + kind ≡ kind = omega arith in h) in (
@@ -140,7 +147,8 @@ IsFlag flags ms bit kind ok lt =
     )
 
 -- no member is past the flags
-flagged-within : (bit n : ℕ) (fs ms : List ℕ) → flagged bit n fs ms ≡ true → (k d : ℕ) → k < length ms → slice_index_or ms k d < n + length fs
+flagged-within : (bit n : ℕ) (fs ms : List ℕ)
+    → flagged bit n fs ms ≡ true → (k d : ℕ) → k < length ms → slice_index_or ms k d < n + length fs
 unfolding flagged
 flagged-within bit n fs [] ok k d lt = absurd (not-suc-le-zero lt)
 flagged-within bit n [] (m ∷ ms) ok k d lt = cc
