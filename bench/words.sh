@@ -1,0 +1,78 @@
+#!/usr/bin/env bash
+# Measures the look-up of keywords: nanoseconds a call over the words of a text, for keywords and for other words.
+#
+# Use: words.sh [TEXT]      TEXT is a file; without it, statements.sql beside this script
+#
+# The program that measures is written, with the crates that it needs, to a temporary folder, and is proved and built there.
+# It goes over the words of each sort until it has made ten million calls, and prints the time of the loop, by the
+# clock, divided by their number. The time of the loop itself, with its sum, is in the figure.
+set -eu
+here=$(cd "$(dirname "${BASH_SOURCE[0]}")/.." && pwd)
+text=$(realpath "${1:-$here/bench/statements.sql}")
+folder=$(mktemp -d)
+trap 'rm -rf "$folder"' EXIT
+
+mkdir -p "$folder/crates/bench_words/src"
+for crate in squawk_names squawk_kinds squawk_words; do
+  mkdir "$folder/crates/$crate"
+  cp -r "$here/crates/$crate/src" "$here/crates/$crate/specs" "$here/crates/$crate/proofs" "$folder/crates/$crate/"
+  grep "^$crate:" "$here/crates.txt" >> "$folder/crates.txt"
+done
+echo "bench_words: squawk_kinds squawk_words" >> "$folder/crates.txt"
+cat > "$folder/crates/bench_words/src/main.rt" <<'END'
+//! Measures the look-up of keywords over the words of the text on standard input.
+#![tactic(auto)]
+
+use squawk_words::from_keyword;
+use std::io;
+use std::rt::Clock;
+use std::time::Instant;
+
+// How many calls are made for each sort of words.
+const CALLS: usize = 10_000_000;
+
+fn main(rt: HostRuntime) -> io::Result<()> {
+    let text = io::read_to_string(rt.alloc(), rt.stdin())?;
+    let mut keywords: Vec<&str> = Vec::new(rt.alloc());
+    let mut others: Vec<&str> = Vec::new(rt.alloc());
+    for word in text.as_str().split(|c: char| !(c.is_ascii_alphanumeric() || c == '_')) {
+        if from_keyword(word).is_some() {
+            keywords.push(word)?;
+        } else if word.len() > 0 {
+            others.push(word)?;
+        }
+    }
+    report(&rt, "keywords", &keywords)?;
+    report(&rt, "other words", &others)
+}
+
+/// Prints how long a call takes over these words.
+fn report<R: Print + Clock>(rt: &R, sort: &str, words: &[&str]) -> io::Result<()> {
+    if words.is_empty() {
+        println!(rt; "{sort}: none")?;
+        return Ok(());
+    }
+    let rounds = CALLS / words.len() + 1;
+    let start = Instant::now(rt)?;
+    let sum = look_up_all(words, rounds);
+    let nanoseconds = start.elapsed(rt)?.as_nanos();
+    let calls = rounds as u128 * words.len() as u128;
+    let tenths = nanoseconds / (calls / 10 + 1);
+    println!(rt; "{sort}: {} words, {}.{} ns a call (sum {sum})", words.len(), tenths / 10, tenths % 10)?;
+    Ok(())
+}
+
+/// The sum of the numbers of the kinds found, so that no call is left out.
+fn look_up_all(words: &[&str], rounds: usize) -> u64 {
+    let mut sum: u64 = 0;
+    for _round in 0..rounds {
+        for word in words {
+            if let Some(kind) = from_keyword(*word) {
+                sum = sum.wrapping_add(kind.to_raw() as u64);
+            }
+        }
+    }
+    sum
+}
+END
+(cd "$folder/crates/bench_words" && rt run < "$text")

@@ -1,0 +1,9 @@
+pub mod ClassLemmas
+pub mod Flagged
+pub mod FlagsAgree
+pub mod KindLemmas
+pub mod LookUp
+pub mod Placed
+pub mod Spelled
+pub mod WordOrder
+pub mod WordTables

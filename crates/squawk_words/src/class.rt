@@ -1,0 +1,90 @@
+//! What kinds are used for.
+ghost use Rattle.std.specs.Prelude.{◌↔◌, IsTrue, Contains};
+ghost use Rattle.squawk_words.specs.Sets.{reserved_keywords, col_name_keyword_first, type_func_name_keywords};
+
+use crate::{
+    ALL_KEYWORDS, COL_NAME_KEYWORD_FIRST, CONTEXTUAL_KEYWORDS, OPERATORS, PUNCTUATION,
+    RESERVED_KEYWORDS, TYPE_FUNC_NAME_KEYWORDS,
+};
+use squawk_kinds::SyntaxKind;
+
+/// What a kind is used for.
+pub trait KindClass {
+    ghost use Rattle.std.specs.Prelude.{◌↔◌, IsTrue};
+
+    ghost keyword: { Self → Type 0 };
+
+    ghost operator: { Self → Type 0 };
+
+    ghost punctuation: { Self → Type 0 };
+
+    ghost trivia: { Self → Type 0 };
+
+    /// Whether it is a keyword or a contextual keyword.
+    fn is_keyword(self) -> bool
+        ensures { IsTrue result ↔ keyword self };
+
+    /// Whether it is an operator.
+    fn is_operator(self) -> bool
+        ensures { IsTrue result ↔ operator self };
+
+    /// Whether it is punctuation.
+    fn is_punctuation(self) -> bool
+        ensures { IsTrue result ↔ punctuation self };
+
+    /// Whether it is white space or a comment.
+    fn is_trivia(self) -> bool
+        ensures { IsTrue result ↔ trivia self };
+}
+
+impl KindClass for SyntaxKind {
+    ghost use Rattle.std.specs.Prelude.{◌≡◌, ◌⊎◌, Contains};
+    ghost use Rattle.squawk_words.specs.KeywordSets.{all_keywords};
+    ghost use Rattle.squawk_words.specs.Sets.{contextual_keywords, operators, punctuation as signs};
+    ghost use Rattle.squawk_kinds.specs.declared.numbers.TheConstants.Number.{WHITESPACE, COMMENT};
+
+    ghost keyword = { λ kind. Contains all_keywords kind ⊎ Contains contextual_keywords kind };
+
+    ghost operator = { λ kind. Contains operators kind };
+
+    ghost punctuation = { λ kind. Contains signs kind };
+
+    ghost trivia = { λ kind. (kind ≡ WHITESPACE) ⊎ (kind ≡ COMMENT) };
+
+    fn is_keyword(self) -> bool {
+        ALL_KEYWORDS.contains(self) || CONTEXTUAL_KEYWORDS.contains(self)
+    }
+
+    fn is_operator(self) -> bool {
+        OPERATORS.contains(self)
+    }
+
+    fn is_punctuation(self) -> bool {
+        PUNCTUATION.contains(self)
+    }
+
+    fn is_trivia(self) -> bool {
+        self == SyntaxKind::WHITESPACE || self == SyntaxKind::COMMENT
+    }
+}
+
+/// Whether the kind is a keyword that names nothing without quotes.
+pub fn is_reserved_keyword(kind: SyntaxKind) -> bool
+    ensures { IsTrue result ↔ Contains reserved_keywords kind }
+{
+    RESERVED_KEYWORDS.contains(kind)
+}
+
+/// Whether the kind is a keyword that may name a column, but no function or type.
+pub fn is_col_name_keyword(kind: SyntaxKind) -> bool
+    ensures { IsTrue result ↔ Contains col_name_keyword_first kind }
+{
+    COL_NAME_KEYWORD_FIRST.contains(kind)
+}
+
+/// Whether the kind is a keyword that may name a function or a type, but no column.
+pub fn is_type_func_name_keyword(kind: SyntaxKind) -> bool
+    ensures { IsTrue result ↔ Contains type_func_name_keywords kind }
+{
+    TYPE_FUNC_NAME_KEYWORDS.contains(kind)
+}
