@@ -3,7 +3,7 @@ ghost use Rattle.std.specs.Prelude.{◌⊎◌, ◌≡◌, ◌≢◌, ◌≤◌, 
 ghost use Rattle.std.specs.Io.KnownBytes.{Appends, IsAtEnd};
 ghost use Rattle.squawk_show.specs.Causes.{Rose};
 ghost use Rattle.squawk_show.specs.Outcome.{line_of};
-ghost use Rattle.squawk_show.specs.Reading.{TakesExactly, AppendsFront};
+ghost use Rattle.squawk_show.specs.Reading.{TakesExactly, TakesAtMost, AppendsFront};
 ghost use Rattle.squawk_show.specs.Report.{report_of};
 ghost use Rattle.squawk_show.specs.Run.{limit, status_of, IsText, IsParsed, IsTreeOfAll, IsFrontOfAll, IsNoTextOfAll, HasLeavesOf, HasChildrenOf, IsUndisturbed, IsRefused, IsParseRefusal};
 ghost use Rattle.squawk_tree.specs.Tree.{IsTree};
@@ -52,6 +52,8 @@ fn prepare<S: Source>(
     ensures refused { IfErr result (IsRefused (length words.now)
         (S.left source.old) (S.left source.new) (S.faults source.old) (S.faults source.new) ⊥) }
     ensures unread { 0 < length words.now → source.new ≡ source.old }
+    ensures taken { result ≢ Err (RunError.Front FrontError.TooLong)
+        → TakesAtMost (S.left source.old) (S.left source.new) limit }
 {
     if !words.is_empty() {
         return Err(RunError::BadWords);
@@ -79,6 +81,8 @@ fn show<S: Source, K: Sink>(
         (Rose (K.faults out.old) (K.faults out.new))) }
     ensures untouched { IfErr result (λ e. e ≢ RunError.WriteFault → out.new ≡ out.old) }
     ensures unread { 0 < length words.now → source.new ≡ source.old }
+    ensures taken { result ≢ Err (RunError.Front FrontError.TooLong)
+        → TakesAtMost (S.left source.old) (S.left source.new) limit }
     ensures front { IsErrOf result RunError.WriteFault → IsFrontOfAll (S.left source.old) (K.taken out.old) (K.taken out.new) }
 {
     let (parse, report) = match prepare(alloc, words, source) {
@@ -116,6 +120,8 @@ pub fn run<S: Source, K: Sink, E: Sink>(
     // When each refusal comes. Where the words are bad, nothing is read.
     ensures bad_words { IsErrOf result.outcome RunError.BadWords ↔ (0 < length words.now) }
     ensures unread { 0 < length words.now → source.new ≡ source.old }
+    ensures taken { result.outcome ≢ Err (RunError.Front FrontError.TooLong)
+        → TakesAtMost (S.left source.old) (S.left source.new) limit }
     ensures read_fault { IsErrOf result.outcome RunError.ReadFault → Rose (S.faults source.old) (S.faults source.new) }
     ensures not_utf8 { (at : ℕ) → result.outcome ≡ Err (RunError.NotUtf8 at) → IsNoTextOfAll (S.left source.old) at }
     ensures too_long { IsErrOf result.outcome (RunError.Front FrontError.TooLong)

@@ -103,7 +103,3 @@ so_far-step spans ps at x xs left all spans' ps' at' h is spans_is ps_is at_is =
 
 pub so_far-start : (steps : List StrStep) → is_balanced steps ≡ true → SpansSoFar [] [] 0 steps (ranges steps)
 so_far-start steps h = record { below = tt; whole_is = refl; count = is_balanced-open_count steps h }
-
-pub so_far-end : (spans ps : List (ℕ × ℕ)) (at : ℕ) (all : List (ℕ × ℕ)) → SpansSoFar spans ps at [] all → spans ≡ all
-so_far-end spans [] at all h = sym (append-nil spans) ∙ h.whole_is
-so_far-end spans (p ∷ ps) at all h = absurd (let e = h.count in omega arith)

@@ -16,7 +16,7 @@ pub enum Division {
     Grouped,
 }
 
-/// Whether the kind is white or a comment.
+/// Whether the kind is trivia: white space or a comment.
 #[tactic(auto, unfolding(crate::specs::Leaf::form))]
 pub(crate) fn is_trivia(kind: SyntaxKind) -> bool
     ensures { result ≡ is_trivia (form kind) }

@@ -126,10 +126,10 @@ fn parse_divided(
 
 /// The tree of a text's statements.
 ///
-/// Each statement, and each psql command outside one, is a node under the root, and each white or comment outside them a leaf there.
-/// A statement ends with a semicolon or with a psql command that ends a query, else with the last token of the text that is no white or
-/// comment. One that begins with the word `select` is a `SELECT` node, every other an `ERROR` node; a semicolon by itself is an
-/// `EMPTY_STMT`, a psql command by itself a `PSQL_COMMAND`.
+/// Each statement, and each psql command outside one, is a node under the root, and each trivia token (white space, a byte order mark at
+/// the beginning, a comment) outside them is a leaf there. A statement ends with a semicolon or with a psql command that ends a query,
+/// else with the last token of the text that is no trivia. One that begins with the word `select` is a `SELECT` node, every other an
+/// `ERROR` node; a semicolon by itself is an `EMPTY_STMT`, a psql command by itself a `PSQL_COMMAND`.
 ///
 /// `TooLong` comes exactly where the text has more than 4294967295 bytes, before any memory is taken, and `OutOfMemory` where there is
 /// no memory for the tree.
