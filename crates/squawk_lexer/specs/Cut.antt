@@ -30,7 +30,8 @@ abbrev pub Tiles : List ℕ → ℕ → List Token → Type 0
 Tiles text at [] = at ≡ length text
 Tiles text at (t ∷ ts) = (0 < t.len) × (t.kind ≢ kinds.Eof) × IsCharBoundary text (at + t.len) × Tiles text (at + t.len) ts
 
--- what a token is to the cut into statements
+-- what a token is to the cut into statements: white or a comment, a semicolon, a command of psql that ends the query or
+-- one that does not, `(`, `)`, or any other token
 pub data Form : Type 0 where
   Trivia : Form
   Semicolon : Form
@@ -40,6 +41,7 @@ pub data Form : Type 0 where
   Close : Form
   Other : Form
 
+-- the form of a token of the kind
 abbrev pub form_of : TokenKind → Form
 form_of kinds.Whitespace = Trivia
 form_of kinds.LineComment = Trivia
@@ -51,7 +53,7 @@ form_of kinds.OpenParen = Open
 form_of kinds.CloseParen = Close
 form_of _ = Other
 
--- white and comments
+-- whether it is white or a comment
 abbrev pub is_trivia : Form → Bool
 is_trivia Trivia = true
 is_trivia _ = false

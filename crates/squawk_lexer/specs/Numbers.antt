@@ -31,19 +31,19 @@ fractional u i =
     if is_exponent_letter (slice_index u (fraction_digits u i)) then with_exponent u (fraction_digits u i)
     else numeric None u (fraction_digits u i)
 
--- a number without a base, whose first digits end at a
+-- a number without a base, whose first digits end at a; `.` is 46
 abbrev pub decimal_from : List ℕ → ℕ → Lexeme
 decimal_from u a =
     if slice_index u a == 46 && not (slice_index u (a + 1) == 46) then fractional u (a + 1)
     else if is_exponent_letter (slice_index u a) then with_exponent u a
     else int Decimal false u a
 
--- a text that begins with a digit
+-- a text that begins with a digit; 48 is `0`, which a letter makes a base: `b` or `B`, `o` or `O`, `x` or `X`
 abbrev pub number : List ℕ → Lexeme
 number u =
-    if slice_index u 0 == 48 && (slice_index u 1 == 98 || slice_index u 1 == 66) then based_int Binary u (digits u 2)
-    else if slice_index u 0 == 48 && (slice_index u 1 == 111 || slice_index u 1 == 79) then based_int Octal u (digits u 2)
-    else if slice_index u 0 == 48 && (slice_index u 1 == 120 || slice_index u 1 == 88) then based_int Hexadecimal u (hex u 2)
+    if slice_index u 0 == 48 && (slice_index u 1 == 98 || slice_index u 1 == 66) then based_int Binary u (digits u 2)  -- b, B
+    else if slice_index u 0 == 48 && (slice_index u 1 == 111 || slice_index u 1 == 79) then based_int Octal u (digits u 2)  -- o, O
+    else if slice_index u 0 == 48 && (slice_index u 1 == 120 || slice_index u 1 == 88) then based_int Hexadecimal u (hex u 2)  -- x, X
     else decimal_from u (digits u 1)
 
 -- a text that begins with `$` and no delimiter: digits without `_`, and junk

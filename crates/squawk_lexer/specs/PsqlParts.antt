@@ -5,6 +5,7 @@ use Rattle.std.specs.List.{prefix_len}
 use Rattle.std.specs.Option.{option_or}
 use Rattle.squawk_lexer.specs.Classes.{is_line_end, is_not_line_end, is_blank, apostrophe, quotation_mark, backquote, backslash}
 
+-- whether c opens a quote
 abbrev pub is_quote : ℕ → Bool
 is_quote c = (c == apostrophe || c == quotation_mark) || c == backquote
 
@@ -46,6 +47,7 @@ args_len inside [] = 0
 args_len zero (c ∷ cs) = if ends_arguments c then 0 else 1 + args_len (part_rest c cs) cs
 args_len (suc inside) (c ∷ cs) = 1 + args_len inside cs
 
+-- where the arguments that begin at i end
 abbrev pub args : List ℕ → ℕ → ℕ
 args u i = i + args_len 0 (drop i u)
 
@@ -58,6 +60,7 @@ mark_behind mark c cs =
     else if c == backquote then None
     else Some c
 
+-- whether the mark is `)`, which is 41
 abbrev pub is_parenthesis : Option ℕ → Bool
 is_parenthesis None = false
 is_parenthesis (Some c) = c == 41
@@ -72,5 +75,6 @@ marked_len zero mark (c ∷ cs) =
     else option_map (λ n. n + 1) (marked_len (part_rest c cs) (mark_behind mark c cs) cs)
 marked_len (suc inside) mark (c ∷ cs) = option_map (λ n. n + 1) (marked_len inside mark cs)
 
+-- the same, from the place i of the text on, where an argument begins
 abbrev pub marked : List ℕ → ℕ → Option ℕ
 marked u i = marked_len 0 None (drop i u)

@@ -22,9 +22,10 @@ option_words = codes "g" ∷ codes "gx" ∷ []
 abbrev pub whole_line_words : List (List ℕ)
 whole_line_words = codes "!" ∷ codes "ef" ∷ codes "ev" ∷ codes "sf" ∷ codes "sf+" ∷ codes "sv" ∷ codes "sv+" ∷ codes "h" ∷ codes "help" ∷ []
 
+-- whether the word is one of them, byte by byte
 abbrev pub is_among : List (List ℕ) → List ℕ → Bool
 is_among words word = list_any (λ w. bytes_eq w word) words
 
--- those, or `copy` in any ASCII case
+-- whether the command takes the rest of its line: one of those, or `copy` in any ASCII case
 abbrev pub takes_line : List ℕ → Bool
 takes_line word = is_among whole_line_words word || str_eq_ignore_ascii_case word (codes "copy")

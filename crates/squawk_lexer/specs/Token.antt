@@ -12,7 +12,7 @@ use Rattle.squawk_lexer.specs.declared.word.Opening.{Opening}
 use Rattle.squawk_lexer.specs.declared.word.Opening.TheVariants.{National, Bit, Byte, Escape, UnicodeString, UnicodeIdent, Plain}
 use Rattle.squawk_lexer.specs.Kind.{Lexeme, lexeme, literal}
 use Rattle.squawk_lexer.specs.Text.{bytes}
-use Rattle.squawk_lexer.specs.Classes.{is_white, is_id_start, is_id_cont, is_digit, apostrophe, quotation_mark, byte_order_mark}
+use Rattle.squawk_lexer.specs.Classes.{is_white, is_id_start, is_id_cont, is_digit, apostrophe, quotation_mark, backslash, dollar_sign, byte_order_mark}
 use Rattle.squawk_lexer.specs.Runs.{run, line}
 use Rattle.squawk_lexer.specs.Quoted.{quoted, is_terminated}
 use Rattle.squawk_lexer.specs.Comment.{comment_end, is_closed}
@@ -41,12 +41,12 @@ is_letter small c = c == small || c == small - 32
 -- what the first three characters open, where the first is an id-start
 unfoldable pub opening : ℕ → ℕ → ℕ → Opening
 opening c d e =
-    if is_letter 110 c && d == 39 then National
-    else if is_letter 98 c && d == 39 then Bit
-    else if is_letter 120 c && d == 39 then Byte
-    else if is_letter 101 c && d == 39 then Escape
-    else if (is_letter 117 c && d == 38) && e == 39 then UnicodeString
-    else if (is_letter 117 c && d == 38) && e == 34 then UnicodeIdent
+    if is_letter 110 c && d == apostrophe then National  -- n
+    else if is_letter 98 c && d == apostrophe then Bit  -- b
+    else if is_letter 120 c && d == apostrophe then Byte  -- x
+    else if is_letter 101 c && d == apostrophe then Escape  -- e
+    else if (is_letter 117 c && d == 38) && e == apostrophe then UnicodeString  -- u&
+    else if (is_letter 117 c && d == 38) && e == quotation_mark then UnicodeIdent  -- u&
     else Plain
 
 -- N'..', B'..', X'..', E'..', U&'..', U&".." and identifiers without quotes
@@ -67,16 +67,16 @@ word u = opened (opening (slice_index u 0) (slice_index u 1) (slice_index u 2)) 
 unfoldable pub start : ℕ → ℕ → Start
 start c d =
     if is_white c then White
-    else if c == 45 && d == 45 then LineComment
-    else if c == 47 && d == 42 then BlockComment
-    else if c == 39 then String
-    else if c == 34 then QuotedIdent
+    else if c == 45 && d == 45 then LineComment  -- two -
+    else if c == 47 && d == 42 then BlockComment  -- / and *
+    else if c == apostrophe then String
+    else if c == quotation_mark then QuotedIdent
     else if is_id_start c then Word
-    else if c == 36 then Dollar
+    else if c == dollar_sign then Dollar
     else if is_digit c then Number
-    else if c == 46 && d == 46 then DotDot
-    else if c == 46 && is_digit d then Fraction
-    else if c == 92 then Psql
+    else if c == 46 && d == 46 then DotDot  -- two .
+    else if c == 46 && is_digit d then Fraction  -- . and a digit
+    else if c == backslash then Psql
     else Symbol
 
 -- the token of each row

@@ -2,36 +2,36 @@
 ghost use Rattle.squawk_lexer.specs.Laws.{RunsAreLongest, RunsAreOne, TokensProgress, TokensWithin, PlacesAddUp, PlacesWithin, TokensRestart, FoundIsFirst, NoneIsNowhere, CommentsBalance, OpenCommentsStayOpen};
 
 /// A run of a class is the longest: all its characters are of the class, and the one behind it is not. Only one end is such.
-pub(crate) fn runs_are_longest()
+pub fn runs_are_longest()
     ensures longest { RunsAreLongest }
     ensures only { RunsAreOne }
 {}
 
 /// Each token of a text has a character at least, and no more than the text.
-pub(crate) fn tokens_progress()
+pub fn tokens_progress()
     ensures some { TokensProgress }
     ensures within { TokensWithin }
 {}
 
 /// The text has the characters of its first tokens, and they have the bytes of these tokens.
-pub(crate) fn places_add_up()
+pub fn places_add_up()
     ensures within { PlacesWithin }
     ensures bytes { PlacesAddUp }
 {}
 
 /// Behind any token, the tokens are those of the text that is left, read without the rule for a leading byte order mark.
-pub(crate) fn tokens_restart()
+pub fn tokens_restart()
     ensures { TokensRestart }
 {}
 
 /// A dollar string ends behind the first place where its delimiter stands, and is open only where it stands nowhere.
-pub(crate) fn found_is_first()
+pub fn found_is_first()
     ensures first { FoundIsFirst }
     ensures nowhere { NoneIsNowhere }
 {}
 
 /// A block comment ends behind the first close that leaves no comment open, and is unterminated only where none does.
-pub(crate) fn comments_balance()
+pub fn comments_balance()
     ensures ends { CommentsBalance }
     ensures unterminated { OpenCommentsStayOpen }
 {}

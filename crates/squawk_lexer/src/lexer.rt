@@ -12,7 +12,7 @@ use crate::classes::{Class, is_digit, is_id_start, is_white};
 use crate::cursor::Cursor;
 use crate::token::{LiteralKind, Strings, Token, TokenKind, literal};
 
-/// The byte order mark, which is white where it begins a text: three bytes.
+/// The byte order mark, U+FEFF: three bytes. It is white where it begins a text, and a letter anywhere else.
 pub const BOM: &str = "\u{feff}";
 
 /// A token of one character.
@@ -159,8 +159,14 @@ pub(crate) fn cut(text: &str, start: bool, strings: Strings) -> (Token, &str)
     (token, cursor.rest())
 }
 
-/// The token that begins at the byte `at`, with plain strings as the standard reads them. The byte order mark is white
-/// exactly where `at` is 0.
+/// The token that begins at the byte `at` of a text, by the rules of `docs/GRAMMAR.md`. A backslash in a string without a
+/// prefix is a character like any other, as the SQL standard says.
+///
+/// `at` is a place in bytes, below the text's length and between two characters. The text has at most 4294967295 bytes.
+///
+/// The answer is what a cut of the text from `at` on gives first, so a place inside a token begins one of its own. It has
+/// a byte at least, ends between two characters, and is never `Eof`. A byte order mark is `Whitespace` by itself exactly
+/// where `at` is 0. No memory is taken.
 pub fn cut_at(input: &str, at: usize) -> Token
     requires inside { at < length input.now }
     requires boundary { IsCharBoundary input.now at }
@@ -175,7 +181,14 @@ pub fn cut_at(input: &str, at: usize) -> Token
     cut_at_in(input, at, Strings::Standard)
 }
 
-/// The same, with plain strings as `strings` reads them.
+/// The token that begins at the byte `at` of a text, by the rules of `docs/GRAMMAR.md`. `strings` says how strings without
+/// a prefix are read.
+///
+/// `at` is a place in bytes, below the text's length and between two characters. The text has at most 4294967295 bytes.
+///
+/// The answer is what a cut of the text from `at` on gives first, so a place inside a token begins one of its own. It has
+/// a byte at least, ends between two characters, and is never `Eof`. A byte order mark is `Whitespace` by itself exactly
+/// where `at` is 0. No memory is taken.
 pub fn cut_at_in(input: &str, at: usize, strings: Strings) -> Token
     requires inside { at < length input.now }
     requires boundary { IsCharBoundary input.now at }
