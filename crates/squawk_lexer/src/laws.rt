@@ -1,5 +1,6 @@
 //! Laws that the definitions of the grammar obey. Each is the clause of a function that does nothing.
 ghost use Rattle.squawk_lexer.specs.Laws.{RunsAreLongest, RunsAreOne, TokensProgress, TokensWithin, PlacesAddUp, PlacesWithin, TokensRestart, FoundIsFirst, NoneIsNowhere, CommentsBalance, OpenCommentsStayOpen};
+ghost use Rattle.squawk_lexer.specs.PsqlArguments.{MarkedIsFirst};
 
 /// A run of a class is the longest: all its characters are of the class, and the one behind it is not. Only one end is such.
 pub(crate) fn runs_are_longest()
@@ -34,4 +35,9 @@ pub(crate) fn found_is_first()
 pub(crate) fn comments_balance()
     ensures ends { CommentsBalance }
     ensures unterminated { OpenCommentsStayOpen }
+{}
+
+/// The first argument whose mark is `)` is found with a running mark.
+pub(crate) fn marked_is_first()
+    ensures { MarkedIsFirst }
 {}
