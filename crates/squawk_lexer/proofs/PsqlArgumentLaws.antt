@@ -1,8 +1,100 @@
 -- The laws of specs/PsqlArguments.antt, and worked rows of the first argument whose mark is `)`.
-use Rattle.std.proofs.Common.{◌≡◌, ℕ, zero, suc, ◌+◌, Bool, true, false, List, [], ◌∷◌, Option, Some, None, option_map, cond, refl, ap, ◌∙◌, arith, codes}
-use Rattle.squawk_lexer.specs.Classes.{is_blank}
-use Rattle.squawk_lexer.specs.PsqlParts.{ends_arguments, part_rest, mark_behind, is_parenthesis, marked_len}
-use Rattle.squawk_lexer.specs.PsqlArguments.{argument_len, mark_from, mark_of, first_marked, MarkedIsFirst}
+use Rattle.std.proofs.Common.{◌≡◌, ℕ, zero, suc, ◌+◌, ◌<◌, ◌≤◌, Bool, true, false, List, [], ◌∷◌, length, get_or, drop, Option, Some, None, option_map, unwrap_or, eqb, cond, refl, sym, ap, ◌∙◌, arith, codes}
+use Rattle.std.specs.List.{prefix_len}
+use Rattle.std.proofs.lemmas.List.{length-drop, get_or-drop}
+use Rattle.std.proofs.lemmas.List.Sums.{prefix_len-le-length}
+use Rattle.squawk_lexer.specs.Classes.{is_blank, is_line_end, is_not_line_end}
+use Rattle.squawk_lexer.specs.PsqlParts.{is_quote, is_pair, close_len, ends_arguments, part_rest, args_len, mark_behind, is_parenthesis, marked_len}
+use Rattle.squawk_lexer.specs.PsqlArguments.{IsParts, NoPart, OnePart, IsLongest, ArgumentsAreLongest, ends_argument, argument_len, ArgumentIsLongest, mark_from, first_marked, MarkedIsFirst}
+
+-- ---- no part ends past its text
+
+close_in : (q : ℕ) (cs : List ℕ) → unwrap_or (close_len q cs) 0 ≤ length cs
+close_in q [] = omega arith
+close_in q (c ∷ []) = elim (eqb c q) as (λ b. unwrap_or (cond b (Some 1) None) 0 ≤ 1) [ true ↦ omega arith | false ↦ omega arith ]
+close_in q (c ∷ d ∷ cs) = by (is_line_end c) (eqb c q) (is_pair q c d) (close_len q cs) (close_len q (d ∷ cs)) (close_in q cs) (close_in q (d ∷ cs))
+  where
+    on : (o : Option ℕ) (k n : ℕ) → unwrap_or o 0 ≤ n → unwrap_or (option_map (λ m. m + k) o) 0 ≤ n + k
+    on None k n h = omega arith
+    on (Some m) k n h = omega (arith, h)
+
+    by : (b1 b2 b3 : Bool) (x y : Option ℕ) → unwrap_or x 0 ≤ length cs → unwrap_or y 0 ≤ length (d ∷ cs)
+        → unwrap_or (cond b1 None (cond b2 (Some 1) (cond b3 (option_map (λ n. n + 2) x) (option_map (λ n. n + 1) y)))) 0 ≤ length (c ∷ d ∷ cs)
+    by true b2 b3 x y p q = omega arith
+    by false true b3 x y p q = omega arith
+    by false false true x y p q = omega (arith, on x 2 (length cs) p)
+    by false false false x y p q = omega (arith, on y 1 (length (d ∷ cs)) q)
+
+rest_in : (c : ℕ) (cs : List ℕ) → part_rest c cs ≤ length cs
+rest_in c cs = by (is_quote c) (close_len c cs) (close_in c cs)
+  where
+    by : (b : Bool) (o : Option ℕ) → unwrap_or o 0 ≤ length cs → cond b (unwrap_or o (prefix_len is_not_line_end cs)) 0 ≤ length cs
+    by false o h = omega arith
+    by true None h = prefix_len-le-length is_not_line_end cs
+    by true (Some n) h = h
+
+-- ---- longest sequences of parts
+
+-- how many characters the parts have up to one that begins with a character that `ends`; the first `inside` are inside a part
+abbrev parts_len : (ℕ → Bool) → ℕ → List ℕ → ℕ
+parts_len ends inside [] = 0
+parts_len ends zero (c ∷ cs) = cond (ends c) 0 (1 + parts_len ends (part_rest c cs) cs)
+parts_len ends (suc inside) (c ∷ cs) = 1 + parts_len ends inside cs
+
+parts_inside : (ends : ℕ → Bool) (k : ℕ) (cs : List ℕ) → k ≤ length cs → parts_len ends k cs ≡ k + parts_len ends 0 (drop k cs)
+parts_inside ends zero cs h = omega arith
+parts_inside ends (suc k) [] h = absurd (omega arith)
+parts_inside ends (suc k) (c ∷ cs) h = omega (arith, parts_inside ends k cs (omega arith))
+
+no_more : (ends : ℕ → Bool) (cs : List ℕ) → (0 < length cs → ends (get_or cs 0 0) ≡ true) → IsLongest ends cs 0
+no_more ends cs stops = record { parts = NoPart cs; stops = stops }
+
+one_more : (ends : ℕ → Bool) (c : ℕ) (cs : List ℕ) (n : ℕ) → ends c ≡ false → IsLongest ends (drop (part_rest c cs) cs) n → IsLongest ends (c ∷ cs) (1 + part_rest c cs + n)
+one_more ends c cs n e more = record { parts = OnePart c cs n e more.parts; stops = stops }
+  where
+    r : ℕ
+    r = part_rest c cs
+
+    stops : 1 + r + n < length (c ∷ cs) → ends (get_or (c ∷ cs) (1 + r + n) 0) ≡ true
+    stops h =
+        let next : 1 + r + n ≡ suc (r + n) = omega arith in
+        rw next (ap ends (sym (get_or-drop r cs n 0)) ∙ more.stops (omega (arith, length-drop r cs)))
+
+longest : (ends : ℕ → Bool) (k : ℕ) (cs : List ℕ) (n : ℕ) → k ≤ length cs → parts_len ends k cs ≡ k + n → IsLongest ends (drop k cs) n
+longest ends zero [] n h e = let none : n ≡ 0 = omega (arith, e) in rw none (no_more ends [] (λ some. absurd (omega arith)))
+longest ends (suc k) [] n h e = absurd (omega arith)
+longest ends zero (c ∷ cs) n h e = by (ends c) refl e (longest ends r cs m (rest_in c cs) inside)
+  where
+    r : ℕ
+    r = part_rest c cs
+
+    m : ℕ
+    m = parts_len ends 0 (drop r cs)
+
+    inside : parts_len ends r cs ≡ r + m
+    inside = parts_inside ends r cs (rest_in c cs)
+
+    by : (b : Bool) → ends c ≡ b → cond b 0 (1 + parts_len ends r cs) ≡ 0 + n → IsLongest ends (drop r cs) m → IsLongest ends (c ∷ cs) n
+    by true t e more = let none : n ≡ 0 = omega (arith, e) in rw none (no_more ends (c ∷ cs) (λ some. t))
+    by false t e more = let all : n ≡ 1 + r + m = omega (arith, e, inside) in rw all (one_more ends c cs m t more)
+longest ends (suc k) (c ∷ cs) n h e = longest ends k cs n (omega arith) (omega (arith, e))
+
+-- the arguments together, and one of them, are such
+args_parts : (k : ℕ) (cs : List ℕ) → args_len k cs ≡ parts_len ends_arguments k cs
+args_parts k [] = refl
+args_parts zero (c ∷ cs) = ap (λ n. cond (ends_arguments c) 0 (1 + n)) (args_parts (part_rest c cs) cs)
+args_parts (suc k) (c ∷ cs) = ap (λ n. 1 + n) (args_parts k cs)
+
+argument_parts : (k : ℕ) (cs : List ℕ) → argument_len k cs ≡ parts_len ends_argument k cs
+argument_parts k [] = refl
+argument_parts zero (c ∷ cs) = ap (λ n. cond (ends_argument c) 0 (1 + n)) (argument_parts (part_rest c cs) cs)
+argument_parts (suc k) (c ∷ cs) = ap (λ n. 1 + n) (argument_parts k cs)
+
+pub arguments_are_longest : ArgumentsAreLongest
+arguments_are_longest cs = longest ends_arguments 0 cs (args_len 0 cs) (omega arith) (sym (args_parts 0 cs) ∙ omega arith)
+
+pub argument_is_longest : ArgumentIsLongest
+argument_is_longest cs = longest ends_argument 0 cs (argument_len 0 cs) (omega arith) (sym (argument_parts 0 cs) ∙ omega arith)
 
 -- ---- the first argument whose mark is `)`
 

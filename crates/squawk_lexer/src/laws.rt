@@ -1,6 +1,6 @@
 //! Laws that the definitions of the grammar obey. Each is the clause of a function that does nothing.
 ghost use Rattle.squawk_lexer.specs.Laws.{RunsAreLongest, RunsAreOne, TokensProgress, TokensWithin, PlacesAddUp, PlacesWithin, TokensRestart, FoundIsFirst, NoneIsNowhere, CommentsBalance, OpenCommentsStayOpen};
-ghost use Rattle.squawk_lexer.specs.PsqlArguments.{MarkedIsFirst};
+ghost use Rattle.squawk_lexer.specs.PsqlArguments.{ArgumentsAreLongest, ArgumentIsLongest, MarkedIsFirst};
 
 /// A run of a class is the longest: all its characters are of the class, and the one behind it is not. Only one end is such.
 pub(crate) fn runs_are_longest()
@@ -40,4 +40,10 @@ pub(crate) fn comments_balance()
 /// The first argument whose mark is `)` is found with a running mark.
 pub(crate) fn marked_is_first()
     ensures { MarkedIsFirst }
+{}
+
+/// The arguments together are the longest sequence of parts, and one argument is the longest with no blank.
+pub(crate) fn arguments_are_longest()
+    ensures all { ArgumentsAreLongest }
+    ensures one { ArgumentIsLongest }
 {}
