@@ -1,37 +1,71 @@
 -- The laws of specs/PsqlArguments.antt, and worked rows of the first argument whose mark is `)`.
-use Rattle.std.proofs.Common.{◌≡◌, ℕ, zero, suc, ◌+◌, ◌<◌, ◌≤◌, Bool, true, false, List, [], ◌∷◌, length, get_or, drop, Option, Some, None, option_map, unwrap_or, eqb, cond, refl, sym, ap, ◌∙◌, arith, codes}
+use Rattle.std.proofs.Common.{◌≡◌, ℕ, zero, suc, ◌+◌, ◌<◌, ◌≤◌, Bool, true, false, List, [], ◌∷◌, length, get_or, slice_get, drop, Option, Some, None, option_map, unwrap_or, eqb, cond, refl, sym, ap, subst, ◌∙◌, arith, codes}
 use Rattle.std.specs.List.{prefix_len}
 use Rattle.std.proofs.lemmas.List.{length-drop, get_or-drop}
 use Rattle.std.proofs.lemmas.List.Sums.{prefix_len-le-length}
+use Rattle.std.proofs.lemmas.Bool.Decides.{nat_tests}
 use Rattle.squawk_lexer.specs.Classes.{is_blank, is_line_end, is_not_line_end}
 use Rattle.squawk_lexer.specs.PsqlParts.{is_quote, is_pair, close_len, ends_arguments, part_rest, args_len, mark_behind, is_parenthesis, marked_len}
-use Rattle.squawk_lexer.specs.PsqlArguments.{IsParts, NoPart, OnePart, IsLongest, ArgumentsAreLongest, ends_argument, argument_len, ArgumentIsLongest, mark_from, first_marked, MarkedIsFirst}
+use Rattle.squawk_lexer.specs.PsqlArguments.{begins_pair, IsPieces, NoPiece, OnePiece, PairPiece, QuotesCloseFirst, OpenQuotesStayOpen, IsParts, NoPart, OnePart, IsLongest, ArgumentsAreLongest, ArgumentsAreOne, ends_argument, argument_len, ArgumentIsLongest, ArgumentIsOne, mark_from, first_marked, MarkedIsFirst}
+use Rattle.squawk_lexer.proofs.Steps.{within_some}
 
--- ---- no part ends past its text
+-- ---- quotes
 
-close_in : (q : ℕ) (cs : List ℕ) → unwrap_or (close_len q cs) 0 ≤ length cs
-close_in q [] = omega arith
-close_in q (c ∷ []) = elim (eqb c q) as (λ b. unwrap_or (cond b (Some 1) None) 0 ≤ 1) [ true ↦ omega arith | false ↦ omega arith ]
-close_in q (c ∷ d ∷ cs) = by (is_line_end c) (eqb c q) (is_pair q c d) (close_len q cs) (close_len q (d ∷ cs)) (close_in q cs) (close_in q (d ∷ cs))
+-- what an end says of a quote
+abbrev Closes : ℕ → List ℕ → Option ℕ → Type 0
+Closes q cs None = IsPieces q cs (prefix_len is_not_line_end cs)
+Closes q cs (Some n) = (m : ℕ) × (n ≡ m + 1) × IsPieces q cs m × (slice_get cs m ≡ Some q)
+
+is_close : (q c : ℕ) (cs : List ℕ) → eqb c q ≡ true → Closes q (c ∷ cs) (Some 1)
+is_close q c cs t = let same : c ≡ q = grind (arith, nat_tests) in (0, omega arith, NoPiece (c ∷ cs), ap Some same)
+
+no_piece : (q c : ℕ) (cs : List ℕ) → is_line_end c ≡ true → Closes q (c ∷ cs) None
+no_piece q c cs t = rw t (NoPiece (c ∷ cs))
+
+one_piece : (q c : ℕ) (cs : List ℕ) (o : Option ℕ) → is_line_end c ≡ false → eqb c q ≡ false → begins_pair q (c ∷ cs) ≡ false → Closes q cs o → Closes q (c ∷ cs) (option_map (λ n. n + 1) o)
+one_piece q c cs None t s p more = rw t (OnePiece c cs (prefix_len is_not_line_end cs) t s p more)
+one_piece q c cs (Some n) t s p (m, e, pieces, last) = (1 + m, omega (arith, e), OnePiece c cs m t s p pieces, let next : 1 + m ≡ suc m = omega arith in rw next last)
+
+pair_plain : (q c d : ℕ) → is_pair q c d ≡ true → is_line_end d ≡ false
+pair_plain q c d p = grind (arith, nat_tests)
+
+pair_piece : (q c d : ℕ) (cs : List ℕ) (o : Option ℕ) → is_line_end c ≡ false → is_pair q c d ≡ true → Closes q cs o → Closes q (c ∷ d ∷ cs) (option_map (λ n. n + 2) o)
+pair_piece q c d cs None t p more =
+    let all : 1 + (1 + prefix_len is_not_line_end cs) ≡ 2 + prefix_len is_not_line_end cs = omega arith in
+    rw (t, pair_plain q c d p, all) (PairPiece c d cs (prefix_len is_not_line_end cs) p more)
+pair_piece q c d cs (Some n) t p (m, e, pieces, last) = (2 + m, omega (arith, e), PairPiece c d cs m p pieces, let next : 2 + m ≡ suc (suc m) = omega arith in rw next last)
+
+closes : (q : ℕ) (cs : List ℕ) → Closes q cs (close_len q cs)
+closes q [] = NoPiece []
+closes q (c ∷ []) = by (eqb c q) (is_line_end c) refl refl
   where
-    on : (o : Option ℕ) (k n : ℕ) → unwrap_or o 0 ≤ n → unwrap_or (option_map (λ m. m + k) o) 0 ≤ n + k
-    on None k n h = omega arith
-    on (Some m) k n h = omega (arith, h)
+    by : (b l : Bool) → eqb c q ≡ b → is_line_end c ≡ l → Closes q (c ∷ []) (cond b (Some 1) None)
+    by true l s t = is_close q c [] s
+    by false true s t = no_piece q c [] t
+    by false false s t = one_piece q c [] None t s refl (NoPiece [])
+closes q (c ∷ d ∷ cs) = by (is_line_end c) (eqb c q) (is_pair q c d) refl refl refl (closes q cs) (closes q (d ∷ cs))
+  where
+    by : (l b p : Bool) → is_line_end c ≡ l → eqb c q ≡ b → is_pair q c d ≡ p → Closes q cs (close_len q cs) → Closes q (d ∷ cs) (close_len q (d ∷ cs))
+        → Closes q (c ∷ d ∷ cs) (cond l None (cond b (Some 1) (cond p (option_map (λ n. n + 2) (close_len q cs)) (option_map (λ n. n + 1) (close_len q (d ∷ cs))))))
+    by true b p t s r two one = no_piece q c (d ∷ cs) t
+    by false true p t s r two one = is_close q c (d ∷ cs) s
+    by false false true t s r two one = pair_piece q c d cs (close_len q cs) t r two
+    by false false false t s r two one = one_piece q c (d ∷ cs) (close_len q (d ∷ cs)) t s r one
 
-    by : (b1 b2 b3 : Bool) (x y : Option ℕ) → unwrap_or x 0 ≤ length cs → unwrap_or y 0 ≤ length (d ∷ cs)
-        → unwrap_or (cond b1 None (cond b2 (Some 1) (cond b3 (option_map (λ n. n + 2) x) (option_map (λ n. n + 1) y)))) 0 ≤ length (c ∷ d ∷ cs)
-    by true b2 b3 x y p q = omega arith
-    by false true b3 x y p q = omega arith
-    by false false true x y p q = omega (arith, on x 2 (length cs) p)
-    by false false false x y p q = omega (arith, on y 1 (length (d ∷ cs)) q)
+pub quotes_close_first : QuotesCloseFirst
+quotes_close_first q cs n e = subst (Closes q cs) e (closes q cs)
 
+pub open_quotes_stay_open : OpenQuotesStayOpen
+open_quotes_stay_open q cs e = subst (Closes q cs) e (closes q cs)
+
+-- no part ends past its text
 rest_in : (c : ℕ) (cs : List ℕ) → part_rest c cs ≤ length cs
-rest_in c cs = by (is_quote c) (close_len c cs) (close_in c cs)
+rest_in c cs = by (is_quote c) (close_len c cs) (closes c cs)
   where
-    by : (b : Bool) (o : Option ℕ) → unwrap_or o 0 ≤ length cs → cond b (unwrap_or o (prefix_len is_not_line_end cs)) 0 ≤ length cs
+    by : (b : Bool) (o : Option ℕ) → Closes c cs o → cond b (unwrap_or o (prefix_len is_not_line_end cs)) 0 ≤ length cs
     by false o h = omega arith
     by true None h = prefix_len-le-length is_not_line_end cs
-    by true (Some n) h = h
+    by true (Some n) (m, e, pieces, last) = omega (arith, e, within_some cs m c (sym last))
 
 -- ---- longest sequences of parts
 
@@ -79,6 +113,17 @@ longest ends zero (c ∷ cs) n h e = by (ends c) refl e (longest ends r cs m (re
     by false t e more = let all : n ≡ 1 + r + m = omega (arith, e, inside) in rw all (one_more ends c cs m t more)
 longest ends (suc k) (c ∷ cs) n h e = longest ends k cs n (omega arith) (omega (arith, e))
 
+-- no other length is such
+only : (ends : ℕ → Bool) (cs : List ℕ) (n : ℕ) → IsParts ends cs n → (n < length cs → ends (get_or cs n 0) ≡ true) → n ≡ parts_len ends 0 cs
+only ends [] n (NoPart cs) stops = refl
+only ends (c ∷ cs) n (NoPart _) stops = let t : ends c ≡ true = stops (omega arith) in rw t refl
+only ends cs n (OnePart c rest m t more) stops =
+    let r = part_rest c rest in
+    let next : 1 + r + m ≡ suc (r + m) = omega arith in
+    let stops' : m < length (drop r rest) → ends (get_or (drop r rest) m 0) ≡ true =
+    λ h. ap ends (get_or-drop r rest m 0) ∙ subst (λ k. ends (get_or (c ∷ rest) k 0) ≡ true) next (stops (omega (arith, h, length-drop r rest))) in
+    rw t (omega (arith, only ends (drop r rest) m more stops', parts_inside ends r rest (rest_in c rest)))
+
 -- the arguments together, and one of them, are such
 args_parts : (k : ℕ) (cs : List ℕ) → args_len k cs ≡ parts_len ends_arguments k cs
 args_parts k [] = refl
@@ -95,6 +140,12 @@ arguments_are_longest cs = longest ends_arguments 0 cs (args_len 0 cs) (omega ar
 
 pub argument_is_longest : ArgumentIsLongest
 argument_is_longest cs = longest ends_argument 0 cs (argument_len 0 cs) (omega arith) (sym (argument_parts 0 cs) ∙ omega arith)
+
+pub arguments_are_one : ArgumentsAreOne
+arguments_are_one cs n h = only ends_arguments cs n h.parts h.stops ∙ sym (args_parts 0 cs)
+
+pub argument_is_one : ArgumentIsOne
+argument_is_one cs n h = only ends_argument cs n h.parts h.stops ∙ sym (argument_parts 0 cs)
 
 -- ---- the first argument whose mark is `)`
 

@@ -1,8 +1,30 @@
--- What an argument of a psql command is, what its mark is, and which is the first that is marked `)`. The laws say that the
--- definitions by which psql's commands end agree with these, each for every text.
-use Rattle.std.specs.Prelude.{◌≡◌, ℕ, zero, suc, ◌+◌, ◌<◌, Bool, true, false, ◌||◌, List, [], ◌∷◌, length, drop, slice_index, Option, Some, None, option_map, if◌then◌else◌}
-use Rattle.squawk_lexer.specs.Classes.{is_blank}
-use Rattle.squawk_lexer.specs.PsqlParts.{ends_arguments, part_rest, args_len, mark_behind, is_parenthesis, marked_len}
+-- What a quote, the arguments and one argument of a psql command are, what the mark of an argument is, and which is the first
+-- that is marked `)`. The laws say that the definitions by which psql's commands end agree with these, each for every text.
+use Rattle.std.specs.Prelude.{◌≡◌, ℕ, zero, suc, ◌+◌, ◌<◌, Bool, true, false, ◌||◌, ◌==◌, List, [], ◌∷◌, length, drop, slice_index, slice_get, Option, Some, None, option_map, if◌then◌else◌}
+use Rattle.std.specs.List.{prefix_len}
+use Rattle.squawk_lexer.specs.Classes.{is_line_end, is_not_line_end, is_blank}
+use Rattle.squawk_lexer.specs.PsqlParts.{is_pair, close_len, ends_arguments, part_rest, args_len, mark_behind, is_parenthesis, marked_len}
+
+-- ---- one quote
+
+-- whether a text begins with a pair
+abbrev pub begins_pair : ℕ → List ℕ → Bool
+begins_pair q (c ∷ d ∷ cs) = is_pair q c d
+begins_pair q cs = false
+
+-- the first n characters behind the opening of a quote are whole pieces on its line, none of which is q by itself
+pub data IsPieces (q : ℕ) : List ℕ → ℕ → Type 0 where
+  NoPiece : (cs : List ℕ) → IsPieces q cs 0
+  OnePiece : (c : ℕ) (cs : List ℕ) (n : ℕ) → is_line_end c ≡ false → (c == q) ≡ false → begins_pair q (c ∷ cs) ≡ false → IsPieces q cs n → IsPieces q (c ∷ cs) (1 + n)
+  PairPiece : (c d : ℕ) (cs : List ℕ) (n : ℕ) → is_pair q c d ≡ true → IsPieces q cs n → IsPieces q (c ∷ d ∷ cs) (2 + n)
+
+-- a quote ends behind the first q that is a piece by itself
+abbrev pub QuotesCloseFirst : Type 0
+QuotesCloseFirst = (q : ℕ) (cs : List ℕ) (n : ℕ) → close_len q cs ≡ Some n → (m : ℕ) × (n ≡ m + 1) × IsPieces q cs m × (slice_get cs m ≡ Some q)
+
+-- and where it does not, no piece on its line is one
+abbrev pub OpenQuotesStayOpen : Type 0
+OpenQuotesStayOpen = (q : ℕ) (cs : List ℕ) → close_len q cs ≡ None → IsPieces q cs (prefix_len is_not_line_end cs)
 
 -- ---- sequences of parts
 
@@ -20,6 +42,10 @@ pub record IsLongest (ends : ℕ → Bool) (cs : List ℕ) (n : ℕ) : Type 0 wh
 abbrev pub ArgumentsAreLongest : Type 0
 ArgumentsAreLongest = (cs : List ℕ) → IsLongest ends_arguments cs (args_len 0 cs)
 
+-- and no other length is such
+abbrev pub ArgumentsAreOne : Type 0
+ArgumentsAreOne = (cs : List ℕ) (n : ℕ) → IsLongest ends_arguments cs n → n ≡ args_len 0 cs
+
 -- ---- one argument
 
 -- no part of an argument begins with c
@@ -35,6 +61,10 @@ argument_len (suc inside) (c ∷ cs) = 1 + argument_len inside cs
 -- an argument is the longest sequence of parts none of which is a blank
 abbrev pub ArgumentIsLongest : Type 0
 ArgumentIsLongest = (cs : List ℕ) → IsLongest ends_argument cs (argument_len 0 cs)
+
+-- and no other length is such
+abbrev pub ArgumentIsOne : Type 0
+ArgumentIsOne = (cs : List ℕ) (n : ℕ) → IsLongest ends_argument cs n → n ≡ argument_len 0 cs
 
 -- what the rest of an argument makes of a mark, part by part; the first `inside` characters are inside a part
 abbrev pub mark_from : ℕ → Option ℕ → List ℕ → Option ℕ
