@@ -11,6 +11,7 @@ pub mod Symbols
 pub mod Dollar
 pub mod PsqlWords
 pub mod PsqlParts
+pub mod PsqlArguments
 pub mod Psql
 pub mod Token
 pub mod Cut

@@ -1,5 +1,6 @@
 //! Laws that the definitions of the grammar obey. Each is the clause of a function that does nothing.
 ghost use Rattle.squawk_lexer.specs.Laws.{RunsAreLongest, RunsAreOne, TokensProgress, TokensWithin, PlacesAddUp, PlacesWithin, TokensRestart, FoundIsFirst, NoneIsNowhere, CommentsBalance, OpenCommentsStayOpen};
+ghost use Rattle.squawk_lexer.specs.PsqlArguments.{QuotesCloseFirst, OpenQuotesStayOpen, ArgumentsAreLongest, ArgumentsAreOne, ArgumentIsLongest, ArgumentIsOne, MarkedIsFirst};
 
 /// A run of a class is the longest: all its characters are of the class, and the one behind it is not. Only one end is such.
 pub fn runs_are_longest()
@@ -34,4 +35,23 @@ pub fn found_is_first()
 pub fn comments_balance()
     ensures ends { CommentsBalance }
     ensures unterminated { OpenCommentsStayOpen }
+{}
+
+/// The first argument whose mark is `)` is found with a running mark.
+pub(crate) fn marked_is_first()
+    ensures { MarkedIsFirst }
+{}
+
+/// The arguments together are the longest sequence of parts, and one argument is the longest with no blank. Only one length is such.
+pub(crate) fn arguments_are_longest()
+    ensures all { ArgumentsAreLongest }
+    ensures only { ArgumentsAreOne }
+    ensures one { ArgumentIsLongest }
+    ensures only_one { ArgumentIsOne }
+{}
+
+/// A quote ends behind the first character that closes it, and is open only where none on its line does.
+pub(crate) fn quotes_close_first()
+    ensures first { QuotesCloseFirst }
+    ensures open { OpenQuotesStayOpen }
 {}
