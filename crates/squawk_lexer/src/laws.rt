@@ -38,12 +38,12 @@ pub fn comments_balance()
 {}
 
 /// The first argument whose mark is `)` is found with a running mark.
-pub(crate) fn marked_is_first()
+pub fn marked_is_first()
     ensures { MarkedIsFirst }
 {}
 
 /// The arguments together are the longest sequence of parts, and one argument is the longest with no blank. Only one length is such.
-pub(crate) fn arguments_are_longest()
+pub fn arguments_are_longest()
     ensures all { ArgumentsAreLongest }
     ensures only { ArgumentsAreOne }
     ensures one { ArgumentIsLongest }
@@ -51,7 +51,7 @@ pub(crate) fn arguments_are_longest()
 {}
 
 /// A quote ends behind the first character that closes it, and is open only where none on its line does.
-pub(crate) fn quotes_close_first()
+pub fn quotes_close_first()
     ensures first { QuotesCloseFirst }
     ensures open { OpenQuotesStayOpen }
 {}
