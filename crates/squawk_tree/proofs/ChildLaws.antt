@@ -1,10 +1,10 @@
 -- The children of the tree's root are those of the division, and its leaves are the tokens of the text.
-use Rattle.std.proofs.Common.{◌≡◌, ℕ, zero, suc, ◌+◌, ◌==◌, ◌≤◌, Bool, true, false, cond, ◌&&◌, List, [], ◌∷◌, ◌++◌, length, take, drop, map, ap, refl, sym, subst, ◌∙◌, append_assoc, arith}
+use Rattle.std.proofs.Common.{◌≡◌, ℕ, zero, suc, ◌+◌, ◌==◌, ◌≤◌, Bool, true, false, cond, ◌&&◌, List, [], ◌∷◌, ◌++◌, length, take, map, ap, refl, sym, subst, ◌∙◌, append_assoc, arith}
 use Rattle.std.proofs.lemmas.List.{length-take-le, length-map}
 use Rattle.std.specs.Prelude.{Option, Some, None, option_map, Result, Ok, Err, IfOk}
 use Rattle.std.specs.Str.{chars, str_eq_ignore_ascii_case}
 use Rattle.squawk_events.specs.declared.steps.StrStep.{StrStep}
-use Rattle.squawk_events.specs.declared.steps.StrStep.TheVariants.{Enter, Token, Exit, Error}
+use Rattle.squawk_events.specs.declared.steps.StrStep.TheVariants.{Exit}
 use Rattle.squawk_lexer.specs.Cut.{Form, Trivia, Semicolon, Terminator, Command, Open, Close, Other, form_of, is_trivia, tokens, token_ends}
 use Rattle.squawk_lexer.specs.declared.token.Strings.{Strings}
 use Rattle.squawk_lexer.specs.declared.token.Token as lexer
@@ -12,11 +12,11 @@ use Rattle.squawk_lexer.specs.declared.token.TokenKind.{TokenKind}
 use Rattle.squawk_lexer.specs.declared.token.TokenKind.TheVariants as token
 use Rattle.squawk_lexer.specs.declared.token.LiteralKind.{LiteralKind}
 use Rattle.squawk_lexer.specs.declared.token.LiteralKind.TheVariants.{Int, Numeric, Str, NationalStr, ByteStr, BitStr, DollarQuotedString, UnicodeEscStr, EscStr}
-use Rattle.squawk_tree.specs.Children.{Child, ends, groups_after, closing, solid_len, statement, first, children_from, children, parts_from, parts, more_of, root_child, forms_of}
-use Rattle.squawk_tree.specs.Leaf.{form, leaf_form, leaf_kind, literal_kind, word_kind}
+use Rattle.squawk_tree.specs.Children.{Child, ends, groups_after, closing, solid_len, statement, first, children_from, children, parts_from, more_of, root_child, forms_of}
+use Rattle.squawk_tree.specs.Leaf.{form, leaf_form, leaf_kind, literal_kind}
 use Rattle.squawk_tree.specs.Leaves.{leaves_of}
-use Rattle.squawk_tree.specs.ParseOf.{leaves_len, token_steps, enclosed, node_by, node_of, statement_node, child_steps, children_steps, tree_steps, parse_of}
-use Rattle.squawk_tree.specs.Steps.{RootChild, Leaf, Node, leaves, root_children_from, root_children, ranges_through}
+use Rattle.squawk_tree.specs.ParseOf.{leaves_len, token_steps, enclosed, node_by, statement_node, child_steps, children_steps, tree_steps, parse_of}
+use Rattle.squawk_tree.specs.Steps.{Node, leaves, root_children_from, root_children, ranges_through}
 use Rattle.squawk_tree.specs.Tree.{Tree}
 use Rattle.squawk_tree.specs.declared.division.Division.{Division}
 use Rattle.squawk_tree.specs.declared.leaves.Leaf as leaf

@@ -1,6 +1,6 @@
 -- The ranges so far, the open nodes and the steps that are left make the ranges of all steps.
 use Rattle.std.proofs.Common.{◌≡◌, ℕ, suc, zero, ◌<◌, ◌≤◌, true, List, [], ◌∷◌, ◌++◌, length, slice_set, ap, sym, ◌∙◌, refl, subst, append_assoc, arith}
-use Rattle.std.proofs.lemmas.List.{set-append_left, set_at, length-set, length_push, append-nil}
+use Rattle.std.proofs.lemmas.List.{set-append_left, set_at, length-set, length_push}
 use Rattle.std.proofs.lemmas.Bool.Decides.{nat_tests}
 use Rattle.squawk_tree.specs.Spans.{AreBelow, spans_after, open_after, place_after}
 use Rattle.squawk_tree.specs.Steps.{closes, is_balanced}

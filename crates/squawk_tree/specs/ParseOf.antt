@@ -2,7 +2,7 @@
 use Rattle.std.specs.Prelude.{ℕ, ◌+◌, ◌==◌, List, [], ◌∷◌, ◌++◌, length, Option, Some, None, if◌then◌else◌}
 use Rattle.std.specs.Str.{chars}
 use Rattle.squawk_events.specs.declared.steps.StrStep.{StrStep}
-use Rattle.squawk_events.specs.declared.steps.StrStep.TheVariants.{Enter, Token, Exit, Error}
+use Rattle.squawk_events.specs.declared.steps.StrStep.TheVariants.{Enter, Token, Exit}
 use Rattle.squawk_kinds.specs.declared.numbers.TheConstants.Number as kind
 use Rattle.squawk_lexer.specs.Cut.{Form, Trivia, Semicolon, Terminator, Command, Open, Close, Other, tokens}
 use Rattle.squawk_lexer.specs.declared.token.Strings.{Strings}

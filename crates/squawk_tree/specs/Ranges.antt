@@ -1,6 +1,6 @@
 -- The range of each step of a tree: a token's own, and for an Enter and its Exit the node's. A node begins where the last token before
 -- its Enter ends and ends where the last token before its Exit does; before the first token this is 0.
-use Rattle.std.specs.Prelude.{ℕ, zero, suc, List, [], ◌∷◌, slice_index_or}
+use Rattle.std.specs.Prelude.{ℕ, zero, suc, List, [], ◌∷◌}
 use Rattle.squawk_events.specs.declared.steps.StrStep.{StrStep}
 use Rattle.squawk_events.specs.declared.steps.StrStep.TheVariants.{Enter, Token, Exit, Error}
 

@@ -1,6 +1,5 @@
-use Rattle.std.proofs.Common.{◌∙◌, ap, refl}
+use Rattle.std.proofs.Common.{refl}
 use Rattle.std.proofs.lemmas.Str.{IsCharBoundary-start}
-use Rattle.squawk_tree.specs.Leaves.{leaves_of}
 use Rattle.squawk_tree.proofs.leaves.leaves_of.Goals as goal
 
 pub loop-token-init : goal.loop-token-init

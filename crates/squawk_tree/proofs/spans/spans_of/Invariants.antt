@@ -1,4 +1,4 @@
-use Rattle.std.proofs.Common.{[], drop, reverse}
+use Rattle.std.proofs.Common.{drop, reverse}
 use Rattle.squawk_tree.specs.Ranges.{ranges}
 use Rattle.squawk_tree.proofs.SpanLemmas.{SpansSoFar}
 use Rattle.squawk_tree.proofs.spans.spans_of.Given as goal
