@@ -134,11 +134,13 @@ fn a_fault_at_each_call(rt: HostRuntime) -> Result<(), Fail> {
         let shown = run(rt.alloc(), &[], &mut source, &mut out, &mut err);
         assert_eq!(rt; shown.status, read_status, "call {failing}");
         assert_eq!(rt; out.taken().is_empty(), read_status != 0, "call {failing}");
+        assert_eq!(rt; source.faults() == 1, read_status != 0, "call {failing}");
         let mut source = MemorySource::new(rt.alloc(), b"select 1;", 1000, &[])?;
         let mut out = MemorySink::new(rt.alloc(), 1000, 50, &calls)?;
         let shown = run(rt.alloc(), &[], &mut source, &mut out, &mut err);
         assert_eq!(rt; shown.status, write_status, "call {failing}");
         assert_eq!(rt; out.taken().len(), written, "call {failing}");
+        assert_eq!(rt; out.faults() == 1, write_status != 0, "call {failing}");
     }
     Ok(())
 }

@@ -5,3 +5,4 @@ pub mod PartsLemmas
 pub mod ChildSteps
 pub mod TreeSteps
 pub mod ChildLaws
+pub mod Rows
