@@ -56,12 +56,12 @@ scalars_drop zero (c ∷ cs) e = e
 scalars_drop (suc n) (c ∷ cs) e = scalars_drop n cs (second (scalar c) (scalars cs) e)
 
 -- a text, cut behind its first n characters
-record IsCut (bs : List ℕ) (n : ℕ) : Type 0 where
-  utf8 : IsUtf8 (drop (bytes (take n (chars bs))) bs)
-  rest : chars (drop (bytes (take n (chars bs))) bs) ≡ drop n (chars bs)
-  boundary : IsCharBoundary bs (bytes (take n (chars bs)))
+pub record IsCut (bs : List ℕ) (n : ℕ) : Type 0 where
+  pub utf8 : IsUtf8 (drop (bytes (take n (chars bs))) bs)
+  pub rest : chars (drop (bytes (take n (chars bs))) bs) ≡ drop n (chars bs)
+  pub boundary : IsCharBoundary bs (bytes (take n (chars bs)))
 
-cut_behind : (bs : List ℕ) (n : ℕ) → IsUtf8 bs → IsCut bs n
+pub cut_behind : (bs : List ℕ) (n : ℕ) → IsUtf8 bs → IsCut bs n
 cut_behind bs n utf8 =
     let front = take n (chars bs) in
     let back = drop n (chars bs) in

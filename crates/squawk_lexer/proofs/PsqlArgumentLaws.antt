@@ -26,7 +26,7 @@ one_piece : (q c : ℕ) (cs : List ℕ) (o : Option ℕ) → is_line_end c ≡ f
 one_piece q c cs None t s p more = rw t (OnePiece c cs (prefix_len is_not_line_end cs) t s p more)
 one_piece q c cs (Some n) t s p (m, e, pieces, last) = (1 + m, omega (arith, e), OnePiece c cs m t s p pieces, let next : 1 + m ≡ suc m = omega arith in rw next last)
 
-pair_plain : (q c d : ℕ) → is_pair q c d ≡ true → is_line_end d ≡ false
+pub pair_plain : (q c d : ℕ) → is_pair q c d ≡ true → is_line_end d ≡ false
 pair_plain q c d p = grind (arith, nat_tests)
 
 pair_piece : (q c d : ℕ) (cs : List ℕ) (o : Option ℕ) → is_line_end c ≡ false → is_pair q c d ≡ true → Closes q cs o → Closes q (c ∷ d ∷ cs) (option_map (λ n. n + 2) o)
@@ -59,7 +59,7 @@ pub open_quotes_stay_open : OpenQuotesStayOpen
 open_quotes_stay_open q cs e = subst (Closes q cs) e (closes q cs)
 
 -- no part ends past its text
-rest_in : (c : ℕ) (cs : List ℕ) → part_rest c cs ≤ length cs
+pub rest_in : (c : ℕ) (cs : List ℕ) → part_rest c cs ≤ length cs
 rest_in c cs = by (is_quote c) (close_len c cs) (closes c cs)
   where
     by : (b : Bool) (o : Option ℕ) → Closes c cs o → cond b (unwrap_or o (prefix_len is_not_line_end cs)) 0 ≤ length cs

@@ -92,7 +92,7 @@ start_dots c d e = let t = row_fits DotDot c d e in grind (arith, nat_tests)
 start_dollar : (c d : ℕ) → Dollar ≡ start c d → c ≡ 36
 start_dollar c d e = eqb-true c 36 (row_fits Dollar c d e)
 
-start_psql : (c d : ℕ) → Psql ≡ start c d → c ≡ 92
+pub start_psql : (c d : ℕ) → Psql ≡ start c d → c ≡ 92
 start_psql c d e = eqb-true c 92 (row_fits Psql c d e)
 
 pub begin_white : (u : List ℕ) (i c d : ℕ) → i ≡ 0 → 0 < length u → c ≡ get_or u i 0 → White ≡ start c d → run is_white u (behind u i) ≡ run is_white u 0

@@ -13,28 +13,29 @@ use Rattle.squawk_lexer.specs.declared.word.Opening.{Opening}
 use Rattle.squawk_lexer.specs.declared.word.Opening.TheVariants.{National, Bit, Byte, Escape, UnicodeString, UnicodeIdent, Plain}
 use Rattle.squawk_lexer.specs.Classes.{is_id_start, is_digit, byte_order_mark, is_blank}
 use Rattle.squawk_lexer.specs.Runs.{run, junk, digits, hex, exponent, is_exponent_letter, is_sign, fraction_digits, line}
-use Rattle.squawk_lexer.specs.Kind.{Lexeme, lexeme}
+use Rattle.squawk_lexer.specs.Kind.{Lexeme, lexeme, literal}
 use Rattle.squawk_lexer.specs.declared.token.Base.TheVariants.{Binary, Octal, Decimal, Hexadecimal}
 use Rattle.squawk_lexer.specs.Numbers.{number, decimal_from, fractional, with_exponent, numeric, int, based_int, parameter}
-use Rattle.squawk_lexer.specs.Dollar.{opens_dollar, dollar_string}
+use Rattle.squawk_lexer.specs.Dollar.{opens_dollar, dollar_string, dollar}
 use Rattle.squawk_lexer.specs.PsqlWords.{is_among, query_ending_words, pipe_words, option_words, takes_line}
 use Rattle.squawk_lexer.specs.PsqlParts.{args, marked}
 use Rattle.squawk_lexer.specs.Psql.{psql, word, word_end, options_end, output_start, output_end, command_end}
 use Rattle.squawk_lexer.specs.Symbols.{symbol}
 use Rattle.squawk_lexer.specs.Token.{start, opening, begun, opened, lexeme_of, lexeme_at, token_at}
+use Rattle.squawk_lexer.specs.declared.token.LiteralKind.{LiteralKind}
 use Rattle.squawk_lexer.specs.declared.token.TokenKind.{TokenKind}
 use Rattle.squawk_lexer.specs.declared.token.TokenKind.TheVariants as kinds
 use Rattle.squawk_lexer.proofs.Steps.{drop_read}
 use Rattle.squawk_lexer.proofs.StartSteps.{start_white}
 
-junk_on : (u : List ℕ) (i : ℕ) → i ≤ junk u i
+pub junk_on : (u : List ℕ) (i : ℕ) → i ≤ junk u i
 junk_on u i = by (is_id_start (get_or u i 0)) refl
   where
     by : (b : Bool) → is_id_start (get_or u i 0) ≡ b → i ≤ junk u i
     by true e = rw e (omega arith)
     by false e = rw e (omega arith)
 
-exponent_on : (u : List ℕ) (i : ℕ) → i + 1 ≤ exponent u i
+pub exponent_on : (u : List ℕ) (i : ℕ) → i + 1 ≤ exponent u i
 exponent_on u i = by (is_sign (get_or u (i + 1) 0) && is_digit (get_or u (i + 2) 0)) (is_digit (get_or u (i + 1) 0)) refl refl
   where
     by : (b d : Bool) → (is_sign (get_or u (i + 1) 0) && is_digit (get_or u (i + 2) 0)) ≡ b → is_digit (get_or u (i + 1) 0) ≡ d → i + 1 ≤ exponent u i
@@ -42,17 +43,17 @@ exponent_on u i = by (is_sign (get_or u (i + 1) 0) && is_digit (get_or u (i + 2)
     by false true e f = rw (e, f) (omega arith)
     by false false e f = rw (e, f) (omega arith)
 
-fraction_on : (u : List ℕ) (i : ℕ) → i ≤ fraction_digits u i
+pub fraction_on : (u : List ℕ) (i : ℕ) → i ≤ fraction_digits u i
 fraction_on u i = by (is_digit (get_or u i 0)) refl
   where
     by : (b : Bool) → is_digit (get_or u i 0) ≡ b → i ≤ fraction_digits u i
     by true e = rw e (omega arith)
     by false e = rw e (omega arith)
 
-with_exponent_on : (u : List ℕ) (i : ℕ) → i ≤ (with_exponent u i).end
+pub with_exponent_on : (u : List ℕ) (i : ℕ) → i ≤ (with_exponent u i).end
 with_exponent_on u i = omega (arith, exponent_on u i, junk_on u (exponent u i))
 
-fractional_on : (u : List ℕ) (i : ℕ) → i ≤ (fractional u i).end
+pub fractional_on : (u : List ℕ) (i : ℕ) → i ≤ (fractional u i).end
 fractional_on u i = by (is_exponent_letter (get_or u (fraction_digits u i) 0)) refl
   where
     by : (b : Bool) → is_exponent_letter (get_or u (fraction_digits u i) 0) ≡ b → i ≤ (fractional u i).end
@@ -66,19 +67,19 @@ either_on false x y n p q = q
 le_on : (a b c : ℕ) → a ≤ b → b ≤ c → a ≤ c
 le_on a b c p q = omega arith
 
-decimal_on : (u : List ℕ) (a : ℕ) → a ≤ (decimal_from u a).end
+pub decimal_on : (u : List ℕ) (a : ℕ) → a ≤ (decimal_from u a).end
 decimal_on u a =
     either_on _ (fractional u (a + 1)) _ a (le_on a (a + 1) _ (omega arith) (fractional_on u (a + 1)))
     (either_on _ (with_exponent u a) (int Decimal false u a) a (with_exponent_on u a) (junk_on u a))
 
-number_on : (u : List ℕ) → 1 ≤ (number u).end
+pub number_on : (u : List ℕ) → 1 ≤ (number u).end
 number_on u =
     either_on _ (based_int Binary u (digits u 2)) _ 1 (le_on 1 (digits u 2) _ (omega arith) (junk_on u (digits u 2)))
     (either_on _ (based_int Octal u (digits u 2)) _ 1 (le_on 1 (digits u 2) _ (omega arith) (junk_on u (digits u 2)))
     (either_on _ (based_int Hexadecimal u (hex u 2)) (decimal_from u (digits u 1)) 1 (le_on 1 (hex u 2) _ (omega arith) (junk_on u (hex u 2)))
     (le_on 1 (digits u 1) _ (omega arith) (decimal_on u (digits u 1)))))
 
-opened_on : (s : Opening) (u : List ℕ) → 1 ≤ (opened s u).end
+pub opened_on : (s : Opening) (u : List ℕ) → 1 ≤ (opened s u).end
 opened_on National u = omega arith
 opened_on Bit u = omega arith
 opened_on Byte u = omega arith
@@ -92,17 +93,17 @@ later : (b : Bool) (x y n : ℕ) → n ≤ x → n ≤ y → n ≤ cond b x y
 later true x y n p q = p
 later false x y n p q = q
 
-options_on : (u : List ℕ) (i : ℕ) (o : Option ℕ) → i ≤ options_end u i o
+pub options_on : (u : List ℕ) (i : ℕ) (o : Option ℕ) → i ≤ options_end u i o
 options_on u i None = omega arith
 options_on u i (Some n) = omega arith
 
-output_start_on : (b : Bool) (u : List ℕ) (i : ℕ) → i ≤ output_start b u i
+pub output_start_on : (b : Bool) (u : List ℕ) (i : ℕ) → i ≤ output_start b u i
 output_start_on b u i = later (b && eqb (get_or u i 0) 40) (options_end u i (marked u i)) i i (options_on u i (marked u i)) (omega arith)
 
-output_end_on : (u : List ℕ) (p : ℕ) → p ≤ output_end u p
+pub output_end_on : (u : List ℕ) (p : ℕ) → p ≤ output_end u p
 output_end_on u p = later (eqb (get_or u p 0) 124) (line u p) (args u p) p (omega arith) (omega arith)
 
-command_on : (u : List ℕ) → 1 ≤ command_end u
+pub command_on : (u : List ℕ) → 1 ≤ command_end u
 command_on u =
     let i = run is_blank u (word_end u) in
     let p = output_start (is_among option_words (word u)) u i in
@@ -110,7 +111,7 @@ command_on u =
     (later (is_among pipe_words (word u)) (output_end u p) (args u (word_end u)) 1
     (omega (arith, output_end_on u p, output_start_on (is_among option_words (word u)) u i)) (omega arith))
 
-psql_on : (u : List ℕ) → 1 ≤ (psql u).end
+pub psql_on : (u : List ℕ) → 1 ≤ (psql u).end
 psql_on u =
     either_on (eqb (get_or u 1 0) 92) (lexeme (kinds.PsqlCommand false) 2) _ 1 (omega arith)
     (either_on (eqb (get_or u 1 0) 59) (lexeme kinds.Semi 2) _ 1 (omega arith)
@@ -147,46 +148,70 @@ token_positive strings s u h = some (lexeme_at strings s u).end u (lexeme_at_som
     some zero (c ∷ cs) p h = absurd (omega arith)
     some (suc n) (c ∷ cs) p h = omega (arith, sum_by-cons len_utf8 c (take n cs), len_utf8_bounds c)
 
--- ---- no token is `Eof`
+-- ---- kinds that few rows give
 
 abbrev is_eof : TokenKind → Bool
 is_eof kinds.Eof = true
 is_eof _ = false
 
+abbrev pub is_semi : TokenKind → Bool
+is_semi kinds.Semi = true
+is_semi _ = false
+
+-- neither `Eof`
 record IsReal (x : Lexeme) : Type 0 where
   real : is_eof x.kind ≡ false
+
+-- nor `Semi`
+pub record IsOther (x : Lexeme) : Type 0 where
+  pub real : is_eof x.kind ≡ false
+  pub other : is_semi x.kind ≡ false
 
 either_real : (b : Bool) (x y : Lexeme) → IsReal x → IsReal y → IsReal (cond b x y)
 either_real true x y p q = p
 either_real false x y p q = q
 
+pub either_other : (b : Bool) (x y : Lexeme) → IsOther x → IsOther y → IsOther (cond b x y)
+either_other true x y p q = p
+either_other false x y p q = q
+
 symbol_real : (c : ℕ) → is_eof (symbol c) ≡ false
 unfolding symbol
 symbol_real c = grind (arith, nat_tests)
 
-fractional_real : (u : List ℕ) (i : ℕ) → IsReal (fractional u i)
-fractional_real u i =
-    either_real (is_exponent_letter (get_or u (fraction_digits u i) 0)) (with_exponent u (fraction_digits u i)) (numeric None u (fraction_digits u i)) (record { real = refl }) (record { real = refl })
+pub symbol_other : (c : ℕ) → eqb c 59 ≡ false → is_semi (symbol c) ≡ false
+unfolding symbol
+symbol_other c e = grind (arith, nat_tests)
 
-decimal_real : (u : List ℕ) (a : ℕ) → IsReal (decimal_from u a)
-decimal_real u a =
-    either_real _ (fractional u (a + 1)) _ (fractional_real u (a + 1))
-    (either_real _ (with_exponent u a) (int Decimal false u a) (record { real = refl }) (record { real = refl }))
+literal_other : (k : LiteralKind) (n : ℕ) → IsOther (literal k n)
+literal_other k n = record { real = refl; other = refl }
 
-number_real : (u : List ℕ) → IsReal (number u)
-number_real u =
-    either_real _ (based_int Binary u (digits u 2)) _ (record { real = refl })
-    (either_real _ (based_int Octal u (digits u 2)) _ (record { real = refl })
-    (either_real _ (based_int Hexadecimal u (hex u 2)) (decimal_from u (digits u 1)) (record { real = refl }) (decimal_real u (digits u 1))))
+pub fractional_other : (u : List ℕ) (i : ℕ) → IsOther (fractional u i)
+fractional_other u i =
+    either_other (is_exponent_letter (get_or u (fraction_digits u i) 0)) (with_exponent u (fraction_digits u i)) (numeric None u (fraction_digits u i)) (literal_other _ _) (literal_other _ _)
 
-opened_real : (s : Opening) (u : List ℕ) → IsReal (opened s u)
-opened_real National u = record { real = refl }
-opened_real Bit u = record { real = refl }
-opened_real Byte u = record { real = refl }
-opened_real Escape u = record { real = refl }
-opened_real UnicodeString u = record { real = refl }
-opened_real UnicodeIdent u = record { real = refl }
-opened_real Plain u = record { real = refl }
+decimal_other : (u : List ℕ) (a : ℕ) → IsOther (decimal_from u a)
+decimal_other u a =
+    either_other _ (fractional u (a + 1)) _ (fractional_other u (a + 1))
+    (either_other _ (with_exponent u a) (int Decimal false u a) (literal_other _ _) (literal_other _ _))
+
+pub number_other : (u : List ℕ) → IsOther (number u)
+number_other u =
+    either_other _ (based_int Binary u (digits u 2)) _ (literal_other _ _)
+    (either_other _ (based_int Octal u (digits u 2)) _ (literal_other _ _)
+    (either_other _ (based_int Hexadecimal u (hex u 2)) (decimal_from u (digits u 1)) (literal_other _ _) (decimal_other u (digits u 1))))
+
+pub opened_other : (s : Opening) (u : List ℕ) → IsOther (opened s u)
+opened_other National u = literal_other _ _
+opened_other Bit u = literal_other _ _
+opened_other Byte u = literal_other _ _
+opened_other Escape u = literal_other _ _
+opened_other UnicodeString u = literal_other _ _
+opened_other UnicodeIdent u = record { real = refl; other = refl }
+opened_other Plain u = record { real = refl; other = refl }
+
+pub dollar_other : (u : List ℕ) → IsOther (dollar u)
+dollar_other u = either_other (opens_dollar u) (dollar_string u) (parameter u) (literal_other _ _) (record { real = refl; other = refl })
 
 psql_real : (u : List ℕ) → IsReal (psql u)
 psql_real u =
@@ -200,11 +225,11 @@ begun_real strings LineComment u = record { real = refl }
 begun_real strings BlockComment u = record { real = refl }
 begun_real strings String u = record { real = refl }
 begun_real strings QuotedIdent u = record { real = refl }
-begun_real strings Word u = opened_real (opening (get_or u 0 0) (get_or u 1 0) (get_or u 2 0)) u
-begun_real strings Dollar u = either_real (opens_dollar u) (dollar_string u) (parameter u) (record { real = refl }) (record { real = refl })
-begun_real strings Number u = number_real u
+begun_real strings Word u = record { real = (opened_other (opening (get_or u 0 0) (get_or u 1 0) (get_or u 2 0)) u).real }
+begun_real strings Dollar u = record { real = (dollar_other u).real }
+begun_real strings Number u = record { real = (number_other u).real }
 begun_real strings DotDot u = record { real = refl }
-begun_real strings Fraction u = fractional_real u 1
+begun_real strings Fraction u = record { real = (fractional_other u 1).real }
 begun_real strings Psql u = psql_real u
 begun_real strings Symbol u = record { real = symbol_real (get_or u 0 0) }
 

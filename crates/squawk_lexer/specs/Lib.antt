@@ -17,3 +17,4 @@ pub mod Token
 pub mod Cut
 pub mod TokensModel
 pub mod Laws
+pub mod LookAhead

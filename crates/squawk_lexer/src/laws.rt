@@ -1,5 +1,6 @@
 //! Laws that the definitions of the grammar obey. Each is the clause of a function that does nothing.
 ghost use Rattle.squawk_lexer.specs.Laws.{RunsAreLongest, RunsAreOne, TokensProgress, TokensWithin, PlacesAddUp, PlacesWithin, TokensRestart, FoundIsFirst, NoneIsNowhere, CommentsBalance, OpenCommentsStayOpen};
+ghost use Rattle.squawk_lexer.specs.LookAhead.{LexemesLookAhead, TokensLookAhead, TextsLookAhead, TextsProgress, TextsRestart, StatementsStandAlone};
 ghost use Rattle.squawk_lexer.specs.PsqlArguments.{QuotesCloseFirst, OpenQuotesStayOpen, ArgumentsAreLongest, ArgumentsAreOne, ArgumentIsLongest, ArgumentIsOne, MarkedIsFirst};
 
 /// A run of a class is the longest: all its characters are of the class, and the one behind it is not. Only one end is such.
@@ -12,6 +13,7 @@ pub fn runs_are_longest()
 pub fn tokens_progress()
     ensures some { TokensProgress }
     ensures within { TokensWithin }
+    ensures texts { TextsProgress }
 {}
 
 /// The text has the characters of its first tokens, and they have the bytes of these tokens.
@@ -22,7 +24,8 @@ pub fn places_add_up()
 
 /// Behind any token, the tokens are those of the text that is left, read without the rule for a leading byte order mark.
 pub fn tokens_restart()
-    ensures { TokensRestart }
+    ensures chars { TokensRestart }
+    ensures texts { TextsRestart }
 {}
 
 /// A dollar string ends behind the first place where its delimiter stands, and is open only where it stands nowhere.
@@ -54,4 +57,16 @@ pub fn arguments_are_longest()
 pub fn quotes_close_first()
     ensures first { QuotesCloseFirst }
     ensures open { OpenQuotesStayOpen }
+{}
+
+/// A token that at least two characters follow is decided by its own characters and these two, and by whether the text begins there.
+pub fn tokens_look_ahead()
+    ensures lexemes { LexemesLookAhead }
+    ensures tokens { TokensLookAhead }
+    ensures texts { TextsLookAhead }
+{}
+
+/// Behind a text whose last token is a `;`, any text is cut by itself, and no token before it changes.
+pub fn statements_stand_alone()
+    ensures { StatementsStandAlone }
 {}

@@ -7,6 +7,7 @@ ghost use Rattle.squawk_lexer.specs.Runs.{run};
 ghost use Rattle.squawk_lexer.specs.Symbols.{symbol};
 ghost use Rattle.squawk_lexer.specs.Token.{start, lexeme_of, lexeme_at, token_at};
 ghost use Rattle.squawk_lexer.specs.Cut.{tokens_from};
+ghost use Rattle.squawk_lexer.specs.LookAhead.{IsDecided, RestartsAt, PartsAt};
 
 use crate::classes::{Class, is_digit, is_id_start, is_white};
 use crate::cursor::Cursor;
@@ -177,6 +178,9 @@ pub fn cut_at(input: &str, at: usize) -> Token
     ensures positive { 0 < result.len }
     ensures ends_between { IsCharBoundary input.now (at + result.len) }
     ensures never_eof { result.kind ≢ TokenKind.Eof }
+    ensures looks_ahead { IsDecided Strings.Standard (at == 0) (drop at input.now) result }
+    ensures restarts { RestartsAt Strings.Standard input.now at }
+    ensures parts { PartsAt Strings.Standard input.now at }
 {
     cut_at_in(input, at, Strings::Standard)
 }
@@ -199,6 +203,9 @@ pub fn cut_at_in(input: &str, at: usize, strings: Strings) -> Token
     ensures positive { 0 < result.len }
     ensures ends_between { IsCharBoundary input.now (at + result.len) }
     ensures never_eof { result.kind ≢ TokenKind.Eof }
+    ensures looks_ahead { IsDecided strings (at == 0) (drop at input.now) result }
+    ensures restarts { RestartsAt strings input.now at }
+    ensures parts { PartsAt strings input.now at }
 {
     cut(&input[at..], at == 0, strings).0
 }

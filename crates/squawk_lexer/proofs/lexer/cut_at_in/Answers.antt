@@ -1,4 +1,5 @@
-use Rattle.std.proofs.Common.{◌<◌, length, arith, subst, IsUtf8}
+use Rattle.squawk_lexer.proofs.AheadBytes.{texts_look_ahead, restarts_at, parts_at}
+use Rattle.std.proofs.Common.{◌<◌, length, drop, arith, subst, IsUtf8}
 use Rattle.std.specs.Str.{chars}
 use Rattle.squawk_lexer.proofs.Chars.{some_chars}
 use Rattle.squawk_lexer.proofs.TokenLaws.{token_positive, token_never_eof}
@@ -24,3 +25,13 @@ returns-clause-first c =
     let rest = subst IsUtf8 c.range_from.ensures.value c.range_from.utf8 in
     let some = subst (λ x. 0 < length (chars x)) c.range_from.ensures.value (has_chars c) in
     rw (c.cut.ensures.token, c.range_from.ensures.value) (token_then c.args.strings _ c.args.input.now c.args.at rest some)
+
+pub returns-clause-looks_ahead : goal.returns-clause-looks_ahead
+returns-clause-looks_ahead c =
+    rw (c.cut.ensures.token, c.range_from.ensures.value) (texts_look_ahead c.args.strings _ (drop c.args.at c.args.input.now))
+
+pub returns-clause-restarts : goal.returns-clause-restarts
+returns-clause-restarts c = restarts_at c.args.strings c.args.input.now c.args.at c.utf8.input
+
+pub returns-clause-parts : goal.returns-clause-parts
+returns-clause-parts c = parts_at c.args.strings c.args.input.now c.args.at c.utf8.input c.requires.boundary
