@@ -18,3 +18,4 @@ pub mod Cut
 pub mod TokensModel
 pub mod Laws
 pub mod LookAhead
+pub mod QuotedLaws

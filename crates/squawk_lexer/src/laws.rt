@@ -1,6 +1,7 @@
 //! Laws that the definitions of the grammar obey. Each is the clause of a function that does nothing.
 ghost use Rattle.squawk_lexer.specs.Laws.{RunsAreLongest, RunsAreOne, TokensProgress, TokensWithin, PlacesAddUp, PlacesWithin, TokensRestart, FoundIsFirst, NoneIsNowhere, CommentsBalance, OpenCommentsStayOpen};
 ghost use Rattle.squawk_lexer.specs.LookAhead.{LexemesLookAhead, TokensLookAhead, TextsLookAhead, TextsProgress, TextsRestart, StatementsStandAlone};
+ghost use Rattle.squawk_lexer.specs.QuotedLaws.{QuotedEndsFirst, QuotedEndsOnce, DigitsAreLongest};
 ghost use Rattle.squawk_lexer.specs.PsqlArguments.{QuotesCloseFirst, OpenQuotesStayOpen, ArgumentsAreLongest, ArgumentsAreOne, ArgumentIsLongest, ArgumentIsOne, MarkedIsFirst};
 
 /// A run of a class is the longest: all its characters are of the class, and the one behind it is not. Only one end is such.
@@ -69,4 +70,15 @@ pub fn tokens_look_ahead()
 /// Behind a text whose last token is a `;`, any text is cut by itself, and no token before it changes.
 pub fn statements_stand_alone()
     ensures { StatementsStandAlone }
+{}
+
+/// What is quoted ends behind the first quote that is in no item.
+pub fn quoted_ends_first()
+    ensures first { QuotedEndsFirst }
+    ensures only { QuotedEndsOnce }
+{}
+
+/// A run of digits is the longest.
+pub fn digits_are_longest()
+    ensures { DigitsAreLongest }
 {}
