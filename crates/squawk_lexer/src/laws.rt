@@ -1,7 +1,9 @@
 //! Laws that the definitions of the grammar obey. Each is the clause of a function that does nothing.
+ghost use Rattle.std.specs.Prelude.{◌≡◌, ◌∷◌, []};
 ghost use Rattle.squawk_lexer.specs.Laws.{RunsAreLongest, RunsAreOne, TokensProgress, TokensWithin, PlacesAddUp, PlacesWithin, TokensRestart, FoundIsFirst, NoneIsNowhere, CommentsBalance, OpenCommentsStayOpen};
 ghost use Rattle.squawk_lexer.specs.LookAhead.{LexemesLookAhead, TokensLookAhead, TextsLookAhead, TextsProgress, TextsRestart, StatementsStandAlone};
 ghost use Rattle.squawk_lexer.specs.QuotedLaws.{QuotedEndsFirst, QuotedEndsOnce, DigitsAreLongest};
+ghost use Rattle.squawk_lexer.specs.declared.lexer.TheConstants.{BOM};
 ghost use Rattle.squawk_lexer.specs.PsqlArguments.{QuotesCloseFirst, OpenQuotesStayOpen, ArgumentsAreLongest, ArgumentsAreOne, ArgumentIsLongest, ArgumentIsOne, MarkedIsFirst};
 
 /// A run of a class is the longest: all its characters are of the class, and the one behind it is not. Only one end is such.
@@ -81,4 +83,9 @@ pub fn quoted_ends_first()
 /// A run of digits is the longest.
 pub fn digits_are_longest()
     ensures { DigitsAreLongest }
+{}
+
+/// The mark is U+FEFF in UTF-8.
+pub fn mark_is_one_character()
+    ensures { BOM.now ≡ 0xEF ∷ 0xBB ∷ 0xBF ∷ [] }
 {}

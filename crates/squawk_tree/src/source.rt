@@ -114,7 +114,7 @@ fn parse_divided(
 ) -> Result<Parse, FrontError>
     ensures tree { IfOk result (λ tree. tree ≡ parse_of strings division text.now) }
     ensures lawful { IfOk result IsTree }
-    ensures too_long { IsErrOf result FrontError.TooLong ↔ (LIMIT < length text.now) }
+    ensures too_long { IsErrOf result FrontError.TooLong ↔ (4294967295 < length text.now) }
 {
     if text.len() > LIMIT {
         return Err(FrontError::TooLong);
@@ -139,7 +139,7 @@ pub fn parse_source(alloc: Global, text: &str) -> Result<Parse, FrontError>
     // The leaves are the tokens of the text, and the root's children those of the division of the tokens' forms.
     ensures leaves { IfOk result (λ tree. leaves tree.steps ≡ ranges_through 0 (token_ends 0 (tokens Standard (chars text.now)))) }
     ensures children { IfOk result (λ tree. root_children tree.steps ≡ map root_child (children Flat (forms_of (tokens Standard (chars text.now))))) }
-    ensures too_long { IsErrOf result FrontError.TooLong ↔ (LIMIT < length text.now) }
+    ensures too_long { IsErrOf result FrontError.TooLong ↔ (4294967295 < length text.now) }
 {
     parse_divided(alloc, text, Strings::Standard, Division::Flat)
 }
