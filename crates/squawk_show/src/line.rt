@@ -1,33 +1,67 @@
-//! The lines of a report, each made in a buffer from its end.
-ghost use Rattle.std.specs.Prelude.{◌≡◌, ◌≤◌, ◌+◌, ◌++◌, ◌^◌, ◌<◌, length, drop, decimal, OnOk};
+//! The lines of the report.
+ghost use Rattle.std.specs.Prelude.{◌≡◌, ◌≤◌, ◌+◌, ◌++◌, ◌^◌, ◌<◌, [], length, drop, decimal, OnOk};
 ghost use Rattle.squawk_show.specs.Report.{line, error_line};
 
 use itoa::write_digits;
 use squawk_events::{ParseError, message};
 use squawk_kinds::SyntaxKind;
 use std::alloc::AllocError;
+use std::marker::Model;
 
-/// Puts a piece before a place of a buffer, and answers where it begins.
-pub(crate) fn put_before(text: &mut [u8], end: usize, piece: &[u8]) -> usize
-    requires { (length piece.now ≤ end) × (end ≤ length text.old) }
-    ensures start { result + length piece.now ≡ end }
-    ensures written { drop result text.new ≡ piece.now ++ drop end text.old }
-    ensures same_length { length text.new ≡ length text.old }
-{
-    let start = end - piece.len();
-    text[start..end].copy_from_slice(piece);
-    start
+/// A line of at most 128 bytes, built from its end to its start.
+#[derive(Drop)]
+pub(crate) struct LineBuffer {
+    bytes: [u8; 128],
+    start: usize,
 }
 
-// Puts the digits of a number before a place of a buffer, and answers where they begin.
-fn put_number(text: &mut [u8], end: usize, n: usize) -> usize
-    requires { (20 ≤ end) × (end ≤ length text.old) }
-    ensures start { result + length (decimal n) ≡ end }
-    ensures short { end ≤ result + 20 }
-    ensures written { drop result text.new ≡ decimal n ++ drop end text.old }
-    ensures same_length { length text.new ≡ length text.old }
-{
-    write_digits(n as u64, text, end)
+impl Model for LineBuffer {
+    ghost use Rattle.std.specs.Prelude.{◌≤◌, ℕ, List, drop};
+
+    ghost Value = { List ℕ };
+
+    ghost view = { λ l. drop l.start l.bytes };
+
+    ghost invariant = { λ l. l.start ≤ 128 };
+}
+
+impl LineBuffer {
+    /// An empty line.
+    pub(crate) fn new() -> LineBuffer
+        ensures { result ≡ [] }
+    {
+        LineBuffer {
+            bytes: [0u8; 128],
+            start: 128,
+        }
+    }
+
+    /// The bytes of the line.
+    pub(crate) fn as_bytes(&self) -> &[u8]
+        ensures { result.now ≡ self.now }
+    {
+        &self.bytes[self.start..]
+    }
+
+    /// Puts a piece in front of the line.
+    pub(crate) fn prepend(&mut self, piece: &[u8])
+        requires { length piece.now + length self.old ≤ 128 }
+        ensures line { self.new ≡ piece.now ++ self.old }
+        ensures len { length self.new ≡ length piece.now + length self.old }
+    {
+        let end = self.start;
+        self.start -= piece.len();
+        self.bytes[self.start..end].copy_from_slice(piece);
+    }
+
+    /// Puts the digits of a number in front of the line.
+    pub(crate) fn prepend_number(&mut self, n: usize)
+        requires { 20 + length self.old ≤ 128 }
+        ensures line { self.new ≡ decimal n ++ self.old }
+        ensures len { length self.new ≤ 20 + length self.old }
+    {
+        self.start = write_digits(n as u64, &mut self.bytes, self.start);
+    }
 }
 
 /// Appends the line of a node or a leaf, by its letter.
@@ -40,17 +74,16 @@ pub(crate) fn push_line(
 ) -> Result<(), AllocError>
     ensures { OnOk result (out.new.items ≡ out.old.items ++ line depth letter kind range) }
 {
-    let name = kind.name();
-    let mut text = [0u8; 128];
-    let mut at = put_before(&mut text, 128, b"\n");
-    at = put_number(&mut text, at, range.1 as usize);
-    at = put_before(&mut text, at, b"..");
-    at = put_number(&mut text, at, range.0 as usize);
-    at = put_before(&mut text, at, b" ");
-    at = put_before(&mut text, at, name.as_bytes());
-    at = put_before(&mut text, at, &[b' ', letter, b' ']);
-    at = put_number(&mut text, at, depth);
-    out.extend_from_slice(&text[at..])?;
+    let mut text = LineBuffer::new();
+    text.prepend(b"\n");
+    text.prepend_number(range.1 as usize);
+    text.prepend(b"..");
+    text.prepend_number(range.0 as usize);
+    text.prepend(b" ");
+    text.prepend(kind.name().as_bytes());
+    text.prepend(&[b' ', letter, b' ']);
+    text.prepend_number(depth);
+    out.extend_from_slice(text.as_bytes())?;
     Ok(())
 }
 
@@ -59,14 +92,14 @@ pub(crate) fn push_error(out: &mut Vec<u8>, error: ParseError) -> Result<(), All
     requires { (1 ≤ error.number) × (error.number ≤ 10) }
     ensures { OnOk result (out.new.items ≡ out.old.items ++ error_line error) }
 {
-    let mut text = [0u8; 128];
-    let mut at = put_before(&mut text, 128, b"\n");
-    at = put_before(&mut text, at, message(error.number).as_bytes());
-    at = put_before(&mut text, at, b" ");
-    at = put_number(&mut text, at, error.end as usize);
-    at = put_before(&mut text, at, b"..");
-    at = put_number(&mut text, at, error.start as usize);
-    at = put_before(&mut text, at, b"E ");
-    out.extend_from_slice(&text[at..])?;
+    let mut text = LineBuffer::new();
+    text.prepend(b"\n");
+    text.prepend(message(error.number).as_bytes());
+    text.prepend(b" ");
+    text.prepend_number(error.end as usize);
+    text.prepend(b"..");
+    text.prepend_number(error.start as usize);
+    text.prepend(b"E ");
+    out.extend_from_slice(text.as_bytes())?;
     Ok(())
 }

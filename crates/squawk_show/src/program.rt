@@ -85,10 +85,7 @@ fn show<S: Source, K: Sink>(
         → TakesAtMost (S.left source.old) (S.left source.new) limit }
     ensures front { IsErrOf result RunError.WriteFault → IsFrontOfAll (S.left source.old) (K.taken out.old) (K.taken out.new) }
 {
-    let (parse, report) = match prepare(alloc, words, source) {
-        Ok(made) => made,
-        Err(error) => return Err(error),
-    };
+    let (parse, report) = prepare(alloc, words, source)?;
     match write_whole(out, &report) {
         Ok(()) => Ok(parse),
         Err(_) => Err(RunError::WriteFault),

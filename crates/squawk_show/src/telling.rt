@@ -5,7 +5,7 @@ ghost use Rattle.squawk_show.specs.Causes.{Rose};
 ghost use Rattle.squawk_show.specs.Outcome.{line_of, number_of};
 ghost use Rattle.squawk_show.specs.Reading.{AppendsFront};
 
-use crate::line::put_before;
+use crate::line::LineBuffer;
 use crate::{RunError, Sink, write_whole};
 use itoa::Buffer;
 
@@ -20,16 +20,17 @@ fn number_text(error: RunError, buffer: &mut Buffer) -> &str
     }
 }
 
-// Makes the line that tells of a refusal at the end of a buffer, and answers where it begins.
-fn make_line(error: RunError, line: &mut [u8; 64]) -> usize
-    ensures within { result ≤ 64 }
-    ensures made { drop result line.new ≡ line_of error }
+// The line of a refusal.
+fn refusal_line(error: RunError) -> LineBuffer
+    ensures { result ≡ line_of error }
 {
     let mut buffer = Buffer::new();
     let number = number_text(error, &mut buffer);
-    let mut start = put_before(line, 64, b"\n");
-    start = put_before(line, start, number.as_bytes());
-    put_before(line, start, error.words().as_bytes())
+    let mut line = LineBuffer::new();
+    line.prepend(b"\n");
+    line.prepend(number.as_bytes());
+    line.prepend(error.words().as_bytes());
+    line
 }
 
 /// Writes the line that tells of a refusal, without memory. Where the sink fails, a front of it was written.
@@ -38,7 +39,5 @@ pub(crate) fn tell<E: Sink>(err: &mut E, error: RunError)
     ensures whole { ¬ (Rose (E.faults err.old) (E.faults err.new))
         → Appends (E.taken err.old) (E.taken err.new) (line_of error) }
 {
-    let mut line = [0u8; 64];
-    let start = make_line(error, &mut line);
-    let _ = write_whole(err, &line[start..]);
+    let _ = write_whole(err, refusal_line(error).as_bytes());
 }
