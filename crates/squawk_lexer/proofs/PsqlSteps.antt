@@ -1,25 +1,22 @@
 -- Steps within the arguments of a psql command.
-use Rattle.std.proofs.Common.{◌≡◌, ℕ, zero, suc, ◌+◌, ◌-◌, ◌<◌, ◌≤◌, Bool, true, false, List, [], ◌∷◌, length, take, drop, get_or, slice_get, Option, None, Some, refl, sym, ap, ◌∙◌, inl, inr, ◌⊎◌, eqb, eq-eqb, arith, unwrap_or, is_some, option_map, cond}
+use Rattle.std.proofs.Common.{◌≡◌, ℕ, zero, suc, ◌+◌, ◌-◌, ◌<◌, ◌≤◌, Bool, true, false, List, [], ◌∷◌, length, take, drop, get_or, slice_get, Option, None, Some, refl, sym, ap, ◌∙◌, inl, inr, ◌⊎◌, ◌&&◌, not, eqb, eq-eqb, arith, unwrap_or, is_some, option_map, cond}
 use Rattle.std.specs.List.{prefix_len}
 use Rattle.std.proofs.lemmas.Bool.Decides.{nat_tests}
-use Rattle.std.proofs.lemmas.Bool.{cases_lt}
+use Rattle.std.proofs.lemmas.Bool.{cases_lt, cases_eq}
 use Rattle.std.proofs.lemmas.List.{drop-drop}
 use Rattle.std.proofs.lemmas.List.Sums.{prefix_len-le-length}
 use Rattle.squawk_lexer.specs.Place.{behind}
 use Rattle.squawk_lexer.specs.Runs.{line}
 use Rattle.squawk_lexer.specs.Classes.{is_line_end, is_not_line_end, is_blank}
+use Rattle.squawk_lexer.specs.PsqlQuotes.{close_end, last_before, piece_stop}
+use Rattle.squawk_lexer.specs.Stops.{is_other, is_inside, stop_inside}
+use Rattle.squawk_lexer.specs.Text.{bytes}
+use Rattle.squawk_lexer.proofs.StopSteps.{run_kept, other_not, inside_on}
+use Rattle.squawk_lexer.proofs.NeedleSteps.{fewer_bytes}
 use Rattle.squawk_lexer.specs.PsqlParts.{is_quote, is_pair, close_len, quote_len, last_inside, ends_arguments, part_rest, args_len, args, mark_behind, is_parenthesis, marked_len, marked}
 use Rattle.squawk_lexer.proofs.Steps.{drop_some, drop_none, drop_read, drop_past, within_some, within_read, behind_some, behind_none, behind_within, behind_past, behind_on, ne-eqb, run_more, run_stop, run_end}
 
 -- ---- a quote, whose opening stands before the place
-
--- the place behind the closing quote
-abbrev pub close_end : ℕ → List ℕ → ℕ → Option ℕ
-close_end q u i = option_map (λ n. i + n) (close_len q (drop i u))
-
--- the last character from i on before j
-abbrev pub last_before : List ℕ → ℕ → ℕ → Option ℕ
-last_before u i j = slice_get (take (j - i) (drop i u)) (j - i - 1)
 
 further : (o : Option ℕ) (i n : ℕ) → option_map (λ m. i + m) (option_map (λ m. m + n) o) ≡ option_map (λ m. i + n + m) o
 further None i n = refl
@@ -181,6 +178,95 @@ two_pieces q u i v j c r same t s plain other pair read =
       (λ h. last_read v i (behind v j) r on' read h ∙ ap (λ x. last_before x i (behind v (behind v j))) same),
       omega arith,
     )
+
+-- ---- the search for the next piece that matters
+
+no_pair : (q c d : ℕ) → is_inside q (cond (eqb q 39) 92 q) c ≡ true → (is_line_end c ≡ false) × (c ≡ q → ⊥) × (is_pair q c d ≡ false)
+no_pair q c d t = by (cases_eq q 39)
+  where
+    plain : is_line_end c ≡ false
+    plain = line_of (is_other q (cond (eqb q 39) 92 q) c) (is_line_end c) t
+      where
+        line_of : (a b : Bool) → (a && not b) ≡ true → b ≡ false
+        line_of true false e = refl
+        line_of true true e = absurd (cc)
+        line_of false b e = absurd (cc)
+
+    others : is_other q (cond (eqb q 39) 92 q) c ≡ true
+    others = first_of (is_other q (cond (eqb q 39) 92 q) c) (not (is_line_end c)) t
+      where
+        first_of : (a b : Bool) → (a && b) ≡ true → a ≡ true
+        first_of true b e = refl
+        first_of false b e = absurd (cc)
+
+    by : (q ≡ 39) ⊎ (q ≡ 39 → ⊥) → (is_line_end c ≡ false) × (c ≡ q → ⊥) × (is_pair q c d ≡ false)
+    by (inl e) = let n = other_not q (cond (eqb q 39) 92 q) c others in (plain, n.0, rw (ne-eqb c 92 (λ x. n.1 (x ∙ rw (eq-eqb q 39 e) refl))) (none (eqb q 39)))
+      where
+        none : (a : Bool) → ((a && false) && not (is_line_end d)) ≡ false
+        none true = refl
+        none false = refl
+    by (inr n) = (plain, (other_not q (cond (eqb q 39) 92 q) c others).0, rw (ne-eqb q 39 n) refl)
+
+passed_one : (q : ℕ) (u : List ℕ) (i c : ℕ) → Some c ≡ slice_get u i → is_inside q (cond (eqb q 39) 92 q) c ≡ true
+    → (close_end q u i ≡ close_end q u (i + 1)) × (line u i ≡ line u (i + 1))
+passed_one q u i c s t =
+    let (plain, other, single) = no_pair q c (get_or u (behind u i) 0) t in
+    rw (← behind_some u i c s) (quote_plain q u i c s plain other single)
+
+pub quote_passed : (q : ℕ) (u : List ℕ) (i : ℕ) → (close_end q u i ≡ close_end q u (piece_stop q u i)) × (line u i ≡ line u (piece_stop q u i))
+unfolding stop_inside
+quote_passed q u i = (
+  run_kept (close_end q u) (is_inside q (cond (eqb q 39) 92 q)) u (λ k c s t. (passed_one q u k c s t).0) i,
+  run_kept (line u) (is_inside q (cond (eqb q 39) 92 q)) u (λ k c s t. (passed_one q u k c s t).1) i,
+)
+
+pub passed_on : (q : ℕ) (u : List ℕ) (i : ℕ) → i ≤ piece_stop q u i
+passed_on q u i = inside_on q (cond (eqb q 39) 92 q) u i
+
+-- past a piece, from k on to the next stop, with the premises that the loop has: its place is i of u, and j is behind that stop
+pub record IsPassed (q : ℕ) (u : List ℕ) (i : ℕ) (v : List ℕ) (j : ℕ) : Type 0 where
+  pub on : i ≤ j
+  pub close : close_end q v j ≡ close_end q u i
+  pub line : line v j ≡ line u i
+
+pub passed : (q : ℕ) (u : List ℕ) (i : ℕ) (v : List ℕ) (j : ℕ) → v ≡ u → j ≡ piece_stop q u i → IsPassed q u i v j
+passed q u i v j same at =
+    let p = quote_passed q u i in
+    rw (same, at) (record { on = passed_on q u i; close = sym p.0; line = sym p.1 })
+
+pub smaller : (u v : List ℕ) (i k j : ℕ) → v ≡ u → i < k → k ≤ j → i < length u → length v - j < length u - i
+smaller u v i k j same on more within = rw same (omega arith)
+
+-- a piece at i, with the premises that the code has
+pub piece_two : (q : ℕ) (u : List ℕ) (i : ℕ) → i < length u → is_line_end (get_or u i 0) ≡ false → (get_or u i 0 ≡ q → ⊥) → is_pair q (get_or u i 0) (get_or u (behind u i) 0) ≡ true
+    → close_end q u (behind u (behind u i)) ≡ close_end q u i
+piece_two q u i h plain other pair = sym (quote_pair q u i (get_or u i 0) (slice_some u i h) plain other pair).0
+
+pub piece_one : (q : ℕ) (u : List ℕ) (i : ℕ) → i < length u → is_line_end (get_or u i 0) ≡ false → (get_or u i 0 ≡ q → ⊥) → is_pair q (get_or u i 0) (get_or u (behind u i) 0) ≡ false
+    → close_end q u (behind u i) ≡ close_end q u i
+piece_one q u i h plain other single = sym (quote_plain q u i (get_or u i 0) (slice_some u i h) plain other single).0
+
+-- the last character since a place, with the premises that the code has
+pub last_here : (u : List ℕ) (j i n m : ℕ) → j ≤ length u → i ≤ j → n ≡ bytes (take j u) → m ≡ bytes (take i u) → n ≡ m → None ≡ last_before u i j
+last_here u j i n m within on here start same = by (cases_lt i j)
+  where
+    by : (i < j) ⊎ (j ≤ i) → None ≡ last_before u i j
+    by (inl less) = absurd (let fewer = fewer_bytes u i j less within in omega arith)
+    by (inr more) = let none : j - i ≡ 0 = omega arith in rw none refl
+
+pub last_there : (u : List ℕ) (j i n m : ℕ) (r : Option ℕ) → j ≤ length u → i ≤ j → n ≡ bytes (take j u) → m ≡ bytes (take i u) → (n ≡ m → ⊥)
+    → ((k : ℕ) → j ≡ k + 1 → r ≡ slice_get u k) → r ≡ last_before u i j
+last_there u j i n m r within on here start other read = by (cases_lt i j)
+  where
+    by : (i < j) ⊎ (j ≤ i) → r ≡ last_before u i j
+    by (inl less) =
+        let next : j ≡ j - 1 + 1 = omega arith in
+        let k : j - i ≡ j - 1 - i + 1 = omega arith in
+        let last : j - 1 - i + 1 - 1 ≡ j - 1 - i = omega arith in
+        let to : i + (j - 1 - i) ≡ j - 1 = omega arith in
+        let there : slice_get (take (j - 1 - i + 1) (drop i u)) (j - 1 - i) ≡ slice_get u (i + (j - 1 - i)) = take_last (drop i u) (j - 1 - i) ∙ read_on u i (j - 1 - i) in
+        rw (k, last) (read (j - 1) next ∙ sym (rw to at there))
+    by (inr more) = absurd (let same : i ≡ j = omega arith in other (here ∙ ap (λ x. bytes (take x u)) (sym same) ∙ sym start))
 
 pub ruleset quote_steps = (quote_stop, quote_none, unclosed, last_none)
 

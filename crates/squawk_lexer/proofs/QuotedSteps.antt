@@ -1,8 +1,10 @@
 -- A step within a text in quotes.
-use Rattle.std.proofs.Common.{◌≡◌, ℕ, ◌+◌, ◌<◌, ◌≤◌, Bool, true, false, List, [], ◌∷◌, length, get_or, drop, slice_get, None, Some, refl, sym, inl, inr, ◌∙◌, arith, ◌⊎◌, ◌&&◌, eqb, eq-eqb, unwrap_or, is_some}
+use Rattle.std.proofs.Common.{◌≡◌, ℕ, ◌+◌, ◌<◌, ◌≤◌, Bool, true, false, List, [], ◌∷◌, length, get_or, drop, slice_get, None, Some, refl, sym, inl, inr, ◌∙◌, arith, ◌⊎◌, ◌&&◌, eqb, eq-eqb, cond, unwrap_or, is_some}
 use Rattle.std.proofs.lemmas.Bool.{cases_lt}
 use Rattle.squawk_lexer.specs.Place.{behind}
 use Rattle.squawk_lexer.specs.Quoted.{quoted, quoted_len, is_terminated}
+use Rattle.squawk_lexer.specs.Stops.{is_other, stop_at}
+use Rattle.squawk_lexer.proofs.StopSteps.{run_kept, other_not, stop_is, stop_behind}
 use Rattle.squawk_lexer.proofs.Steps.{ne-eqb, get_some, mapped, drop_some, drop_none, drop_read, drop_past, within_read, within_some, behind_some, behind_none, behind_within, behind_past, behind_on}
 
 -- what quoted text from i on is said by, where v is what is left of the text there
@@ -59,38 +61,58 @@ quoted_stop e q u i some here next = by (cases_lt (i + 1) (length u))
 pub quoted_end : (e : Bool) (q : ℕ) (u : List ℕ) (i : ℕ) → None ≡ slice_get u i → (quoted e q u i ≡ i) × (is_terminated e q u i ≡ false)
 quoted_end e q u i s = rw (drop_none u i s) (omega arith, refl)
 
--- the same, with the premises that the loop has and the conclusion that its invariant asks for
-pub quoted_step_plain : (e : Bool) (q : ℕ) (u : List ℕ) (i c : ℕ) → Some c ≡ slice_get u i → (c ≡ q → ⊥) → (e && eqb c 92) ≡ false
-    → (quoted e q u i ≡ quoted e q u (behind u i)) × (is_terminated e q u i ≡ is_terminated e q u (behind u i))
-quoted_step_plain e q u i c s other plain =
-    let p = quoted_plain e q u i c s (ne-eqb c q other) plain in
-    rw (behind_some u i c s) (sym p.0, sym p.1)
+-- ---- up to the next quote or backslash that escapes
 
-pub quoted_step_pair : (e : Bool) (q : ℕ) (u : List ℕ) (i c : ℕ) → Some c ≡ slice_get u i → c ≡ q → 0 < q → get_or u (behind u i) 0 ≡ q
-    → (quoted e q u i ≡ quoted e q u (behind u (behind u i))) × (is_terminated e q u i ≡ is_terminated e q u (behind u (behind u i)))
-quoted_step_pair e q u i c s same some next =
-    let b = behind_some u i c s in
-    let next_is : get_or u (i + 1) 0 ≡ q = rw b at next in
-    let k : i + 1 < length u = within_read u (i + 1) (omega arith) in
-    let two : i + 1 + 1 ≡ i + 2 = omega arith in
-    let p = quoted_pair e q u i some (get_some u i c s ∙ same) next_is in
-    rw (b, behind_within u (i + 1) k, two) (sym p.0, sym p.1)
+plain_not : (e : Bool) (q c : ℕ) → is_other q (cond e 92 q) c ≡ true → (eqb c q ≡ false) × ((e && eqb c 92) ≡ false)
+plain_not true q c t = let n = other_not q 92 c t in (ne-eqb c q n.0, ne-eqb c 92 n.1)
+plain_not false q c t = let n = other_not q q c t in (ne-eqb c q n.0, refl)
 
-pub quoted_step_escaped : (e : Bool) (q : ℕ) (u : List ℕ) (i c : ℕ) → Some c ≡ slice_get u i → (c ≡ q → ⊥) → (e && eqb c 92) ≡ true
-    → (quoted e q u i ≡ quoted e q u (behind u (behind u i))) × (is_terminated e q u i ≡ is_terminated e q u (behind u (behind u i)))
-quoted_step_escaped false q u i c s other escape = absurd (cc)
-quoted_step_escaped true q u i c s other escape =
-    let p = quoted_escaped q u i c s (ne-eqb c q other) escape in
-    rw (behind_some u i c s) (sym p.0, sym p.1)
+quoted_passed : (e : Bool) (q : ℕ) (u : List ℕ) (i : ℕ)
+    → (quoted e q u i ≡ quoted e q u (stop_at q (cond e 92 q) u i)) × (is_terminated e q u i ≡ is_terminated e q u (stop_at q (cond e 92 q) u i))
+unfolding stop_at
+quoted_passed e q u i = (
+  run_kept (quoted e q u) (is_other q (cond e 92 q)) u (λ k c s t. let n = plain_not e q c t in sym (quoted_plain e q u k c s n.0 n.1).0) i,
+  run_kept (is_terminated e q u) (is_other q (cond e 92 q)) u (λ k c s t. let n = plain_not e q c t in sym (quoted_plain e q u k c s n.0 n.1).1) i,
+)
 
-pub quoted_step_stop : (e : Bool) (q : ℕ) (u : List ℕ) (i c : ℕ) → Some c ≡ slice_get u i → c ≡ q → 0 < q → (get_or u (behind u i) 0 ≡ q → ⊥)
-    → (quoted e q u i ≡ behind u i) × (is_terminated e q u i ≡ true)
-quoted_step_stop e q u i c s same some next =
-    let b = behind_some u i c s in
-    let p = quoted_stop e q u i some (get_some u i c s ∙ same) (ne-eqb _ q (rw b at next)) in
-    rw b (p.0, p.1)
+-- what stops the text at i, with the premises that the loop has and the conclusion that its invariant asks for, where o is
+-- the backslash with escapes, and else the quote
+pub quoted_step_pair : (e : Bool) (q o : ℕ) (u : List ℕ) (i c : ℕ) → o ≡ cond e 92 q → Some c ≡ slice_get u (stop_at q o u i) → c ≡ q → 0 < q → get_or u (behind u (stop_at q o u i)) 0 ≡ q
+    → (quoted e q u i ≡ quoted e q u (behind u (behind u (stop_at q o u i)))) × (is_terminated e q u i ≡ is_terminated e q u (behind u (behind u (stop_at q o u i))))
+quoted_step_pair e q o u i c which s same some next =
+    let j = stop_at q o u i in
+    let b = behind_some u j c s in
+    let next_is : get_or u (j + 1) 0 ≡ q = rw b at next in
+    let k : j + 1 < length u = within_read u (j + 1) (omega arith) in
+    let two : j + 1 + 1 ≡ j + 2 = omega arith in
+    let first = quoted_passed e q u i in
+    let p = quoted_pair e q u j some (get_some u j c s ∙ same) next_is in
+    rw (b, behind_within u (j + 1) k, two) (rw (← which) at (first.0) ∙ sym p.0, rw (← which) at (first.1) ∙ sym p.1)
 
-pub quoted_step_end : (e : Bool) (q : ℕ) (u : List ℕ) (i : ℕ) → None ≡ slice_get u i → (quoted e q u i ≡ behind u i) × (is_terminated e q u i ≡ false)
-quoted_step_end e q u i s = rw (behind_none u i s) (quoted_end e q u i s)
+pub quoted_step_escaped : (e : Bool) (q o : ℕ) (u : List ℕ) (i c : ℕ) → o ≡ cond e 92 q → Some c ≡ slice_get u (stop_at q o u i) → (c ≡ q → ⊥)
+    → (quoted e q u i ≡ quoted e q u (behind u (behind u (stop_at q o u i)))) × (is_terminated e q u i ≡ is_terminated e q u (behind u (behind u (stop_at q o u i))))
+quoted_step_escaped false q o u i c which s other = absurd (other (stop_is q o u i c s other ∙ which))
+quoted_step_escaped true q o u i c which s other =
+    let j = stop_at q o u i in
+    let first = quoted_passed true q u i in
+    let back : c ≡ 92 = stop_is q o u i c s other ∙ which in
+    let p = quoted_escaped q u j c s (ne-eqb c q other) (eq-eqb c 92 back) in
+    rw (behind_some u j c s) (rw (← which) at (first.0) ∙ sym p.0, rw (← which) at (first.1) ∙ sym p.1)
 
-pub ruleset quoted_steps = (quoted_step_plain, quoted_step_pair, quoted_step_escaped, quoted_step_stop, quoted_step_end, behind_some, behind_on, within_some)
+pub quoted_step_stop : (e : Bool) (q o : ℕ) (u : List ℕ) (i c : ℕ) → o ≡ cond e 92 q → Some c ≡ slice_get u (stop_at q o u i) → c ≡ q → 0 < q → (get_or u (behind u (stop_at q o u i)) 0 ≡ q → ⊥)
+    → (quoted e q u i ≡ behind u (stop_at q o u i)) × (is_terminated e q u i ≡ true)
+quoted_step_stop e q o u i c which s same some next =
+    let j = stop_at q o u i in
+    let b = behind_some u j c s in
+    let first = quoted_passed e q u i in
+    let p = quoted_stop e q u j some (get_some u j c s ∙ same) (ne-eqb _ q (rw b at next)) in
+    rw b (rw (← which) at (first.0) ∙ p.0, rw (← which) at (first.1) ∙ p.1)
+
+pub quoted_step_end : (e : Bool) (q o : ℕ) (u : List ℕ) (i : ℕ) → o ≡ cond e 92 q → None ≡ slice_get u (stop_at q o u i)
+    → (quoted e q u i ≡ behind u (stop_at q o u i)) × (is_terminated e q u i ≡ false)
+quoted_step_end e q o u i which s =
+    let first = quoted_passed e q u i in
+    let p = quoted_end e q u (stop_at q o u i) s in
+    rw (behind_none u (stop_at q o u i) s) (rw (← which) at (first.0) ∙ p.0, rw (← which) at (first.1) ∙ p.1)
+
+pub ruleset quoted_steps = (quoted_step_pair, quoted_step_escaped, quoted_step_stop, quoted_step_end, stop_behind, behind_on)

@@ -1,14 +1,13 @@
 -- What the first characters of a token begin, with the premises that the code has.
-use Rattle.std.proofs.Common.{◌≡◌, ℕ, ◌+◌, ◌<◌, true, List, length, get_or, refl, sym, subst, ◌∙◌, Bool, false, ◌&&◌, cond, eqb, eqb-true, arith}
+use Rattle.std.proofs.Common.{◌≡◌, ℕ, ◌<◌, true, List, length, get_or, refl, sym, subst, ◌∙◌, Bool, false, ◌&&◌, cond, eqb, eqb-true, arith}
 use Rattle.std.proofs.lemmas.Bool.Decides.{nat_tests}
 use Rattle.squawk_lexer.specs.declared.token.Strings.{Strings}
 use Rattle.squawk_lexer.specs.declared.lexer.Start.{Start}
 use Rattle.squawk_lexer.specs.declared.lexer.Start.TheVariants.{White, LineComment, BlockComment, String, QuotedIdent, Word, Dollar, Number, DotDot, Fraction, Psql, Symbol}
 use Rattle.squawk_lexer.specs.Place.{behind}
-use Rattle.squawk_lexer.specs.Runs.{run}
 use Rattle.squawk_lexer.specs.Classes.{is_white, is_id_start, is_digit}
 use Rattle.squawk_lexer.specs.Token.{start, begun, lexeme_of}
-use Rattle.squawk_lexer.proofs.Steps.{behind_read, behind_within, run_first}
+use Rattle.squawk_lexer.proofs.Steps.{behind_read, behind_within}
 
 -- the test of each row
 abbrev row_test : Start → ℕ → ℕ → Bool
@@ -89,43 +88,32 @@ start_block c d e = let t = row_fits BlockComment c d e in grind (arith, nat_tes
 start_dots : (c d : ℕ) → DotDot ≡ start c d → 0 < d
 start_dots c d e = let t = row_fits DotDot c d e in grind (arith, nat_tests)
 
-start_dollar : (c d : ℕ) → Dollar ≡ start c d → c ≡ 36
-start_dollar c d e = eqb-true c 36 (row_fits Dollar c d e)
-
-pub start_psql : (c d : ℕ) → Psql ≡ start c d → c ≡ 92
-start_psql c d e = eqb-true c 92 (row_fits Psql c d e)
-
-pub begin_white : (u : List ℕ) (i c d : ℕ) → i ≡ 0 → 0 < length u → c ≡ get_or u i 0 → White ≡ start c d → run is_white u (behind u i) ≡ run is_white u 0
-begin_white u i c d none some first e =
-    let here : is_white (get_or u 0 0) ≡ true = subst (λ x. is_white x ≡ true) (rw none at first) (start_white c d e) in
-    rw none (sym (run_first is_white u some here))
-
-pub begin_line : (u : List ℕ) (i c d : ℕ) → i ≡ 0 → 0 < length u → d ≡ get_or u (i + 1) 0 → LineComment ≡ start c d → (behind u i ≡ 1) × (behind u (behind u i) ≡ 2)
-begin_line u i c d none some second e =
+two : (u : List ℕ) (i : ℕ) → i ≡ 0 → 0 < length u → 0 < get_or u 1 0 → (behind u i ≡ 1) × (behind u (behind u i) ≡ 2)
+two u i none some second =
     let one : behind u 0 ≡ 1 = behind_within u 0 some in
-    let two : behind u 1 ≡ 2 = behind_read u 1 (subst (λ x. 0 < x) (rw none at second) (start_line c d e)) in
-    rw (none, one) (refl, two)
+    let next : behind u 1 ≡ 2 = behind_read u 1 second in
+    rw (none, one) (refl, next)
 
-pub begin_block : (u : List ℕ) (i c d : ℕ) → i ≡ 0 → 0 < length u → d ≡ get_or u (i + 1) 0 → BlockComment ≡ start c d → (behind u i ≡ 1) × (behind u (behind u i) ≡ 2)
-begin_block u i c d none some second e =
-    let one : behind u 0 ≡ 1 = behind_within u 0 some in
-    let two : behind u 1 ≡ 2 = behind_read u 1 (subst (λ x. 0 < x) (rw none at second) (start_block c d e)) in
-    rw (none, one) (refl, two)
+pub begin_line : (u : List ℕ) (i : ℕ) → i ≡ 0 → 0 < length u → LineComment ≡ start (get_or u 0 0) (get_or u 1 0) → (behind u i ≡ 1) × (behind u (behind u i) ≡ 2)
+begin_line u i none some e = two u i none some (start_line _ _ e)
 
-pub begin_dots : (u : List ℕ) (i c d : ℕ) → i ≡ 0 → 0 < length u → d ≡ get_or u (i + 1) 0 → DotDot ≡ start c d → (behind u i ≡ 1) × (behind u (behind u i) ≡ 2)
-begin_dots u i c d none some second e =
-    let one : behind u 0 ≡ 1 = behind_within u 0 some in
-    let two : behind u 1 ≡ 2 = behind_read u 1 (subst (λ x. 0 < x) (rw none at second) (start_dots c d e)) in
-    rw (none, one) (refl, two)
+pub begin_block : (u : List ℕ) (i : ℕ) → i ≡ 0 → 0 < length u → BlockComment ≡ start (get_or u 0 0) (get_or u 1 0) → (behind u i ≡ 1) × (behind u (behind u i) ≡ 2)
+begin_block u i none some e = two u i none some (start_block _ _ e)
 
-pub begin_dollar : (u : List ℕ) (i c d : ℕ) → i ≡ 0 → c ≡ get_or u i 0 → Dollar ≡ start c d → get_or u 0 0 ≡ 36
-begin_dollar u i c d none first e = sym (rw none at first) ∙ start_dollar c d e
+pub begin_dots : (u : List ℕ) (i : ℕ) → i ≡ 0 → 0 < length u → DotDot ≡ start (get_or u 0 0) (get_or u 1 0) → (behind u i ≡ 1) × (behind u (behind u i) ≡ 2)
+begin_dots u i none some e = two u i none some (start_dots _ _ e)
 
-pub begin_psql : (u : List ℕ) (i c d : ℕ) → i ≡ 0 → c ≡ get_or u i 0 → Psql ≡ start c d → get_or u 0 0 ≡ 92
-begin_psql u i c d none first e = sym (rw none at first) ∙ start_psql c d e
+pub begin_word : (u : List ℕ) → Word ≡ start (get_or u 0 0) (get_or u 1 0) → is_id_start (get_or u 0 0) ≡ true
+begin_word u e = row_fits Word (get_or u 0 0) (get_or u 1 0) e
+
+pub begin_dollar : (u : List ℕ) → Dollar ≡ start (get_or u 0 0) (get_or u 1 0) → get_or u 0 0 ≡ 36
+begin_dollar u e = eqb-true (get_or u 0 0) 36 (row_fits Dollar (get_or u 0 0) (get_or u 1 0) e)
+
+pub begin_psql : (u : List ℕ) → Psql ≡ start (get_or u 0 0) (get_or u 1 0) → get_or u 0 0 ≡ 92
+begin_psql u e = eqb-true (get_or u 0 0) 92 (row_fits Psql (get_or u 0 0) (get_or u 1 0) e)
 
 -- the row of a token, with the premises that the code has
-pub row : (strings : Strings) (u : List ℕ) (i c d : ℕ) (s : Start) → i ≡ 0 → c ≡ get_or u i 0 → d ≡ get_or u (i + 1) 0 → s ≡ start c d → lexeme_of strings u ≡ begun strings s u
-row strings u i c d s none first second e = rw (e, first, second, none) refl
+pub row : (strings : Strings) (u : List ℕ) (s : Start) → s ≡ start (get_or u 0 0) (get_or u 1 0) → lexeme_of strings u ≡ begun strings s u
+row strings u s e = rw e refl
 
-pub ruleset start_steps = (begin_white, begin_line, begin_block, begin_dollar, begin_psql, begin_dots, behind_within)
+pub ruleset start_steps = (begin_line, begin_block, begin_word, begin_dollar, begin_psql, begin_dots, behind_within)

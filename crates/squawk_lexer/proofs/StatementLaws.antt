@@ -23,7 +23,7 @@ use Rattle.squawk_lexer.proofs.TokenLaws.{lexeme_at_some, is_semi, IsOther, eith
 use Rattle.squawk_lexer.proofs.WithinLaws.{tokens_within}
 use Rattle.squawk_lexer.proofs.CutLaws.{tokens_first, tokens_none}
 use Rattle.squawk_lexer.proofs.Steps.{within_read, and_false}
-use Rattle.squawk_lexer.proofs.StartSteps.{start_psql}
+use Rattle.squawk_lexer.proofs.StartSteps.{begin_psql}
 use Rattle.squawk_lexer.proofs.Ahead.{Alike}
 use Rattle.squawk_lexer.proofs.AheadTokens.{token_from, lexeme_same}
 
@@ -58,7 +58,7 @@ begun_semi strings Dollar u r e = unlike (dollar u) _ (dollar_other u) e
 begun_semi strings Number u r e = unlike (number u) _ (number_other u) e
 begun_semi strings DotDot u r e = absurd (cc)
 begun_semi strings Fraction u r e = unlike (fractional u 1) _ (fractional_other u 1) e
-begun_semi strings Psql u r e = inr (start_psql (get_or u 0 0) (get_or u 1 0) (sym r), psql_semi u e)
+begun_semi strings Psql u r e = inr (begin_psql u (sym r), psql_semi u e)
 begun_semi strings Symbol u r e = inl (symbol_semi (get_or u 0 0) e)
 
 lexeme_semi : (strings : Strings) (s : Bool) (u : List ℕ) → (lexeme_at strings s u).kind ≡ kinds.Semi → BeginsSemi u

@@ -163,17 +163,21 @@ dollar_in u h =
     (λ t. end_in u (tag_end u + 1) (closing u) (read_in u (tag_end u) 36 (omega arith) t) (find_in (delimiter u) (drop (tag_end u + 1) u)))
     (junk_in u (run is_digit u 1) (run_in is_digit u 1 h))
 
+-- both characters that begin a token are there
+pair_in : (u : List ℕ) → 1 ≤ length u → (behind u 0 ≡ 1) × (behind u (behind u 0) ≡ 2) → 2 ≤ length u
+pair_in u h (one, two) = behind_in u (behind u 0) 2 (behind_in u 0 _ (omega arith) refl) two
+
 opened_in : (s : Opening) (u : List ℕ) → s ≡ opening (get_or u 0 0) (get_or u 1 0) (get_or u 2 0) → 1 ≤ length u → (opened s u).end ≤ length u
-opened_in National u e h = quoted_in false apostrophe u 2 (behind_in u 1 2 h (opens_national u 1 _ _ _ refl refl e))
-opened_in Bit u e h = quoted_in false apostrophe u 2 (behind_in u 1 2 h (opens_bit u 1 _ _ _ refl refl e))
-opened_in Byte u e h = quoted_in false apostrophe u 2 (behind_in u 1 2 h (opens_byte u 1 _ _ _ refl refl e))
-opened_in Escape u e h = quoted_in true apostrophe u 2 (behind_in u 1 2 h (opens_escape u 1 _ _ _ refl refl e))
+opened_in National u e h = quoted_in false apostrophe u 2 (pair_in u h (opens_national u 0 refl e))
+opened_in Bit u e h = quoted_in false apostrophe u 2 (pair_in u h (opens_bit u 0 refl e))
+opened_in Byte u e h = quoted_in false apostrophe u 2 (pair_in u h (opens_byte u 0 refl e))
+opened_in Escape u e h = quoted_in true apostrophe u 2 (pair_in u h (opens_escape u 0 refl e))
 opened_in UnicodeString u e h =
-    let (two, three) = opens_string u 1 _ _ _ refl refl refl e in
-    quoted_in false apostrophe u 3 (behind_in u (behind u 1) 3 (behind_in u 1 _ h refl) three)
+    let (one, two, three) = opens_string u 0 refl e in
+    quoted_in false apostrophe u 3 (behind_in u (behind u (behind u 0)) 3 (behind_in u (behind u 0) _ (behind_in u 0 _ (omega arith) refl) refl) three)
 opened_in UnicodeIdent u e h =
-    let (two, three) = opens_ident u 1 _ _ _ refl refl refl e in
-    quoted_in false quotation_mark u 3 (behind_in u (behind u 1) 3 (behind_in u 1 _ h refl) three)
+    let (one, two, three) = opens_ident u 0 refl e in
+    quoted_in false quotation_mark u 3 (behind_in u (behind u (behind u 0)) 3 (behind_in u (behind u 0) _ (behind_in u 0 _ (omega arith) refl) refl) three)
 opened_in Plain u e h = run_in is_id_cont u 1 h
 
 -- ---- psql commands
@@ -223,20 +227,16 @@ psql_in u h =
 
 -- ---- every token
 
--- both characters that begin it are there
-pair_in : (u : List ℕ) → 1 ≤ length u → (behind u 0 ≡ 1) × (behind u (behind u 0) ≡ 2) → 2 ≤ length u
-pair_in u h (one, two) = behind_in u (behind u 0) 2 (behind_in u 0 _ (omega arith) refl) two
-
 begun_in : (strings : Strings) (s : Start) (u : List ℕ) → s ≡ row (get_or u 0 0) (get_or u 1 0) → 1 ≤ length u → (begun strings s u).end ≤ length u
 begun_in strings White u e h = run_in is_white u 0 (omega arith)
-begun_in strings LineComment u e h = run_in is_not_line_end u 2 (pair_in u h (begin_line u 0 _ _ refl h refl e))
-begun_in strings BlockComment u e h = end_in u 2 (comment_len 0 (drop 2 u)) (pair_in u h (begin_block u 0 _ _ refl h refl e)) (comment_in 0 (drop 2 u))
+begun_in strings LineComment u e h = run_in is_not_line_end u 2 (pair_in u h (begin_line u 0 refl h e))
+begun_in strings BlockComment u e h = end_in u 2 (comment_len 0 (drop 2 u)) (pair_in u h (begin_block u 0 refl h e)) (comment_in 0 (drop 2 u))
 begun_in strings String u e h = quoted_in _ apostrophe u 1 h
 begun_in strings QuotedIdent u e h = quoted_in false quotation_mark u 1 h
 begun_in strings Word u e h = opened_in (opening (get_or u 0 0) (get_or u 1 0) (get_or u 2 0)) u refl h
 begun_in strings Dollar u e h = dollar_in u h
 begun_in strings Number u e h = number_in u h
-begun_in strings DotDot u e h = pair_in u h (begin_dots u 0 _ _ refl h refl e)
+begun_in strings DotDot u e h = pair_in u h (begin_dots u 0 refl h e)
 begun_in strings Fraction u e h = fractional_in u 1 h
 begun_in strings Psql u e h = psql_in u h
 begun_in strings Symbol u e h = h

@@ -1,7 +1,9 @@
 pub mod Text
 pub mod Classes
+pub mod Bytes
 pub mod Place
 pub mod Runs
+pub mod Stops
 pub mod Quoted
 pub mod Comment
 pub mod CursorModel
@@ -11,6 +13,7 @@ pub mod Symbols
 pub mod Dollar
 pub mod PsqlWords
 pub mod PsqlParts
+pub mod PsqlQuotes
 pub mod PsqlArguments
 pub mod Psql
 pub mod Token

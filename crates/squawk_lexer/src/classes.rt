@@ -11,7 +11,6 @@ pub(crate) enum Class {
     Digit,
     NotLineEnd,
     TagCont,
-    NotDollar,
     CommandWord,
 }
 
@@ -55,10 +54,11 @@ pub(crate) fn is_hex_digit(c: char) -> bool
     c.is_ascii_hexdigit()
 }
 
-/// Whether the set has the character.
-pub(crate) fn is_in(class: Class, c: char) -> bool
-    ensures { result ≡ class_test class c }
+/// Whether the set has the character, or each that the byte begins.
+pub(crate) fn is_in(class: Class, b: u8) -> bool
+    ensures { result ≡ class_test class b }
 {
+    let c = b as char;
     match class {
         Class::White => is_white(c),
         Class::Blank => is_blank(c),
@@ -66,7 +66,6 @@ pub(crate) fn is_in(class: Class, c: char) -> bool
         Class::Digit => is_digit(c),
         Class::NotLineEnd => c != '\n' && c != '\r',
         Class::TagCont => is_id_cont(c) && c != '$',
-        Class::NotDollar => c != '$',
         Class::CommandWord => !is_white(c) && c != '\\',
     }
 }

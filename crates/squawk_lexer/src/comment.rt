@@ -34,6 +34,7 @@ impl<'a> Cursor<'a> {
     }
 
     /// Moves behind a block comment, from behind its opening, and tells whether it was closed.
+    #[inline(never)]
     #[tactic(auto, using(crate::proofs::CommentSteps::comment_steps))]
     pub(crate) fn block_comment(&mut self) -> bool
         ensures text { self.new.text ≡ self.old.text }
@@ -41,7 +42,7 @@ impl<'a> Cursor<'a> {
         ensures closed { result ≡ is_closed 0 self.old.text self.old.at }
     {
         let mut inner = 0usize;
-        while let Some(c) = self.bump() {
+        while let Some(c) = self.bump_to(b'/', b'*') {
             if opens(c, self.first()) {
                 self.bump();
                 inner += 1;

@@ -1,11 +1,8 @@
 //! Dollar strings and positional parameters.
-ghost use Rattle.std.specs.Prelude.{◌≡◌, ◌+◌, ◌<◌, ◌^◌, ◌==◌, drop, length, slice_index, is_some, nat_eq, true};
-ghost use Rattle.std.specs.List.{common_prefix_len};
-ghost use Rattle.std.specs.Str.{chars};
+ghost use Rattle.std.specs.Prelude.{◌≡◌, ◌+◌, slice_index};
 ghost use Rattle.squawk_lexer.specs.Kind.{lexeme};
 ghost use Rattle.squawk_lexer.specs.Classes.{is_id_start, dollar_sign};
-ghost use Rattle.squawk_lexer.specs.Quoted.{end_of};
-ghost use Rattle.squawk_lexer.specs.Dollar.{tag_end, find_end, is_delimiter, dollar_string, dollar, opens_dollar};
+ghost use Rattle.squawk_lexer.specs.Dollar.{tag_end, dollar_string, dollar};
 
 use crate::classes::{Class, is_id_start};
 use crate::cursor::Cursor;
@@ -13,6 +10,7 @@ use crate::token::{LiteralKind, TokenKind, literal};
 
 impl<'a> Cursor<'a> {
     /// Moves behind what a `$` begins, from behind it.
+    #[inline(never)]
     #[tactic(auto, using(crate::proofs::DollarSteps::dollar_steps))]
     pub(crate) fn dollar(&mut self) -> TokenKind
         requires first { slice_index self.old.text 0 ≡ dollar_sign }
@@ -52,7 +50,6 @@ impl<'a> Cursor<'a> {
     #[tactic(auto, using(crate::proofs::DollarSteps::delimiter_steps))]
     fn dollar_string(&mut self) -> TokenKind
         requires first { slice_index self.old.text 0 ≡ dollar_sign }
-        requires opens { opens_dollar self.old.text ≡ true }
         requires at { self.old.at ≡ tag_end self.old.text + 1 }
         ensures text { self.new.text ≡ self.old.text }
         ensures gives { lexeme result self.new.at ≡ dollar_string self.old.text }
@@ -60,41 +57,5 @@ impl<'a> Cursor<'a> {
         let delimiter = self.taken();
         let terminated = self.eat_through(delimiter);
         literal(LiteralKind::DollarQuotedString { terminated })
-    }
-
-    /// Moves behind the first place where the delimiter stands, or to the text's end, and tells whether it stands anywhere.
-    #[tactic(auto, using(crate::proofs::DollarSteps::search_steps))]
-    fn eat_through(&mut self, delimiter: &str) -> bool
-        requires delimiter { is_delimiter (chars delimiter.now) ≡ true }
-        requires fits { length delimiter.now < 2 ^ 32 }
-        ensures text { self.new.text ≡ self.old.text }
-        ensures at { self.new.at ≡ end_of self.old.text self.old.at (find_end (chars delimiter.now) (drop self.old.at self.old.text)) }
-        ensures found { result ≡ is_some (find_end (chars delimiter.now) (drop self.old.at self.old.text)) }
-    {
-        'search: while !self.is_eof() {
-            self.eat_while(Class::NotDollar);
-            if self.eat_same(delimiter) {
-                return true;
-            }
-        }
-        false
-    }
-
-    /// Moves behind the characters that agree with those of the text from its start on, and tells whether all of it stands there.
-    #[tactic(auto, using(crate::proofs::DollarSteps::same_steps))]
-    fn eat_same(&mut self, wanted: &str) -> bool
-        requires { length wanted.now < 2 ^ 32 }
-        ensures text { self.new.text ≡ self.old.text }
-        ensures at { self.new.at ≡ self.old.at + common_prefix_len nat_eq (chars wanted.now) (drop self.old.at self.old.text) }
-        ensures all { result ≡ (common_prefix_len nat_eq (chars wanted.now) (drop self.old.at self.old.text) == length (chars wanted.now)) }
-    {
-        let mut wanted = Cursor::new(wanted);
-        while let Some(c) = wanted.bump() {
-            if self.peek() != Some(c) {
-                return false;
-            }
-            self.bump();
-        }
-        true
     }
 }

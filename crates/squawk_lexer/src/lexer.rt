@@ -1,5 +1,5 @@
 //! The token at the front of a text.
-ghost use Rattle.std.specs.Prelude.{◌≡◌, ◌≢◌, ◌+◌, ◌<◌, ◌==◌, ◌^◌, ◌∷◌, length, drop, true, false};
+ghost use Rattle.std.specs.Prelude.{◌≡◌, ◌≢◌, ◌+◌, ◌<◌, ◌==◌, ◌^◌, ◌∷◌, length, drop, slice_index, true, false};
 ghost use Rattle.std.specs.Str.{chars, is_utf8, IsCharBoundary};
 ghost use Rattle.squawk_lexer.specs.Kind.{lexeme};
 ghost use Rattle.squawk_lexer.specs.Classes.{is_white};
@@ -9,7 +9,7 @@ ghost use Rattle.squawk_lexer.specs.Token.{start, lexeme_of, lexeme_at, token_at
 ghost use Rattle.squawk_lexer.specs.Cut.{tokens_from};
 ghost use Rattle.squawk_lexer.specs.LookAhead.{IsDecided, RestartsAt, PartsAt};
 
-use crate::classes::{Class, is_digit, is_id_start, is_white};
+use crate::classes::Class;
 use crate::cursor::Cursor;
 use crate::token::{LiteralKind, Strings, Token, TokenKind, literal};
 
@@ -18,37 +18,37 @@ pub const BOM: &str = "\u{feff}";
 
 /// A token of one character.
 #[tactic(auto, unfolding(crate::specs::Symbols::symbol))]
-fn symbol(c: char) -> TokenKind
-    ensures { result ≡ symbol c }
+fn symbol_of(b: u8) -> TokenKind
+    ensures { result ≡ symbol b }
 {
-    match c {
-        ';' => TokenKind::Semi,
-        ',' => TokenKind::Comma,
-        '(' => TokenKind::OpenParen,
-        ')' => TokenKind::CloseParen,
-        '[' => TokenKind::OpenBracket,
-        ']' => TokenKind::CloseBracket,
-        '{' => TokenKind::OpenCurly,
-        '}' => TokenKind::CloseCurly,
-        '@' => TokenKind::At,
-        '#' => TokenKind::Pound,
-        '~' => TokenKind::Tilde,
-        '?' => TokenKind::Question,
-        ':' => TokenKind::Colon,
-        '=' => TokenKind::Eq,
-        '!' => TokenKind::Bang,
-        '<' => TokenKind::Lt,
-        '>' => TokenKind::Gt,
-        '&' => TokenKind::And,
-        '|' => TokenKind::Or,
-        '+' => TokenKind::Plus,
-        '*' => TokenKind::Star,
-        '^' => TokenKind::Caret,
-        '%' => TokenKind::Percent,
-        '`' => TokenKind::Backtick,
-        '-' => TokenKind::Minus,
-        '/' => TokenKind::Slash,
-        '.' => TokenKind::Dot,
+    match b {
+        b';' => TokenKind::Semi,
+        b',' => TokenKind::Comma,
+        b'(' => TokenKind::OpenParen,
+        b')' => TokenKind::CloseParen,
+        b'[' => TokenKind::OpenBracket,
+        b']' => TokenKind::CloseBracket,
+        b'{' => TokenKind::OpenCurly,
+        b'}' => TokenKind::CloseCurly,
+        b'@' => TokenKind::At,
+        b'#' => TokenKind::Pound,
+        b'~' => TokenKind::Tilde,
+        b'?' => TokenKind::Question,
+        b':' => TokenKind::Colon,
+        b'=' => TokenKind::Eq,
+        b'!' => TokenKind::Bang,
+        b'<' => TokenKind::Lt,
+        b'>' => TokenKind::Gt,
+        b'&' => TokenKind::And,
+        b'|' => TokenKind::Or,
+        b'+' => TokenKind::Plus,
+        b'*' => TokenKind::Star,
+        b'^' => TokenKind::Caret,
+        b'%' => TokenKind::Percent,
+        b'`' => TokenKind::Backtick,
+        b'-' => TokenKind::Minus,
+        b'/' => TokenKind::Slash,
+        b'.' => TokenKind::Dot,
         _ => TokenKind::Unknown,
     }
 }
@@ -70,26 +70,46 @@ enum Start {
 }
 
 #[tactic(auto, unfolding(crate::specs::Token::start))]
-fn start_of(first: char, second: char) -> Start
+fn start_of(first: u8, second: u8) -> Start
     ensures { result ≡ start first second }
 {
-    match (first, second) {
-        (c, _) if is_white(c) => Start::White,
-        ('-', '-') => Start::LineComment,
-        ('/', '*') => Start::BlockComment,
-        ('\'', _) => Start::String,
-        ('"', _) => Start::QuotedIdent,
-        (c, _) if is_id_start(c) => Start::Word,
-        ('$', _) => Start::Dollar,
-        (c, _) if is_digit(c) => Start::Number,
-        ('.', '.') => Start::DotDot,
-        ('.', d) if is_digit(d) => Start::Fraction,
-        ('\\', _) => Start::Psql,
+    match first {
+        b'\t'..=b'\r' | b' ' => Start::White,
+        b'-' if second == b'-' => Start::LineComment,
+        b'/' if second == b'*' => Start::BlockComment,
+        b'\'' => Start::String,
+        b'"' => Start::QuotedIdent,
+        b'a'..=b'z' | b'A'..=b'Z' | b'_' | 0x80.. => Start::Word,
+        b'$' => Start::Dollar,
+        b'0'..=b'9' => Start::Number,
+        b'.' if second == b'.' => Start::DotDot,
+        b'.' if second.is_ascii_digit() => Start::Fraction,
+        b'\\' => Start::Psql,
         _ => Start::Symbol,
     }
 }
 
 impl<'a> Cursor<'a> {
+    /// What the first two characters begin.
+    fn begins(&self) -> Start
+        requires { self.now.at ≡ 0 }
+        ensures { result ≡ start (slice_index self.now.text 0) (slice_index self.now.text 1) }
+    {
+        start_of(self.byte(0), self.byte(1))
+    }
+
+    /// Moves behind a token of one character.
+    fn symbol(&mut self) -> TokenKind
+        requires at { self.old.at ≡ 0 }
+        requires some { 0 < length self.old.text }
+        ensures text { self.new.text ≡ self.old.text }
+        ensures gives { lexeme result self.new.at ≡ lexeme (symbol (slice_index self.old.text 0)) 1 }
+    {
+        let kind = symbol_of(self.byte(0));
+        self.bump();
+        kind
+    }
+
     /// Moves behind white characters.
     fn whitespace(&mut self) -> TokenKind
         ensures text { self.new.text ≡ self.old.text }
@@ -107,32 +127,51 @@ impl<'a> Cursor<'a> {
         ensures text { self.new.text ≡ self.old.text }
         ensures gives { lexeme result self.new.at ≡ lexeme_of strings self.old.text }
     {
-        let first = self.first();
-        let start = start_of(first, self.second());
-        self.bump();
-        match start {
+        match self.begins() {
             Start::White => self.whitespace(),
-            Start::LineComment => self.line_comment(),
+            Start::LineComment => {
+                self.bump();
+                self.line_comment()
+            }
             Start::BlockComment => {
+                self.bump();
                 self.bump();
                 let terminated = self.block_comment();
                 TokenKind::BlockComment { terminated }
             }
             Start::String => {
-                let terminated = self.quoted('\'', strings.has_escapes());
+                self.bump();
+                let terminated = self.quoted(b'\'', strings.has_escapes());
                 literal(LiteralKind::Str { terminated })
             }
-            Start::QuotedIdent => self.quoted_ident(false),
-            Start::Word => self.word(first),
-            Start::Dollar => self.dollar(),
-            Start::Number => self.number(first),
+            Start::QuotedIdent => {
+                self.bump();
+                self.quoted_ident(false)
+            }
+            Start::Word => self.word(),
+            Start::Dollar => {
+                self.bump();
+                self.dollar()
+            }
+            Start::Number => {
+                let first = self.first();
+                self.bump();
+                self.number(first)
+            }
             Start::DotDot => {
+                self.bump();
                 self.bump();
                 TokenKind::DotDot
             }
-            Start::Fraction => self.fractional(),
-            Start::Psql => self.psql_command(),
-            Start::Symbol => symbol(first),
+            Start::Fraction => {
+                self.bump();
+                self.fractional()
+            }
+            Start::Psql => {
+                self.bump();
+                self.psql_command()
+            }
+            Start::Symbol => self.symbol(),
         }
     }
 }

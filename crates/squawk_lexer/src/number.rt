@@ -88,6 +88,7 @@ impl<'a> Cursor<'a> {
     }
 
     /// Moves behind a number, whose point stands before the place.
+    #[inline(never)]
     pub(crate) fn fractional(&mut self) -> TokenKind
         ensures text { self.new.text ≡ self.old.text }
         ensures gives { lexeme result self.new.at ≡ fractional self.old.text self.old.at }
@@ -138,6 +139,7 @@ impl<'a> Cursor<'a> {
     }
 
     /// Moves behind a number, from behind its first digit.
+    #[inline(never)]
     #[tactic(auto, using(crate::proofs::NumberSteps::number_steps))]
     pub(crate) fn number(&mut self, first: char) -> TokenKind
         requires first { first ≡ slice_index self.old.text 0 }

@@ -1,14 +1,18 @@
 //! psql commands.
-ghost use Rattle.std.specs.Prelude.{◌≡◌, ◌+◌, ◌||◌, ◌&&◌, ◌==◌, not, drop, slice_index, slice_get, unwrap_or, is_some, Some, true, codes};
+ghost use Rattle.std.specs.Prelude.{◌≡◌, ◌≢◌, ℕ, ◌<◌, ◌≤◌, ◌+◌, length, take, ◌||◌, ◌&&◌, ◌==◌, not, drop, slice_index, slice_get, unwrap_or, is_some, Some, true, false, codes};
 ghost use Rattle.std.specs.Str.{chars, str_eq_ignore_ascii_case};
 ghost use Rattle.squawk_lexer.specs.Kind.{lexeme};
 ghost use Rattle.squawk_lexer.specs.Classes.{is_line_end, backslash};
 ghost use Rattle.squawk_lexer.specs.PsqlWords.{is_among, query_ending_words, pipe_words, option_words, whole_line_words, takes_line};
+ghost use Rattle.squawk_lexer.specs.Text.{bytes};
+ghost use Rattle.squawk_lexer.specs.Runs.{line};
+ghost use Rattle.squawk_lexer.specs.PsqlQuotes.{close_end, last_before, piece_stop};
 ghost use Rattle.squawk_lexer.specs.PsqlParts.{is_quote, is_pair, close_len, quote_len, last_inside, ends_arguments, part_rest, args_len, args, mark_behind, is_parenthesis, marked};
 ghost use Rattle.squawk_lexer.specs.Psql.{word_end, word, options_end, output_start, output_end, command_end, psql};
 
 use crate::classes::{Class, is_blank};
 use crate::cursor::Cursor;
+use crate::quoted::second_stop;
 use crate::token::TokenKind;
 
 /// The commands that send the query buffer, end it or throw it away.
@@ -109,6 +113,7 @@ fn is_parenthesis(mark: Option<char>) -> bool
 
 impl<'a> Cursor<'a> {
     /// Moves behind what a backslash begins, from behind it.
+    #[inline(never)]
     pub(crate) fn psql_command(&mut self) -> TokenKind
         requires first { slice_index self.old.text 0 ≡ backslash }
         requires at { self.old.at ≡ 1 }
@@ -265,19 +270,57 @@ impl<'a> Cursor<'a> {
         ensures at { self.new.at ≡ self.old.at + quote_len quote (drop self.old.at self.old.text) }
         ensures last { result ≡ last_inside (drop self.old.at self.old.text) (close_len quote (drop self.old.at self.old.text)) }
     {
-        let mut last = None;
+        let start = self.position();
+        self.pass_pieces(quote);
         while let Some(c) = self.peek()
             && !is_line_end(c)
         {
-            self.bump();
             if c == quote {
+                let last = self.last_since(start);
+                self.bump();
                 return last;
             }
-            last = Some(c);
-            if is_pair(quote, c, self.first()) {
-                last = self.bump();
-            }
+            self.eat_piece(quote);
+            self.pass_pieces(quote);
         }
         None
+    }
+
+    /// Moves to what may close the quote or begin a pair, or to the end of the line.
+    fn pass_pieces(&mut self, quote: char)
+        requires { is_quote quote ≡ true }
+        ensures text { self.new.text ≡ self.old.text }
+        ensures at { self.new.at ≡ piece_stop quote self.old.text self.old.at }
+    {
+        let quote = quote as u8;
+        self.pass_inside(quote, second_stop(quote, quote == b'\''));
+    }
+
+    /// Moves behind a piece of a quote, which no quote and no line end begins.
+    fn eat_piece(&mut self, quote: char)
+        requires some { self.old.at < length self.old.text }
+        requires plain { is_line_end (slice_index self.old.text self.old.at) ≡ false }
+        requires other { slice_index self.old.text self.old.at ≢ quote }
+        ensures text { self.new.text ≡ self.old.text }
+        ensures close { close_end quote self.new.text self.new.at ≡ close_end quote self.old.text self.old.at }
+        ensures line { line self.new.text self.new.at ≡ line self.old.text self.old.at }
+        ensures on { self.old.at < self.new.at }
+    {
+        let first = self.first();
+        self.bump();
+        if is_pair(quote, first, self.first()) {
+            self.bump();
+        }
+    }
+
+    /// The last character since the byte `start`, if one comes behind it.
+    fn last_since(&self, start: u32) -> Option<char>
+        requires { self.now.at ≤ length self.now.text }
+        ensures { (i : ℕ) → i ≤ self.now.at → start ≡ bytes (take i self.now.text) → result ≡ last_before self.now.text i self.now.at }
+    {
+        if self.position() == start {
+            return None;
+        }
+        self.previous()
     }
 }

@@ -1,8 +1,8 @@
 //! Words, and the texts in quotes that a letter or two before the quote name.
-ghost use Rattle.std.specs.Prelude.{◌≡◌, ◌+◌, slice_index};
+ghost use Rattle.std.specs.Prelude.{◌≡◌, slice_index, true};
 ghost use Rattle.squawk_lexer.specs.Kind.{lexeme};
 ghost use Rattle.squawk_lexer.specs.Place.{behind};
-ghost use Rattle.squawk_lexer.specs.Classes.{apostrophe};
+ghost use Rattle.squawk_lexer.specs.Classes.{apostrophe, is_id_start};
 ghost use Rattle.squawk_lexer.specs.Quoted.{quoted, is_terminated};
 ghost use Rattle.squawk_lexer.specs.Token.{opening, word, quoted_ident};
 
@@ -22,29 +22,47 @@ enum Opening {
 }
 
 #[tactic(auto, unfolding(crate::specs::Token::opening))]
-fn opening_of(first: char, second: char, third: char) -> Opening
+fn opening_of(first: u8, second: u8, third: u8) -> Opening
     ensures { result ≡ opening first second third }
 {
-    match (first, second) {
-        ('n' | 'N', '\'') => Opening::National,
-        ('b' | 'B', '\'') => Opening::Bit,
-        ('x' | 'X', '\'') => Opening::Byte,
-        ('e' | 'E', '\'') => Opening::Escape,
-        ('u' | 'U', '&') if third == '\'' => Opening::UnicodeString,
-        ('u' | 'U', '&') if third == '"' => Opening::UnicodeIdent,
+    // Most words are plain, which their second byte tells.
+    match second {
+        b'\'' => match first {
+            b'n' | b'N' => Opening::National,
+            b'b' | b'B' => Opening::Bit,
+            b'x' | b'X' => Opening::Byte,
+            b'e' | b'E' => Opening::Escape,
+            _ => Opening::Plain,
+        },
+        b'&' => match (first, third) {
+            (b'u' | b'U', b'\'') => Opening::UnicodeString,
+            (b'u' | b'U', b'"') => Opening::UnicodeIdent,
+            _ => Opening::Plain,
+        },
         _ => Opening::Plain,
     }
 }
 
 impl<'a> Cursor<'a> {
-    /// Moves behind a string, whose opening quote stands at the place, and tells whether a quote ended it.
+    /// What the first three characters open.
+    fn opens(&self) -> Opening
+        requires { self.now.at ≡ 0 }
+        ensures { result ≡ opening (slice_index self.now.text 0) (slice_index self.now.text 1) (slice_index self.now.text 2) }
+    {
+        opening_of(self.byte(0), self.byte(1), self.byte(2))
+    }
+
+    /// Moves behind a string, of which one character comes before the opening quote, and tells whether a quote ended it.
     fn string(&mut self, escapes: bool) -> bool
         ensures text { self.new.text ≡ self.old.text }
-        ensures at { self.new.at ≡ quoted escapes apostrophe self.old.text (behind self.old.text self.old.at) }
-        ensures terminated { result ≡ is_terminated escapes apostrophe self.old.text (behind self.old.text self.old.at) }
+        ensures at { self.new.at
+            ≡ quoted escapes apostrophe self.old.text (behind self.old.text (behind self.old.text self.old.at)) }
+        ensures terminated { result
+            ≡ is_terminated escapes apostrophe self.old.text (behind self.old.text (behind self.old.text self.old.at)) }
     {
         self.bump();
-        self.quoted('\'', escapes)
+        self.bump();
+        self.quoted(b'\'', escapes)
     }
 
     /// Moves behind an identifier in quotes, from behind the opening quote.
@@ -52,22 +70,22 @@ impl<'a> Cursor<'a> {
         ensures text { self.new.text ≡ self.old.text }
         ensures gives { lexeme result self.new.at ≡ quoted_ident uescape self.old.text self.old.at }
     {
-        let terminated = self.quoted('"', false);
+        let terminated = self.quoted(b'"', false);
         TokenKind::QuotedIdent {
             terminated,
             uescape,
         }
     }
 
-    /// Moves behind a word or what its first letters open, from behind the first.
+    /// Moves behind a word or what its first letters open.
     #[tactic(auto, using(crate::proofs::WordSteps::word_steps))]
-    pub(crate) fn word(&mut self, first: char) -> TokenKind
-        requires first { first ≡ slice_index self.old.text 0 }
-        requires at { self.old.at ≡ 1 }
+    pub(crate) fn word(&mut self) -> TokenKind
+        requires at { self.old.at ≡ 0 }
+        requires first { is_id_start (slice_index self.old.text 0) ≡ true }
         ensures text { self.new.text ≡ self.old.text }
         ensures gives { lexeme result self.new.at ≡ word self.old.text }
     {
-        match opening_of(first, self.first(), self.second()) {
+        match self.opens() {
             Opening::National => {
                 let terminated = self.string(false);
                 literal(LiteralKind::NationalStr { terminated })
@@ -90,6 +108,7 @@ impl<'a> Cursor<'a> {
                 literal(LiteralKind::UnicodeEscStr { terminated })
             }
             Opening::UnicodeIdent => {
+                self.bump();
                 self.bump();
                 self.bump();
                 self.quoted_ident(true)

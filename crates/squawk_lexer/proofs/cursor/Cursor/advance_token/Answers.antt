@@ -1,15 +1,10 @@
 use Rattle.std.proofs.Common.{sym, ◌∙◌}
-use Rattle.squawk_lexer.specs.declared.lexer.Start.TheVariants.{String, Number}
+use Rattle.squawk_lexer.specs.declared.lexer.Start.TheVariants.{String}
 use Rattle.squawk_lexer.proofs.Steps.{behind_within}
 use Rattle.squawk_lexer.proofs.StartSteps.{row}
 use Rattle.squawk_lexer.proofs.cursor.Cursor.advance_token.Goals as goal
 
 pub returns-in-String-clause-gives : goal.returns-in-String-clause-gives
 returns-in-String-clause-gives c =
-    let is_row = row c.args.strings c.args.self.now.text _ _ _ String c.requires.at c.first-first.ensures c.second.ensures (sym c.in-String.is ∙ c.start_of-start.ensures) in
-    rw (c.literal.ensures, c.quoted-terminated.ensures.terminated, c.quoted-terminated.ensures.at, c.has_escapes.ensures, c.bump.ensures.text, c.bump.ensures.at, c.requires.at, behind_within c.args.self.now.text 0 c.requires.some) (sym is_row)
-
-pub returns-in-Number-clause-gives : goal.returns-in-Number-clause-gives
-returns-in-Number-clause-gives c =
-    let is_row = row c.args.strings c.args.self.now.text _ _ _ Number c.requires.at c.first-first.ensures c.second.ensures (sym c.in-Number.is ∙ c.start_of-start.ensures) in
-    rw is_row (rw c.bump.ensures.text at c.number.ensures.gives)
+    let is_row = row c.args.strings c.args.self.now.text String (sym c.in-String.is ∙ c.begins.ensures) in
+    rw (c.literal.ensures, c.quoted-terminated.ensures.terminated, c.quoted-terminated.ensures.at, c.has_escapes.ensures, c.bump-in-String.ensures.text, c.bump-in-String.ensures.at, c.requires.at, behind_within c.args.self.now.text 0 c.requires.some) (sym is_row)

@@ -1,10 +1,18 @@
-use Rattle.std.proofs.Common.{◌≡◌, ◌-◌, ◌<◌, false, true, Some, get_or, slice_get, length, sym, ◌∙◌}
+use Rattle.std.proofs.Common.{◌≡◌, ◌<◌, ◌≤◌, false, take, sym, ◌∙◌, ap, arith}
 use Rattle.squawk_lexer.specs.Classes.{is_line_end}
-use Rattle.squawk_lexer.specs.Place.{behind}
-use Rattle.squawk_lexer.specs.PsqlParts.{is_pair}
-use Rattle.squawk_lexer.proofs.PsqlSteps.{quote_closed, one_piece, two_pieces, IsTurn, last_before}
-use Rattle.squawk_lexer.proofs.Steps.{within_some}
+use Rattle.squawk_lexer.specs.PsqlQuotes.{last_before}
+use Rattle.squawk_lexer.specs.Text.{bytes}
+use Rattle.squawk_lexer.proofs.PsqlSteps.{quote_closed, passed, smaller}
+use Rattle.squawk_lexer.proofs.Steps.{within_some, get_some}
 use Rattle.squawk_lexer.proofs.cursor.Cursor.eat_quote.Goals as goal
+
+pub loop-c-init : goal.loop-c-init
+loop-c-init c =
+    let p = passed c.args.quote c.args.self.now.text c.args.self.now.at _ _ c.pass_pieces.ensures.text c.pass_pieces.ensures.at in
+    record { text = c.pass_pieces.ensures.text; on = p.on; close = p.close; line = p.line }
+
+pub last_since-last-requires : goal.last_since-last-requires
+last_since-last-requires c = omega (arith, within_some c.loop-c.self.text c.loop-c.self.at c.in-Some.c c.in-Some.ensures)
 
 pub returns-then-c-quote-clause-at : goal.returns-then-c-quote-clause-at
 returns-then-c-quote-clause-at c =
@@ -18,60 +26,36 @@ returns-then-c-quote-clause-last c =
     let plain : is_line_end c.in-Some.c ≡ false = sym c.is_line_end.ensures ∙ c.if-not-is_line_end.true in
     let e = quote_closed c.args.quote c.args.self.now.text c.args.self.now.at c.loop-c.self.text c.loop-c.self.at c.in-Some.c
     c.loop-c.invariant.text c.loop-c.invariant.close c.in-Some.ensures plain c.if-c-quote.true in
-    c.loop-c.invariant.last (within_some c.loop-c.self.text c.loop-c.self.at c.in-Some.c c.in-Some.ensures) ∙ e.1
+    let start : c.position-start.result ≡ bytes (take c.args.self.now.at c.loop-c.self.text) =
+    c.position-start.ensures ∙ ap (λ x. bytes (take c.args.self.now.at x)) (sym c.loop-c.invariant.text) in
+    c.last_since-last.ensures c.args.self.now.at c.loop-c.invariant.on start
+    ∙ ap (λ x. last_before x c.args.self.now.at c.loop-c.self.at) c.loop-c.invariant.text ∙ e.1
 
--- what a turn gives, past one character
-one : (c : goal.Else-is_pair) → IsTurn c.args.quote c.args.self.now.text c.args.self.now.at c.loop-c.self.text (behind c.loop-c.self.text c.loop-c.self.at)
-    × (Some c.in-Some.c ≡ last_before c.args.self.now.text c.args.self.now.at (behind c.loop-c.self.text c.loop-c.self.at))
-    × (length c.loop-c.self.text - behind c.loop-c.self.text c.loop-c.self.at < length c.loop-c.self.text - c.loop-c.self.at)
-one c =
-    let plain : is_line_end c.in-Some.c ≡ false = sym c.is_line_end.ensures ∙ c.if-not-is_line_end.true in
-    let read : is_pair c.args.quote c.in-Some.c c.first.result ≡ false = sym c.is_pair.ensures ∙ c.if-is_pair.false in
-    let no_pair : is_pair c.args.quote c.in-Some.c (get_or c.loop-c.self.text (behind c.loop-c.self.text c.loop-c.self.at) 0) ≡ false =
-    rw (← c.bump.ensures.at, ← c.bump.ensures.text, ← c.first.ensures) read in
-    one_piece c.args.quote c.args.self.now.text c.args.self.now.at c.loop-c.self.text c.loop-c.self.at c.in-Some.c c.loop-c.invariant.text
-    (record { on = c.loop-c.invariant.on; close = c.loop-c.invariant.close; line = c.loop-c.invariant.line })
-    c.in-Some.ensures plain c.if-c-quote.false no_pair
+pub eat_piece-requires-clause-some : goal.eat_piece-requires-clause-some
+eat_piece-requires-clause-some c = within_some c.loop-c.self.text c.loop-c.self.at c.in-Some.c c.in-Some.ensures
+
+pub eat_piece-requires-clause-plain : goal.eat_piece-requires-clause-plain
+eat_piece-requires-clause-plain c =
+    rw (get_some c.loop-c.self.text c.loop-c.self.at c.in-Some.c c.in-Some.ensures) (sym c.is_line_end.ensures ∙ c.if-not-is_line_end.true)
+
+pub eat_piece-requires-clause-other : goal.eat_piece-requires-clause-other
+eat_piece-requires-clause-other c = λ e. c.if-c-quote.false (sym (get_some c.loop-c.self.text c.loop-c.self.at c.in-Some.c c.in-Some.ensures) ∙ e)
 
 pub loop-c-preserved : goal.loop-c-preserved
 loop-c-preserved c =
-    let e = one c in
+    let p = passed c.args.quote c.eat_piece.new.self.text c.eat_piece.new.self.at _ _ c.pass_pieces-in-loop-c.ensures.text c.pass_pieces-in-loop-c.ensures.at in
+    let on : c.args.self.now.at ≤ c.loop-c.self.at = c.loop-c.invariant.on in
+    let piece : c.loop-c.self.at < c.eat_piece.new.self.at = c.eat_piece.ensures.on in
+    let more : c.eat_piece.new.self.at ≤ c.pass_pieces-in-loop-c.new.self.at = p.on in
     record {
-      text = c.bump.ensures.text ∙ c.loop-c.invariant.text;
-      on = rw c.bump.ensures.at e.0.on;
-      close = rw (c.bump.ensures.text, c.bump.ensures.at) e.0.close;
-      line = rw (c.bump.ensures.text, c.bump.ensures.at) e.0.line;
-      last = λ h. rw c.bump.ensures.at e.1;
+      text = c.pass_pieces-in-loop-c.ensures.text ∙ c.eat_piece.ensures.text ∙ c.loop-c.invariant.text;
+      on = omega arith;
+      close = p.close ∙ c.eat_piece.ensures.close ∙ c.loop-c.invariant.close;
+      line = p.line ∙ c.eat_piece.ensures.line ∙ c.loop-c.invariant.line;
     }
 
 pub loop-c-smaller : goal.loop-c-smaller
-loop-c-smaller c = rw (c.bump.ensures.text, c.bump.ensures.at) (one c).2
-
-two : (c : goal.After-bump-last) → IsTurn c.args.quote c.args.self.now.text c.args.self.now.at c.loop-c.self.text (behind c.loop-c.self.text (behind c.loop-c.self.text c.loop-c.self.at))
-    × (behind c.loop-c.self.text (behind c.loop-c.self.text c.loop-c.self.at) < length c.loop-c.self.text
-    → c.bump-last.result ≡ last_before c.args.self.now.text c.args.self.now.at (behind c.loop-c.self.text (behind c.loop-c.self.text c.loop-c.self.at)))
-    × (length c.loop-c.self.text - behind c.loop-c.self.text (behind c.loop-c.self.text c.loop-c.self.at) < length c.loop-c.self.text - c.loop-c.self.at)
-two c =
-    let plain : is_line_end c.in-Some.c ≡ false = sym c.is_line_end.ensures ∙ c.if-not-is_line_end.true in
-    let pair : is_pair c.args.quote c.in-Some.c c.first.result ≡ true = sym c.is_pair.ensures ∙ c.if-is_pair.true in
-    let both : is_pair c.args.quote c.in-Some.c (get_or c.loop-c.self.text (behind c.loop-c.self.text c.loop-c.self.at) 0) ≡ true =
-    rw (← c.bump.ensures.at, ← c.bump.ensures.text, ← c.first.ensures) pair in
-    let read : c.bump-last.result ≡ slice_get c.loop-c.self.text (behind c.loop-c.self.text c.loop-c.self.at) =
-    rw (← c.bump.ensures.at, ← c.bump.ensures.text) c.bump-last.ensures.read in
-    two_pieces c.args.quote c.args.self.now.text c.args.self.now.at c.loop-c.self.text c.loop-c.self.at c.in-Some.c c.bump-last.result c.loop-c.invariant.text
-    (record { on = c.loop-c.invariant.on; close = c.loop-c.invariant.close; line = c.loop-c.invariant.line })
-    c.in-Some.ensures plain c.if-c-quote.false both read
-
-pub loop-c-preserved-then-is_pair : goal.loop-c-preserved-then-is_pair
-loop-c-preserved-then-is_pair c =
-    let e = two c in
-    record {
-      text = c.bump-last.ensures.text ∙ c.bump.ensures.text ∙ c.loop-c.invariant.text;
-      on = rw (c.bump-last.ensures.at, c.bump.ensures.text, c.bump.ensures.at) e.0.on;
-      close = rw (c.bump-last.ensures.text, c.bump-last.ensures.at, c.bump.ensures.text, c.bump.ensures.at) e.0.close;
-      line = rw (c.bump-last.ensures.text, c.bump-last.ensures.at, c.bump.ensures.text, c.bump.ensures.at) e.0.line;
-      last = rw (c.bump-last.ensures.text, c.bump-last.ensures.at, c.bump.ensures.text, c.bump.ensures.at) e.1;
-    }
-
-pub loop-c-smaller-then-is_pair : goal.loop-c-smaller-then-is_pair
-loop-c-smaller-then-is_pair c = rw (c.bump-last.ensures.text, c.bump-last.ensures.at, c.bump.ensures.text, c.bump.ensures.at) (two c).2
+loop-c-smaller c =
+    let p = passed c.args.quote c.eat_piece.new.self.text c.eat_piece.new.self.at _ _ c.pass_pieces-in-loop-c.ensures.text c.pass_pieces-in-loop-c.ensures.at in
+    smaller c.loop-c.self.text _ c.loop-c.self.at c.eat_piece.new.self.at _ (c.pass_pieces-in-loop-c.ensures.text ∙ c.eat_piece.ensures.text) c.eat_piece.ensures.on p.on
+    (within_some c.loop-c.self.text c.loop-c.self.at c.in-Some.c c.in-Some.ensures)

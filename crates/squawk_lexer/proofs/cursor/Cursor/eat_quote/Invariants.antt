@@ -1,6 +1,6 @@
-use Rattle.std.proofs.Common.{◌≡◌, ◌-◌, ◌<◌, ◌≤◌, length}
+use Rattle.std.proofs.Common.{◌≡◌, ◌-◌, ◌≤◌, length}
 use Rattle.squawk_lexer.specs.Runs.{line}
-use Rattle.squawk_lexer.proofs.PsqlSteps.{close_end, last_before}
+use Rattle.squawk_lexer.specs.PsqlQuotes.{close_end}
 use Rattle.squawk_lexer.proofs.cursor.Cursor.eat_quote.Given as goal
 
 abbrev pub invariant-loop-c : goal.invariant-loop-c
@@ -9,7 +9,6 @@ invariant-loop-c l = record {
   on : l.fn.self.at ≤ l.self.at;
   close : close_end l.quote l.self.text l.self.at ≡ close_end l.fn.quote l.fn.self.text l.fn.self.at;
   line : line l.self.text l.self.at ≡ line l.fn.self.text l.fn.self.at;
-  last : l.self.at < length l.self.text → l.last ≡ last_before l.fn.self.text l.fn.self.at l.self.at;
 }
 
 abbrev pub decreases-loop-c : goal.decreases-loop-c

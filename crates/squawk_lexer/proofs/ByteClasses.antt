@@ -1,0 +1,73 @@
+-- The table of id-cont is held against the definition at each of the 256 bytes, by computing; and a class has each
+-- character from U+0080 on, or none of them.
+use Rattle.std.proofs.Common.{◌≡◌, ℕ, zero, suc, ◌<◌, Bool, true, false, ◌&&◌, not, eqb, get_or, List, refl, arith, inl, inr}
+use Rattle.std.specs.Bool.{beq}
+use Rattle.std.proofs.lemmas.Bool.{cases_eq}
+use Rattle.std.proofs.lemmas.Bool.Decides.{nat_tests}
+use Rattle.squawk_lexer.specs.declared.scan.TheConstants.{ID_CONT}
+use Rattle.squawk_lexer.specs.declared.classes.Class.{Class}
+use Rattle.squawk_lexer.specs.declared.classes.Class.TheVariants.{White, Blank, IdCont, Digit, NotLineEnd, TagCont, CommandWord}
+use Rattle.squawk_lexer.specs.Classes.{class_test, is_id_cont}
+use Rattle.squawk_lexer.specs.Bytes.{HasIdCont}
+use Rattle.squawk_lexer.proofs.ByteRuns.{Flat}
+
+-- ---- the table
+
+-- the two tests agree below n
+agree_below : (ℕ → Bool) → (ℕ → Bool) → ℕ → Bool
+agree_below f g zero = true
+agree_below f g (suc n) = beq (f n) (g n) && agree_below f g n
+
+both_of : (x y rest : Bool) → (beq x y && rest) ≡ true → (x ≡ y) × (rest ≡ true)
+both_of true true rest h = (refl, h)
+both_of true false rest h = cc
+both_of false true rest h = cc
+both_of false false rest h = (refl, h)
+
+agree_at : (f g : ℕ → Bool) (n : ℕ) → agree_below f g n ≡ true → (b : ℕ) → b < n → f b ≡ g b
+unfolding agree_below
+agree_at f g zero h b lt = absurd (omega arith)
+agree_at f g (suc n) h b lt =
+    let both = both_of (f n) (g n) (agree_below f g n) h in
+    elim (cases_eq b n) [ inl same ↦ rw same both.0 | inr other ↦ agree_at f g n both.1 b (omega arith) ]
+
+from_table : (table : List ℕ) (b : ℕ) → b < 256
+    → agree_below (λ k. not (eqb (get_or table k 0) 44)) is_id_cont 256 ≡ true
+    → not (eqb (get_or table b 0) 44) ≡ is_id_cont b
+from_table table b lt h = agree_at _ _ 256 h b lt
+
+pub HasIdCont-ID_CONT : HasIdCont ID_CONT
+unfolding agree_below
+HasIdCont-ID_CONT = record { len = refl; each = λ b lt. from_table ID_CONT b lt refl }
+
+-- ---- flat classes
+
+flat_white : Flat (class_test White)
+flat_white b c p q = grind (arith, nat_tests)
+
+flat_blank : Flat (class_test Blank)
+flat_blank b c p q = grind (arith, nat_tests)
+
+flat_id_cont : Flat (class_test IdCont)
+flat_id_cont b c p q = grind (arith, nat_tests)
+
+flat_digit : Flat (class_test Digit)
+flat_digit b c p q = grind (arith, nat_tests)
+
+flat_line : Flat (class_test NotLineEnd)
+flat_line b c p q = grind (arith, nat_tests)
+
+flat_tag : Flat (class_test TagCont)
+flat_tag b c p q = grind (arith, nat_tests)
+
+flat_word : Flat (class_test CommandWord)
+flat_word b c p q = grind (arith, nat_tests)
+
+pub flat_class : (class : Class) → Flat (class_test class)
+flat_class White = flat_white
+flat_class Blank = flat_blank
+flat_class IdCont = flat_id_cont
+flat_class Digit = flat_digit
+flat_class NotLineEnd = flat_line
+flat_class TagCont = flat_tag
+flat_class CommandWord = flat_word
