@@ -1,1 +1,4 @@
 pub mod Message
+pub mod Kinds
+pub mod Depth
+pub mod Lawful

@@ -2,11 +2,19 @@
 #![tactic(auto)]
 
 mod error;
+mod grammar;
+mod input;
 mod messages;
+mod output;
+mod sink;
 mod steps;
 #[cfg(test)]
 mod tests;
 
 pub use error::FrontError;
+pub use grammar::{EntryPoint, Grammar};
+pub use input::Input;
 pub use messages::message;
-pub use steps::{ParseError, StrStep};
+pub use output::Output;
+pub use sink::StepSink;
+pub use steps::{ParseError, Step, StrStep};

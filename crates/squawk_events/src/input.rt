@@ -1,0 +1,68 @@
+//! A list of kinds.
+ghost use Rattle.std.specs.Prelude.{◌≡◌, ◌<◌, [], ◌∷◌, ◌++◌, length, OnOk, OnErr, IsOkUnless, slice_index_or};
+ghost use Rattle.squawk_events.specs.declared.error.FrontError.TheVariants.{OutOfMemory};
+ghost use Rattle.squawk_kinds.specs.declared.numbers.TheConstants.Number.{EOF};
+
+use crate::FrontError;
+use squawk_kinds::SyntaxKind;
+use std::alloc::Global;
+use std::marker::Model;
+
+/// A list of kinds.
+#[derive(Drop)]
+pub struct Input {
+    kinds: Vec<SyntaxKind>,
+}
+
+impl Model for Input {
+    ghost use Rattle.std.specs.Prelude.{ℕ, List};
+
+    ghost Value = { List ℕ };
+
+    ghost view = { λ i. i.kinds.items };
+}
+
+impl Input {
+    /// No kinds.
+    pub fn new(alloc: Global) -> Input
+        ensures { result ≡ [] }
+    {
+        Input {
+            kinds: Vec::new(alloc),
+        }
+    }
+
+    /// Appends a kind.
+    pub fn push(&mut self, kind: SyntaxKind) -> Result<(), FrontError>
+        ensures ok { OnOk result (self.new ≡ self.old ++ kind ∷ []) }
+        ensures err { OnErr result (self.new ≡ self.old) }
+        ensures refusal { IsOkUnless result OutOfMemory }
+    {
+        self.kinds.push(kind)?;
+        Ok(())
+    }
+
+    /// The kind at a place; `EOF` from the end on.
+    pub fn kind(&self, i: usize) -> SyntaxKind
+        ensures { result ≡ slice_index_or self.now i EOF }
+    {
+        match self.kinds.get(i) {
+            Some(kind) => *kind,
+            None => SyntaxKind::EOF,
+        }
+    }
+
+    /// Their number.
+    pub fn len(&self) -> usize
+        ensures { result ≡ length self.now }
+    {
+        self.kinds.len()
+    }
+
+    /// All of them.
+    pub fn kinds(&self) -> &[SyntaxKind]
+        ensures { result.now ≡ self.now }
+    {
+        &self.kinds
+    }
+}

@@ -1,0 +1,53 @@
+-- What is given out for a tree is a tree.
+use Rattle.std.proofs.Common.{◌≡◌, ℕ, zero, suc, ◌+◌, Bool, true, false, cond, List, [], ◌∷◌, ◌++◌, append_assoc, ap, refl, ◌∙◌}
+use Rattle.squawk_events.specs.Kinds.{is_trivia_kind}
+use Rattle.squawk_events.specs.Lawful as given
+use Rattle.squawk_events.specs.declared.steps.Step.{Step}
+use Rattle.squawk_events.specs.declared.steps.Step.TheVariants.{Enter, Token, Exit, Error}
+use Rattle.squawk_events.specs.declared.steps.StrStep.{StrStep}
+use Rattle.squawk_events.specs.declared.steps.StrStep.TheVariants as out
+use Rattle.squawk_join.specs.Steps.{closes, is_balanced, has_no_errors}
+use Rattle.squawk_join.specs.Tree.{without_errors}
+use Rattle.squawk_lexed.specs.Woven.{front_steps, front_end, behind_front, next_len, woven_from, woven}
+use Rattle.squawk_lexed.specs.declared.lex.Lex.{Lex}
+use Rattle.squawk_join.proofs.LeavesLemmas.{never_closed}
+
+-- trivia in a node
+closes-front : (d at : ℕ) (ts : List Lex) (ys : List StrStep) → closes (suc d) (without_errors (front_steps at ts ++ ys)) ≡ closes (suc d) (without_errors ys)
+closes-front d at [] ys = refl
+closes-front d at (t ∷ ts) ys = by (is_trivia_kind t.kind) (closes-front d (at + t.len) ts ys)
+  where
+    by : (b : Bool) → closes (suc d) (without_errors (front_steps (at + t.len) ts ++ ys)) ≡ closes (suc d) (without_errors ys)
+        → closes (suc d) (without_errors (cond b (out.Token t.kind at (at + t.len) ∷ front_steps (at + t.len) ts) [] ++ ys)) ≡ closes (suc d) (without_errors ys)
+    by true h = h
+    by false h = refl
+
+-- trivia and then one more step
+closes-step : (d at : ℕ) (ts : List Lex) (y : StrStep) (ys : List StrStep) → closes (suc d) (without_errors ((front_steps at ts ++ y ∷ []) ++ ys)) ≡ closes (suc d) (without_errors (y ∷ ys))
+closes-step d at ts y ys = ap (λ zs. closes (suc d) (without_errors zs)) (append_assoc (front_steps at ts) (y ∷ []) ys) ∙ closes-front d at ts (y ∷ ys)
+
+pub closes-woven : (d at : ℕ) (ts : List Lex) (xs : List Step) → given.closes (suc d) xs ≡ true → closes (suc d) (without_errors (woven_from at ts xs)) ≡ true
+closes-woven d at ts [] h = never_closed d h
+closes-woven d at ts (Enter kind ∷ xs) h =
+    closes-step d at ts (out.Enter kind) (woven_from (front_end at ts) (behind_front ts) xs) ∙ closes-woven (suc d) (front_end at ts) (behind_front ts) xs h
+closes-woven d at ts (Token kind ∷ xs) h =
+    closes-step d at ts (out.Token kind (front_end at ts) (front_end at ts + next_len (behind_front ts))) _
+    ∙ closes-woven d (front_end at ts + next_len (behind_front ts)) _ xs h
+closes-woven d at ts (Exit ∷ []) h = closes-step d at ts out.Exit [] ∙ h
+closes-woven zero at ts (Exit ∷ x ∷ xs) h = absurd (cc)
+closes-woven (suc d) at ts (Exit ∷ x ∷ xs) h = closes-woven d at ts (x ∷ xs) h
+closes-woven d at ts (Error number ∷ xs) h = closes-woven d at ts xs h
+
+pub balanced-woven : (ts : List Lex) (xs : List Step) → given.is_balanced xs ≡ true → is_balanced (without_errors (woven ts xs)) ≡ true
+balanced-woven ts [] h = cc
+balanced-woven ts (Enter kind ∷ xs) h = closes-woven 0 0 ts xs h
+balanced-woven ts (Token kind ∷ xs) h = cc
+balanced-woven ts (Exit ∷ xs) h = cc
+balanced-woven ts (Error number ∷ xs) h = cc
+
+pub without-has_none : (xs : List StrStep) → has_no_errors (without_errors xs) ≡ true
+without-has_none [] = refl
+without-has_none (out.Enter kind ∷ xs) = without-has_none xs
+without-has_none (out.Token kind start end ∷ xs) = without-has_none xs
+without-has_none (out.Exit ∷ xs) = without-has_none xs
+without-has_none (out.Error number at ∷ xs) = without-has_none xs

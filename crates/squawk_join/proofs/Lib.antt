@@ -1,0 +1,10 @@
+mod CutLemmas
+mod LeavesLemmas
+mod JoinLemmas
+mod ErrorLemmas
+mod JoinErrorLemmas
+mod JoinIsParse
+mod Balanced
+mod RootLemmas
+mod TreeLaws
+mod Alone

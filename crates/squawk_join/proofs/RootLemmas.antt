@@ -1,0 +1,152 @@
+-- The children of the root are those of the division.
+use Rattle.std.proofs.Common.{◌≡◌, ℕ, zero, suc, ◌+◌, ◌==◌, ◌≤◌, Bool, true, false, ◌&&◌, cond, List, [], ◌∷◌, ◌++◌, length, take, map, append_assoc, ap, refl, sym, ◌∙◌, arith}
+use Rattle.std.proofs.lemmas.Bool.{eqb-true}
+use Rattle.std.proofs.lemmas.List.{length-take-le, length-map}
+use Rattle.std.specs.Prelude.{Option, Some, None, option_map}
+use Rattle.squawk_events.specs.Kinds.{is_trivia_kind}
+use Rattle.squawk_events.specs.declared.steps.Step.TheVariants.{Exit}
+use Rattle.squawk_events.specs.declared.steps.StrStep.{StrStep}
+use Rattle.squawk_events.specs.declared.steps.StrStep.TheVariants as out
+use Rattle.squawk_join.specs.Join.{lex_form, child_woven}
+use Rattle.squawk_join.specs.Steps.{Node, closes, root_children_from, root_children, root_child}
+use Rattle.squawk_join.specs.Tree.{leaves, laid, without_errors}
+use Rattle.squawk_lexed.specs.Woven.{kept, bytes, woven_from, woven}
+use Rattle.squawk_lexed.specs.declared.lex.Lex.{Lex}
+use Rattle.squawk_lexer.specs.Cut.{Form, is_trivia, Trivia, Semicolon, Terminator, Command, Open, Close, Other}
+use Rattle.squawk_statements.specs.Children.{Child, ends, groups_after, closing, solid_len, statement, first, more_of, parts, parts_from, children, children_from}
+use Rattle.squawk_statements.specs.Kinds.{form, form_trivia}
+use Rattle.squawk_statements.specs.Plain.{node_of, fault, core, child_steps, plain}
+use Rattle.squawk_statements.specs.PlainIsLawful.{child_balanced, child_tokens}
+use Rattle.squawk_statements.specs.declared.division.Division.{Division}
+use Rattle.squawk_join.proofs.Balanced.{closes-woven}
+use Rattle.squawk_join.proofs.CutLemmas.{trivia_form}
+use Rattle.squawk_join.proofs.JoinIsParse.{without-append}
+use Rattle.squawk_join.proofs.JoinLemmas.{placed, placed_from, node_woven, leaf_woven}
+use Rattle.squawk_join.proofs.LeavesLemmas.{leaves_woven, leaves_kept}
+
+-- from inside a node, up to its Exit
+inside : (d n : ℕ) (xs rest : List StrStep) → closes (suc d) xs ≡ true → root_children_from (suc d) n (xs ++ rest) ≡ Node (n + length (leaves xs)) ∷ root_children_from 0 0 rest
+inside d n [] rest h = absurd (no d h)
+  where
+    no : (d : ℕ) → (suc d == 0) ≡ true → ⊥
+    no d h = let e : suc d ≡ 0 = eqb-true (suc d) 0 h in omega arith
+inside d n (out.Enter kind ∷ xs) rest h = inside (suc d) n xs rest h
+inside d n (out.Token kind start end ∷ xs) rest h =
+    inside d (n + 1) xs rest h ∙ ap (λ m. Node m ∷ root_children_from 0 0 rest) (let e : n + 1 + length (leaves xs) ≡ n + suc (length (leaves xs)) = omega arith in e)
+inside zero n (out.Exit ∷ []) rest h = ap (λ m. Node m ∷ root_children_from 0 0 rest) (let e : n ≡ n + 0 = omega arith in e)
+inside zero n (out.Exit ∷ x ∷ xs) rest h = absurd (cc)
+inside (suc d) n (out.Exit ∷ xs) rest h = inside d n xs rest h
+inside d n (out.Error number at ∷ xs) rest h = inside d n xs rest h
+
+solid_len-le : (fs : List Form) → solid_len fs ≤ length fs
+solid_len-le [] = omega arith
+solid_len-le (f ∷ fs) = by (is_trivia f && solid_len fs == 0) (solid_len-le fs)
+  where
+    by : (b : Bool) → solid_len fs ≤ length fs → cond b 0 (suc (solid_len fs)) ≤ suc (length fs)
+    by true h = omega arith
+    by false h = omega arith
+
+Within : Option ℕ → ℕ → Type 0
+Within None n = Unit {0}
+Within (Some m) n = m ≤ n
+
+closing-le : (d : Division) (g : ℕ) (fs : List Form) → Within (closing d g fs) (length fs)
+unfolding Within
+closing-le d g [] = tt
+closing-le d g (f ∷ fs) = by (ends d g f) (closing d (groups_after g f) fs) (closing-le d (groups_after g f) fs)
+  where
+    by : (b : Bool) (found : Option ℕ) → Within found (length fs) → Within (cond b (Some 1) (option_map suc found)) (suc (length fs))
+    by true found h = omega arith
+    by false None h = tt
+    by false (Some m) h = omega arith
+
+-- a statement has no more than there is, and is a node
+record Sized (c : Child) (n : ℕ) : Type 0 where
+  within : c.more ≤ n
+  node : c.is_node ≡ true
+
+statement-sized : (found : Option ℕ) (fs : List Form) → Within found (length fs) → Sized (statement found fs) (length fs)
+unfolding Within
+statement-sized None fs h = record { within = solid_len-le fs; node = refl }
+statement-sized (Some m) fs h = record { within = h; node = refl }
+
+first-sized : (d : Division) (f : Form) (fs : List Form) → is_trivia f ≡ false → Sized (first d f fs) (length fs)
+first-sized d Trivia fs h = cc
+first-sized d Semicolon fs h = record { within = omega arith; node = refl }
+first-sized d Terminator fs h = record { within = omega arith; node = refl }
+first-sized d Command fs h = record { within = omega arith; node = refl }
+first-sized d Open fs h = statement-sized (closing d 1 fs) fs (closing-le d 1 fs)
+first-sized d Close fs h = statement-sized (closing d 0 fs) fs (closing-le d 0 fs)
+first-sized d Other fs h = statement-sized (closing d 0 fs) fs (closing-le d 0 fs)
+
+length-laid : (at : ℕ) (ts : List Lex) → length (laid at ts) ≡ length ts
+length-laid at [] = refl
+length-laid at (t ∷ ts) = ap suc (length-laid (at + t.len) ts)
+
+-- a child that is a node
+node_root : (d : Division) (at : ℕ) (t : Lex) (ts : List Lex) (rest : List StrStep) → is_trivia_kind t.kind ≡ false
+    → root_children_from 0 0 (without_errors (child_woven d at (t ∷ ts)) ++ rest) ≡ Node (length (t ∷ ts)) ∷ root_children_from 0 0 rest
+node_root d at t ts rest is =
+    let ks = kept (t ∷ ts) in
+    let xs = fault (node_of ks) ++ core d 0 ks ++ Exit ∷ [] in
+    let inner = woven_from at (t ∷ ts) xs in
+    let none : woven_from at (t ∷ ts) (child_steps d ks) ≡ out.Enter (node_of ks) ∷ inner = rw is refl in
+    let tree : closes 1 (without_errors inner) ≡ true = closes-woven 0 at (t ∷ ts) xs (child_balanced d ks) in
+    let count : length (leaves (without_errors inner)) ≡ length (t ∷ ts) =
+    ap length (leaves_kept inner ∙ leaves_woven 0 at (t ∷ ts) xs (child_balanced d ks) (sym (child_tokens d ks))) ∙ length-laid at (t ∷ ts) in
+    ap (λ zs. root_children_from 0 0 (without_errors zs ++ rest)) (node_woven d at t ts is ∙ none)
+    ∙ inside 0 0 (without_errors inner) rest tree
+    ∙ ap (λ m. Node m ∷ root_children_from 0 0 rest) (let e : 0 + length (leaves (without_errors inner)) ≡ length (leaves (without_errors inner)) = omega arith in e ∙ count)
+
+-- the first child
+child_root : (d : Division) (at : ℕ) (t : Lex) (ts : List Lex) (rest : List StrStep)
+    → root_children_from 0 0 (without_errors (child_woven d at (t ∷ take (more_of lex_form d t ts) ts)) ++ rest) ≡ root_child (first d (form t.kind) (map lex_form ts)) ∷ root_children_from 0 0 rest
+child_root d at t ts rest = by (is_trivia_kind t.kind) refl
+  where
+    by : (b : Bool) → is_trivia_kind t.kind ≡ b
+        → root_children_from 0 0 (without_errors (child_woven d at (t ∷ take (more_of lex_form d t ts) ts)) ++ rest) ≡ root_child (first d (form t.kind) (map lex_form ts)) ∷ root_children_from 0 0 rest
+    by true is =
+        ap (λ zs. root_children_from 0 0 (without_errors zs ++ rest)) (leaf_woven d at t (take (more_of lex_form d t ts) ts) is)
+        ∙ ap (λ f. root_child (first d f (map lex_form ts)) ∷ root_children_from 0 0 rest) (sym (trivia_form (form t.kind) (form_trivia t.kind ∙ is)))
+    by false is =
+        let sized = first-sized d (form t.kind) (map lex_form ts) (form_trivia t.kind ∙ is) in
+        let all : length (map lex_form ts) ≡ length ts = length-map ts lex_form in
+        let within = sized.within in
+        let taken : length (take (more_of lex_form d t ts) ts) ≡ more_of lex_form d t ts = length-take-le (more_of lex_form d t ts) ts (omega arith) in
+        let child : Node (length (t ∷ take (more_of lex_form d t ts) ts)) ≡ root_child (first d (form t.kind) (map lex_form ts)) =
+        rw sized.node (ap Node (let e : suc (length (take (more_of lex_form d t ts) ts)) ≡ more_of lex_form d t ts + 1 = omega arith in e)) in
+        node_root d at t (take (more_of lex_form d t ts) ts) rest is ∙ ap (λ c. c ∷ root_children_from 0 0 rest) child
+
+placed-children : (d : Division) (skip at : ℕ) (ts : List Lex) → root_children_from 0 0 (without_errors (placed_from d at (parts_from lex_form skip d ts)) ++ out.Exit ∷ []) ≡ map root_child (children_from skip d (map lex_form ts))
+placed-children d zero at [] = refl
+placed-children d (suc skip) at [] = refl
+placed-children d (suc skip) at (t ∷ ts) = placed-children d skip at ts
+placed-children d zero at (t ∷ ts) =
+    let m = more_of lex_form d t ts in
+    let part = t ∷ take m ts in
+    let next = at + bytes part in
+    let others = placed_from d next (parts_from lex_form m d ts) in
+    ap (λ zs. root_children_from 0 0 (zs ++ out.Exit ∷ [])) (without-append (child_woven d at part) others)
+    ∙ ap (root_children_from 0 0) (append_assoc (without_errors (child_woven d at part)) (without_errors others) (out.Exit ∷ []))
+    ∙ child_root d at t ts (without_errors others ++ out.Exit ∷ [])
+    ∙ ap (λ cs. root_child (first d (form t.kind) (map lex_form ts)) ∷ cs) (placed-children d m next ts)
+
+-- the root's children are those of the roles of the tokens
+pub root_children-woven : (d : Division) (ts : List Lex) → root_children (without_errors (woven ts (plain d (kept ts)))) ≡ map root_child (children d (map lex_form ts))
+root_children-woven d ts =
+    ap (λ zs. root_children_from 0 0 (without_errors zs)) (placed (length ts) d 0 ts (omega arith))
+    ∙ ap (root_children_from 0 0) (without-append (placed_from d 0 (parts lex_form d ts)) (out.Exit ∷ []))
+    ∙ placed-children d 0 0 ts
+
+pub first-within : (d : Division) (t : Lex) (ts : List Lex) → more_of lex_form d t ts ≤ length ts
+first-within d t ts = by (is_trivia (form t.kind)) refl
+  where
+    by : (b : Bool) → is_trivia (form t.kind) ≡ b → more_of lex_form d t ts ≤ length ts
+    by true is =
+        let none : more_of lex_form d t ts ≡ 0 = ap (λ f. (first d f (map lex_form ts)).more) (trivia_form (form t.kind) is) in
+        omega arith
+    by false is =
+        let sized = first-sized d (form t.kind) (map lex_form ts) is in
+        let within = sized.within in
+        let all : length (map lex_form ts) ≡ length ts = length-map ts lex_form in
+        omega arith

@@ -1,0 +1,142 @@
+-- What a lawful grammar gives is a tree over the tokens.
+use Rattle.std.proofs.Common.{◌≡◌, ℕ, ◌+◌, ◌<◌, ◌≤◌, nat_eq, nat_le, nat_lt, Bool, true, false, ◌&&◌, cond, List, [], ◌∷◌, ◌++◌, map, append_assoc, ap, refl, sym, subst, ◌∙◌, arith}
+use Rattle.std.proofs.lemmas.Bool.{and_parts, leb-true, ltb-true}
+use Rattle.std.proofs.lemmas.Bool.Decides.{nat_tests}
+use Rattle.std.proofs.lemmas.List.Elements.{All-nil, All-cons, All-append}
+use Rattle.std.specs.Prelude.{Option, Some, None, All}
+use Rattle.squawk_events.specs.Kinds.{is_trivia_kind}
+use Rattle.squawk_events.specs.Lawful.{IsLawful, has_lawful_numbers}
+use Rattle.squawk_events.specs.declared.steps.Step.{Step}
+use Rattle.squawk_events.specs.declared.steps.Step.TheVariants.{Enter, Token, Exit, Error}
+use Rattle.squawk_events.specs.declared.steps.StrStep.{StrStep}
+use Rattle.squawk_events.specs.declared.steps.StrStep.TheVariants as out
+use Rattle.squawk_join.specs.Errors.{error, placed, walked}
+use Rattle.squawk_join.specs.IsTree.{IsErrorWithin, IsTree}
+use Rattle.squawk_join.specs.ParseOf.{tree_of}
+use Rattle.squawk_join.specs.Steps.{leaves, tiles}
+use Rattle.squawk_join.specs.Tree as tree
+use Rattle.squawk_lexed.specs.Woven.{kept, bytes, next_len, front_steps, front_end, behind_front, woven_from, woven, are_sound, faults_within}
+use Rattle.squawk_lexed.specs.declared.lex.Fault.{Fault}
+use Rattle.squawk_lexed.specs.declared.lex.Lex.{Lex}
+use Rattle.squawk_join.proofs.Balanced.{balanced-woven, without-has_none}
+use Rattle.squawk_join.proofs.ErrorLemmas.{errors_whole}
+use Rattle.squawk_join.proofs.LeavesLemmas.{leaves_whole}
+
+-- ---- the tokens cover the text
+
+leaves-ranges : (xs : List StrStep) → leaves xs ≡ map (λ (l : tree.Leaf). (l.start, l.end)) (tree.leaves xs)
+leaves-ranges [] = refl
+leaves-ranges (out.Enter kind ∷ xs) = leaves-ranges xs
+leaves-ranges (out.Token kind start end ∷ xs) = ap (λ rs. (start, end) ∷ rs) (leaves-ranges xs)
+leaves-ranges (out.Exit ∷ xs) = leaves-ranges xs
+leaves-ranges (out.Error number at ∷ xs) = leaves-ranges xs
+
+one_tile : (at len : ℕ) (b : Bool) → 0 < len → b ≡ true → (nat_eq at at && (nat_lt at (at + len) && b)) ≡ true
+one_tile at len b some h = grind (arith, nat_tests)
+
+-- the parts of a sound token
+sound_len : (t : Lex) (ts : List Lex) → are_sound (t ∷ ts) ≡ true → 0 < t.len
+sound_len t ts s = ltb-true 0 t.len (and_parts (nat_lt 0 t.len) (faults_within t.len t.faults && are_sound ts) s).0
+
+sound_faults : (t : Lex) (ts : List Lex) → are_sound (t ∷ ts) ≡ true → faults_within t.len t.faults ≡ true
+sound_faults t ts s = (and_parts (faults_within t.len t.faults) (are_sound ts) (and_parts (nat_lt 0 t.len) (faults_within t.len t.faults && are_sound ts) s).1).0
+
+sound_rest : (t : Lex) (ts : List Lex) → are_sound (t ∷ ts) ≡ true → are_sound ts ≡ true
+sound_rest t ts s = (and_parts (faults_within t.len t.faults) (are_sound ts) (and_parts (nat_lt 0 t.len) (faults_within t.len t.faults && are_sound ts) s).1).1
+
+tiles-laid : (at end : ℕ) (ts : List Lex) → are_sound ts ≡ true → at + bytes ts ≡ end → tiles at (map (λ (l : tree.Leaf). (l.start, l.end)) (tree.laid at ts)) end ≡ true
+tiles-laid at end [] s e = grind (arith, nat_tests)
+tiles-laid at end (t ∷ ts) s e = one_tile at t.len _ (sound_len t ts s) (tiles-laid (at + t.len) end ts (sound_rest t ts s) (omega arith))
+
+-- ---- the numbers of errors
+
+are_numbered : List StrStep → Bool
+are_numbered [] = true
+are_numbered (out.Enter kind ∷ xs) = are_numbered xs
+are_numbered (out.Token kind start end ∷ xs) = are_numbered xs
+are_numbered (out.Exit ∷ xs) = are_numbered xs
+are_numbered (out.Error number at ∷ xs) = nat_le 1 number && (nat_le number 10 && are_numbered xs)
+
+numbered-front : (at : ℕ) (ts : List Lex) (ys : List StrStep) → are_numbered (front_steps at ts ++ ys) ≡ are_numbered ys
+unfolding are_numbered
+numbered-front at [] ys = refl
+numbered-front at (t ∷ ts) ys = by (is_trivia_kind t.kind) (numbered-front (at + t.len) ts ys)
+  where
+    by : (b : Bool) → are_numbered (front_steps (at + t.len) ts ++ ys) ≡ are_numbered ys
+        → are_numbered (cond b (out.Token t.kind at (at + t.len) ∷ front_steps (at + t.len) ts) [] ++ ys) ≡ are_numbered ys
+    by true h = h
+    by false h = refl
+
+numbered-step : (at : ℕ) (ts : List Lex) (y : StrStep) (ys : List StrStep) → are_numbered ((front_steps at ts ++ y ∷ []) ++ ys) ≡ are_numbered (y ∷ ys)
+numbered-step at ts y ys = ap are_numbered (append_assoc (front_steps at ts) (y ∷ []) ys) ∙ numbered-front at ts (y ∷ ys)
+
+numbered-woven : (at : ℕ) (ts : List Lex) (xs : List Step) → are_numbered (woven_from at ts xs) ≡ has_lawful_numbers xs
+unfolding are_numbered
+numbered-woven at ts [] = refl
+numbered-woven at ts (Enter kind ∷ xs) = numbered-step at ts (out.Enter kind) _ ∙ numbered-woven (front_end at ts) (behind_front ts) xs
+numbered-woven at ts (Token kind ∷ xs) = numbered-step at ts (out.Token kind (front_end at ts) (front_end at ts + next_len (behind_front ts))) _ ∙ numbered-woven (front_end at ts + next_len (behind_front ts)) _ xs
+numbered-woven at ts (Exit ∷ []) = numbered-step at ts out.Exit []
+numbered-woven at ts (Exit ∷ x ∷ xs) = numbered-woven at ts (x ∷ xs)
+numbered-woven at ts (Error number ∷ xs) = ap (λ b. nat_le 1 number && (nat_le number 10 && b)) (numbered-woven at ts xs)
+
+-- ---- the errors lie in the text
+
+placed-within : (end at len : ℕ) (fs : List (Option Fault)) → faults_within len fs ≡ true → at + len ≤ end → All (IsErrorWithin end) (placed at fs)
+placed-within end at len [] h le = All-nil (IsErrorWithin end)
+placed-within end at len (None ∷ fs) h le = placed-within end at len fs h le
+placed-within end at len (Some f ∷ fs) h le =
+    let a = and_parts (nat_le 1 f.number) (nat_le f.number 9 && (nat_le f.start f.end && (nat_le f.end len && faults_within len fs))) h in
+    let b = and_parts (nat_le f.number 9) (nat_le f.start f.end && (nat_le f.end len && faults_within len fs)) a.1 in
+    let c = and_parts (nat_le f.start f.end) (nat_le f.end len && faults_within len fs) b.1 in
+    let d = and_parts (nat_le f.end len) (faults_within len fs) c.1 in
+    let one = leb-true 1 f.number a.0 in
+    let nine = leb-true f.number 9 b.0 in
+    let order = leb-true f.start f.end c.0 in
+    let inside = leb-true f.end len d.0 in
+    All-cons (IsErrorWithin end) (error (at + f.start) (at + f.end) f.number) (placed at fs)
+    (record { first_number = one; last_number = omega arith; ordered = omega arith; within = omega arith })
+    (placed-within end at len fs d.1 le)
+
+next-within : (ts : List Lex) → next_len ts ≤ bytes ts
+next-within [] = omega arith
+next-within (t ∷ ts) = omega arith
+
+walked-within : (end at : ℕ) (ts : List Lex) (xs : List StrStep) → at + bytes ts ≤ end → are_sound ts ≡ true → are_numbered xs ≡ true → All (IsErrorWithin end) (walked at ts xs)
+unfolding are_numbered
+walked-within end at ts [] le s h = All-nil (IsErrorWithin end)
+walked-within end at ts (out.Enter kind ∷ xs) le s h = walked-within end at ts xs le s h
+walked-within end at [] (out.Token kind start stop ∷ xs) le s h = walked-within end (at + 0) [] xs (omega arith) s h
+walked-within end at (t ∷ ts) (out.Token kind start stop ∷ xs) le s h =
+    All-append (IsErrorWithin end) (placed at t.faults) (walked (at + t.len) ts xs)
+    (placed-within end at t.len t.faults (sound_faults t ts s) (omega arith))
+    (walked-within end (at + t.len) ts xs (omega arith) (sound_rest t ts s) h)
+walked-within end at ts (out.Exit ∷ xs) le s h = walked-within end at ts xs le s h
+walked-within end at ts (out.Error number place ∷ xs) le s h =
+    let a = and_parts (nat_le 1 number) (nat_le number 10 && are_numbered xs) h in
+    let b = and_parts (nat_le number 10) (are_numbered xs) a.1 in
+    let one = leb-true 1 number a.0 in
+    let ten = leb-true number 10 b.0 in
+    let next = next-within ts in
+    All-cons (IsErrorWithin end) (error at (at + next_len ts) number) (walked at ts xs)
+    (record { first_number = one; last_number = ten; ordered = omega arith; within = omega arith })
+    (walked-within end at ts xs le s b.1)
+
+numbered-whole : (ts : List Lex) (xs : List Step) → has_lawful_numbers xs ≡ true → are_numbered (woven ts xs) ≡ true
+unfolding are_numbered
+numbered-whole ts [] h = refl
+numbered-whole ts (Enter kind ∷ xs) h = numbered-woven 0 ts xs ∙ h
+numbered-whole ts (Token kind ∷ xs) h = refl
+numbered-whole ts (Exit ∷ xs) h = refl
+numbered-whole ts (Error number ∷ xs) h = refl
+
+pub tree_of-lawful : (ts : List Lex) (xs : List Step) → are_sound ts ≡ true → IsLawful (kept ts) xs → IsTree (bytes ts) (tree_of ts (woven ts xs))
+tree_of-lawful ts xs sound lawful = record {
+  balanced = balanced-woven ts xs lawful.balanced;
+  no_errors = without-has_none (woven ts xs);
+  tiled =
+      ap (λ rs. tiles 0 rs (bytes ts)) (leaves-ranges (tree.without_errors (woven ts xs)) ∙ ap (map (λ (l : tree.Leaf). (l.start, l.end))) (leaves_whole ts xs lawful.balanced lawful.tokens))
+      ∙ tiles-laid 0 (bytes ts) ts sound (omega arith);
+  errors_within =
+      subst (All (IsErrorWithin (bytes ts))) (sym (errors_whole ts xs lawful.balanced lawful.tokens sound))
+      (walked-within (bytes ts) 0 ts (woven ts xs) (omega arith) sound (numbered-whole ts xs lawful.numbers));
+}

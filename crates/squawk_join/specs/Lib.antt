@@ -1,0 +1,6 @@
+pub mod Tree
+pub mod Join
+pub mod Errors
+pub mod ParseOf
+pub mod Steps
+pub mod IsTree

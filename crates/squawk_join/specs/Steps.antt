@@ -1,0 +1,72 @@
+-- A tree as a list of steps, in order.
+use Rattle.squawk_statements.specs.Children.{Child}
+use Rattle.std.specs.Prelude.{if◌then◌else◌, ℕ, zero, suc, ◌+◌, ◌==◌, ◌&&◌, nat_lt, Bool, true, false, List, [], ◌∷◌}
+use Rattle.squawk_events.specs.declared.steps.StrStep.{StrStep}
+use Rattle.squawk_events.specs.declared.steps.StrStep.TheVariants.{Enter, Token, Exit, Error}
+
+-- from d open nodes on, the steps come to no open node at their end and not before
+abbrev pub closes : ℕ → List StrStep → Bool
+closes d [] = d == 0
+closes zero (x ∷ xs) = false
+closes (suc d) (Enter kind ∷ xs) = closes (suc (suc d)) xs
+closes (suc d) (Token kind start end ∷ xs) = closes (suc d) xs
+closes (suc d) (Exit ∷ xs) = closes d xs
+closes (suc d) (Error number at ∷ xs) = closes (suc d) xs
+
+-- the first step is an Enter, and the last one its Exit
+abbrev pub is_balanced : List StrStep → Bool
+is_balanced (Enter kind ∷ xs) = closes 1 xs
+is_balanced xs = false
+
+-- no step is an Error
+abbrev pub has_no_errors : List StrStep → Bool
+has_no_errors [] = true
+has_no_errors (Enter kind ∷ xs) = has_no_errors xs
+has_no_errors (Token kind start end ∷ xs) = has_no_errors xs
+has_no_errors (Exit ∷ xs) = has_no_errors xs
+has_no_errors (Error number at ∷ xs) = false
+
+-- the ranges of the tokens
+abbrev pub leaves : List StrStep → List (ℕ × ℕ)
+leaves [] = []
+leaves (Enter kind ∷ xs) = leaves xs
+leaves (Token kind start end ∷ xs) = (start, end) ∷ leaves xs
+leaves (Exit ∷ xs) = leaves xs
+leaves (Error number at ∷ xs) = leaves xs
+
+-- ranges of some length that follow one another from a place on, to an end
+abbrev pub tiles : ℕ → List (ℕ × ℕ) → ℕ → Bool
+tiles at [] end = at == end
+tiles at (r ∷ rs) end = r.0 == at && (nat_lt at r.1 && tiles r.1 rs end)
+
+-- the ranges from a place through ends that follow one another
+abbrev pub ranges_through : ℕ → List ℕ → List (ℕ × ℕ)
+ranges_through at [] = []
+ranges_through at (end ∷ ends) = (at, end) ∷ ranges_through end ends
+
+-- a child of the root: a leaf, or a node and its number of tokens
+pub data RootChild : Type 0 where
+  Leaf : RootChild
+  Node : (tokens : ℕ) → RootChild
+
+-- the root's children from here on, where d nodes are open inside the root and the outermost of them has n tokens so far
+abbrev pub root_children_from : (d n : ℕ) → List StrStep → List RootChild
+root_children_from d n [] = []
+root_children_from zero n (Token kind start end ∷ xs) = Leaf ∷ root_children_from 0 0 xs
+root_children_from zero n (Enter kind ∷ xs) = root_children_from 1 0 xs
+root_children_from zero n (Exit ∷ xs) = []
+root_children_from zero n (Error number at ∷ xs) = root_children_from 0 0 xs
+root_children_from (suc d) n (Token kind start end ∷ xs) = root_children_from (suc d) (n + 1) xs
+root_children_from (suc d) n (Enter kind ∷ xs) = root_children_from (suc (suc d)) n xs
+root_children_from (suc zero) n (Exit ∷ xs) = Node n ∷ root_children_from 0 0 xs
+root_children_from (suc (suc d)) n (Exit ∷ xs) = root_children_from (suc d) n xs
+root_children_from (suc d) n (Error number at ∷ xs) = root_children_from (suc d) n xs
+
+-- the children of the root: what stands directly inside the first Enter
+abbrev pub root_children : List StrStep → List RootChild
+root_children (Enter kind ∷ xs) = root_children_from 0 0 xs
+root_children xs = []
+
+-- a child as it stands under the root
+abbrev pub root_child : Child → RootChild
+root_child c = if c.is_node then Node (c.more + 1) else Leaf

@@ -1,0 +1,10 @@
+mod Longest
+mod Tables
+mod Found
+mod KeySteps
+mod StatementLen
+mod Longer
+mod PartsLemmas
+mod Groups
+mod WorkedRows
+mod LongestLaw

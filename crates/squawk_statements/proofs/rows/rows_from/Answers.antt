@@ -1,0 +1,21 @@
+use Rattle.std.proofs.Common.{sym, subst, arith}
+use Rattle.squawk_statements.specs.Opening.{other_rows, create_rows, alter_rows, drop_rows}
+use Rattle.squawk_statements.specs.Rows.{Decide}
+use Rattle.squawk_statements.proofs.Tables.{Decide-create, Decide-alter, Decide-drop, Decide-other}
+use Rattle.squawk_statements.proofs.rows.rows_from.Goals as goal
+
+pub returns-in-119 : goal.returns-in-119
+unfolding create_rows
+returns-in-119 c = subst (λ k. Decide k create_rows) (sym c.in-119.is) Decide-create
+
+pub returns-in-51 : goal.returns-in-51
+unfolding alter_rows
+returns-in-51 c = subst (λ k. Decide k alter_rows) (sym c.in-51.is) Decide-alter
+
+pub returns-in-161 : goal.returns-in-161
+unfolding drop_rows
+returns-in-161 c = subst (λ k. Decide k drop_rows) (sym c.in-161.is) Decide-drop
+
+pub returns-in_default : goal.returns-in_default
+unfolding other_rows
+returns-in_default c = Decide-other c.args.first (λ is. omega arith) (λ is. omega arith) (λ is. omega arith)

@@ -1,0 +1,108 @@
+-- How the tokens of a text are divided into the children of the root, by their forms: trivia is a leaf, and a semicolon, terminator or
+-- command a node by itself; any other form begins a statement, which ends with the next semicolon or terminator, else with the last
+-- form that is no trivia.
+use Rattle.std.specs.Prelude.{ℕ, zero, suc, ◌==◌, ◌&&◌, Bool, true, false, List, [], ◌∷◌, map, take, Option, Some, None, option_map, if◌then◌else◌}
+use Rattle.squawk_lexer.specs.Cut.{Form, Trivia, Semicolon, Terminator, Command, Open, Close, Other, is_trivia}
+use Rattle.squawk_statements.specs.declared.division.Division.{Division}
+use Rattle.squawk_statements.specs.declared.division.Division.TheVariants.{Flat, Grouped}
+
+-- whether a semicolon ends the statement in which n groups are open
+abbrev pub ends_at_semicolon : Division → ℕ → Bool
+ends_at_semicolon Flat n = true
+ends_at_semicolon Grouped zero = true
+ends_at_semicolon Grouped (suc n) = false
+
+-- whether a form ends the statement in which n groups are open
+abbrev pub ends : Division → ℕ → Form → Bool
+ends d n Trivia = false
+ends d n Semicolon = ends_at_semicolon d n
+ends d n Terminator = true
+ends d n Command = false
+ends d n Open = false
+ends d n Close = false
+ends d n Other = false
+
+-- how many groups are open behind a form that does not end the statement
+abbrev pub groups_after : ℕ → Form → ℕ
+groups_after n Trivia = n
+groups_after n Semicolon = n
+groups_after n Terminator = n
+groups_after n Command = n
+groups_after n Open = suc n
+groups_after zero Close = zero
+groups_after (suc n) Close = n
+groups_after n Other = n
+
+-- how many forms there are up to and with the first that ends the statement in which n groups are open
+abbrev pub closing : Division → ℕ → List Form → Option ℕ
+closing d n [] = None
+closing d n (f ∷ fs) = if ends d n f then Some 1 else option_map suc (closing d (groups_after n f) fs)
+
+-- how many forms there are up to and with the last that is not trivia
+abbrev pub solid_len : List Form → ℕ
+solid_len [] = 0
+solid_len (f ∷ fs) = if is_trivia f && solid_len fs == 0 then 0 else suc (solid_len fs)
+
+-- a child of the root: how many tokens it has behind its first, whether it is a node, and whether it is closed
+pub record Child : Type 0 where
+  pub more : ℕ
+  pub is_node : Bool
+  pub closed : Bool
+
+abbrev pub leaf : Child
+leaf = record { more = 0; is_node = false; closed = true }
+
+abbrev pub lone : Child
+lone = record { more = 0; is_node = true; closed = true }
+
+-- a statement by where it closes among the forms behind its first
+abbrev pub statement : Option ℕ → List Form → Child
+statement (Some n) fs = record { more = n; is_node = true; closed = true }
+statement None fs = record { more = solid_len fs; is_node = true; closed = false }
+
+-- the first child of a list with this first form and these behind it
+abbrev pub first : Division → Form → List Form → Child
+first d Trivia fs = leaf
+first d Semicolon fs = lone
+first d Terminator fs = lone
+first d Command fs = lone
+first d Open fs = statement (closing d 1 fs) fs
+first d Close fs = statement (closing d 0 fs) fs
+first d Other fs = statement (closing d 0 fs) fs
+
+-- A child begins at each form that is not inside one. The first `inside` forms are.
+abbrev pub children_from : ℕ → Division → List Form → List Child
+children_from inside d [] = []
+children_from zero d (f ∷ fs) = first d f fs ∷ children_from (first d f fs).more d fs
+children_from (suc inside) d (f ∷ fs) = children_from inside d fs
+
+-- the root's children
+abbrev pub children : Division → List Form → List Child
+children d fs = children_from 0 d fs
+
+-- how many behind the first belong to the first child
+abbrev pub more_of : {A : Type 0} → (A → Form) → Division → A → List A → ℕ
+more_of form_of d x xs = (first d (form_of x) (map form_of xs)).more
+
+-- the part of a list that each child has
+abbrev pub parts_from : {A : Type 0} → (A → Form) → ℕ → Division → List A → List (List A)
+parts_from form_of inside d [] = []
+parts_from form_of zero d (x ∷ xs) = (x ∷ take (more_of form_of d x xs) xs) ∷ parts_from form_of (more_of form_of d x xs) d xs
+parts_from form_of (suc inside) d (x ∷ xs) = parts_from form_of inside d xs
+
+abbrev pub parts : {A : Type 0} → (A → Form) → Division → List A → List (List A)
+parts form_of d xs = parts_from form_of 0 d xs
+
+abbrev pub first_of : Division → List Form → Child
+first_of d [] = leaf
+first_of d (f ∷ fs) = first d f fs
+
+-- a semicolon, terminator or command
+abbrev pub is_lone : Form → Bool
+is_lone Trivia = false
+is_lone Semicolon = true
+is_lone Terminator = true
+is_lone Command = true
+is_lone Open = false
+is_lone Close = false
+is_lone Other = false

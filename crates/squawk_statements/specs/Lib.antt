@@ -1,0 +1,9 @@
+pub mod Kinds
+pub mod Opening
+pub mod Rows
+pub mod Children
+pub mod First
+pub mod Plain
+pub mod PlainIsLawful
+pub mod Groups
+pub mod Laws

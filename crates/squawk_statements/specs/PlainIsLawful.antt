@@ -1,0 +1,203 @@
+-- The steps of a list of kinds are a tree of them.
+use Rattle.std.specs.Prelude.{◌≡◌, ℕ, zero, suc, ◌==◌, Bool, true, false, IsTrue, List, [], ◌∷◌, ◌++◌, take, drop, refl, if◌then◌else◌}
+use Rattle.std.proofs.Common.{ap, sym, ◌∙◌, append_assoc}
+use Rattle.std.proofs.lemmas.List.{take-append-drop, append-nil}
+use Rattle.squawk_events.specs.Kinds.{has_no_trivia}
+use Rattle.squawk_statements.specs.Kinds.{form}
+use Rattle.squawk_events.specs.Lawful.{IsLawful, is_balanced, closes, token_kinds, has_lawful_numbers}
+use Rattle.squawk_lexer.specs.Cut.{Form, Trivia, Semicolon, Terminator, Command, Open, Close, Other}
+use Rattle.squawk_kinds.specs.declared.numbers.TheConstants.Number.{ERROR}
+use Rattle.squawk_events.specs.declared.steps.Step.{Step}
+use Rattle.squawk_events.specs.declared.steps.Step.TheVariants.{Enter, Token, Exit, Error}
+use Rattle.squawk_statements.specs.Children.{ends, parts, parts_from, more_of}
+use Rattle.squawk_statements.specs.Plain.{plain, node_of, core, exits, kind_steps, open_behind, opened_before, closed_behind, fault, child_steps, children_steps}
+use Rattle.squawk_statements.specs.declared.division.Division.{Division}
+use Rattle.squawk_statements.specs.declared.division.Division.TheVariants.{Flat, Grouped}
+
+-- ---- balance
+
+-- n more
+abbrev raised : ℕ → ℕ → ℕ
+raised zero m = m
+raised (suc n) m = suc (raised n m)
+
+closes_exits : (n m : ℕ) (xs : List Step) → closes (raised n (suc m)) (exits n ++ xs) ≡ closes (suc m) xs
+closes_exits zero m xs = refl
+closes_exits (suc n) m xs = closes_exits n m xs
+
+closes_token : (n m kind : ℕ) (xs : List Step) → closes (raised n (suc m)) (Token kind ∷ xs) ≡ closes (raised n (suc m)) xs
+closes_token zero m kind xs = refl
+closes_token (suc n) m kind xs = refl
+
+closes_end : (n m kind : ℕ) (xs : List Step) → closes (raised n (suc m)) ((exits n ++ Token kind ∷ []) ++ xs) ≡ closes (suc m) xs
+closes_end n m kind xs = ap (closes (raised n (suc m))) (append_assoc (exits n) (Token kind ∷ []) xs) ∙ closes_exits n m (Token kind ∷ xs)
+
+-- the steps of a kind of this form
+abbrev steps_by : Division → ℕ → ℕ → Form → List Step
+steps_by d n kind f = if ends d n f then exits n ++ Token kind ∷ [] else opened_before f ++ Token kind ∷ closed_behind n f
+
+closes_kind : (d : Division) (n m kind : ℕ) (f : Form) (xs : List Step) → closes (raised n (suc m)) (steps_by d n kind f ++ xs) ≡ closes (raised (open_behind d n f) (suc m)) xs
+closes_kind d n m kind Trivia xs = closes_token n m kind xs
+closes_kind Flat n m kind Semicolon xs = closes_end n m kind xs
+closes_kind Grouped zero m kind Semicolon xs = refl
+closes_kind Grouped (suc n) m kind Semicolon xs = refl
+closes_kind d n m kind Terminator xs = closes_end n m kind xs
+closes_kind d n m kind Command xs = closes_token n m kind xs
+closes_kind d zero m kind Open xs = refl
+closes_kind d (suc n) m kind Open xs = refl
+closes_kind d zero m kind Close xs = refl
+closes_kind d (suc n) m kind Close xs = refl
+closes_kind d n m kind Other xs = closes_token n m kind xs
+
+closes_core : (d : Division) (n m : ℕ) (kinds : List ℕ) (xs : List Step) → closes (raised n (suc m)) (core d n kinds ++ xs) ≡ closes (suc m) xs
+closes_core d n m [] xs = closes_exits n m xs
+closes_core d n m (kind ∷ kinds) xs =
+    ap (closes (raised n (suc m))) (append_assoc (kind_steps d n kind) (core d (open_behind d n (form kind)) kinds) xs)
+    ∙ closes_kind d n m kind (form kind) (core d (open_behind d n (form kind)) kinds ++ xs)
+    ∙ closes_core d (open_behind d n (form kind)) m kinds xs
+
+closes_fault : (b : Bool) (m : ℕ) (xs : List Step) → closes (suc m) ((if b then Error 10 ∷ [] else []) ++ xs) ≡ closes (suc m) xs
+closes_fault true m xs = refl
+closes_fault false m xs = refl
+
+closes_child : (d : Division) (m : ℕ) (kinds : List ℕ) (xs : List Step) → closes (suc m) (child_steps d kinds ++ xs) ≡ closes (suc m) xs
+closes_child d m kinds xs =
+    let inner = fault (node_of kinds) in
+    ap (closes (suc (suc m))) (append_assoc (inner ++ core d 0 kinds) (Exit ∷ []) xs ∙ append_assoc inner (core d 0 kinds) (Exit ∷ xs))
+    ∙ closes_fault (node_of kinds == ERROR) (suc m) (core d 0 kinds ++ Exit ∷ xs)
+    ∙ closes_core d 0 (suc m) kinds (Exit ∷ xs)
+
+closes_children : (d : Division) (m : ℕ) (ps : List (List ℕ)) (xs : List Step) → closes (suc m) (children_steps d ps ++ xs) ≡ closes (suc m) xs
+closes_children d m [] xs = refl
+closes_children d m (p ∷ ps) xs =
+    ap (closes (suc m)) (append_assoc (child_steps d p) (children_steps d ps) xs)
+    ∙ closes_child d m p (children_steps d ps ++ xs) ∙ closes_children d m ps xs
+
+-- ---- tokens
+
+tokens_append : (xs ys : List Step) → token_kinds (xs ++ ys) ≡ token_kinds xs ++ token_kinds ys
+tokens_append [] ys = refl
+tokens_append (Enter kind ∷ xs) ys = tokens_append xs ys
+tokens_append (Token kind ∷ xs) ys = ap (λ ks. kind ∷ ks) (tokens_append xs ys)
+tokens_append (Exit ∷ xs) ys = tokens_append xs ys
+tokens_append (Error number ∷ xs) ys = tokens_append xs ys
+
+tokens_exits : (n : ℕ) (xs : List Step) → token_kinds (exits n ++ xs) ≡ token_kinds xs
+tokens_exits zero xs = refl
+tokens_exits (suc n) xs = tokens_exits n xs
+
+tokens_end : (n kind : ℕ) (xs : List Step) → token_kinds ((exits n ++ Token kind ∷ []) ++ xs) ≡ kind ∷ token_kinds xs
+tokens_end n kind xs = ap token_kinds (append_assoc (exits n) (Token kind ∷ []) xs) ∙ tokens_exits n (Token kind ∷ xs)
+
+tokens_kind : (d : Division) (n kind : ℕ) (f : Form) (xs : List Step) → token_kinds (steps_by d n kind f ++ xs) ≡ kind ∷ token_kinds xs
+tokens_kind d n kind Trivia xs = refl
+tokens_kind Flat n kind Semicolon xs = tokens_end n kind xs
+tokens_kind Grouped zero kind Semicolon xs = refl
+tokens_kind Grouped (suc n) kind Semicolon xs = refl
+tokens_kind d n kind Terminator xs = tokens_end n kind xs
+tokens_kind d n kind Command xs = refl
+tokens_kind d n kind Open xs = refl
+tokens_kind d zero kind Close xs = refl
+tokens_kind d (suc n) kind Close xs = refl
+tokens_kind d n kind Other xs = refl
+
+tokens_core : (d : Division) (n : ℕ) (kinds : List ℕ) (xs : List Step) → token_kinds (core d n kinds ++ xs) ≡ kinds ++ token_kinds xs
+tokens_core d n [] xs = tokens_exits n xs
+tokens_core d n (kind ∷ kinds) xs =
+    ap token_kinds (append_assoc (kind_steps d n kind) (core d (open_behind d n (form kind)) kinds) xs)
+    ∙ tokens_kind d n kind (form kind) (core d (open_behind d n (form kind)) kinds ++ xs)
+    ∙ ap (λ ks. kind ∷ ks) (tokens_core d (open_behind d n (form kind)) kinds xs)
+
+tokens_fault : (b : Bool) (xs : List Step) → token_kinds ((if b then Error 10 ∷ [] else []) ++ xs) ≡ token_kinds xs
+tokens_fault true xs = refl
+tokens_fault false xs = refl
+
+tokens_child : (d : Division) (kinds : List ℕ) (xs : List Step) → token_kinds (child_steps d kinds ++ xs) ≡ kinds ++ token_kinds xs
+tokens_child d kinds xs =
+    let inner = fault (node_of kinds) in
+    ap token_kinds (append_assoc (inner ++ core d 0 kinds) (Exit ∷ []) xs ∙ append_assoc inner (core d 0 kinds) (Exit ∷ xs))
+    ∙ tokens_fault (node_of kinds == ERROR) (core d 0 kinds ++ Exit ∷ xs)
+    ∙ tokens_core d 0 kinds (Exit ∷ xs)
+
+abbrev joined : {A : Type 0} → List (List A) → List A
+joined [] = []
+joined (xs ∷ rest) = xs ++ joined rest
+
+joined_parts : {A : Type 0} (form_of : A → Form) (n : ℕ) (d : Division) (xs : List A) → joined (parts_from form_of n d xs) ≡ drop n xs
+joined_parts form_of zero d [] = refl
+joined_parts form_of (suc n) d [] = refl
+joined_parts form_of zero d (x ∷ xs) =
+    let m = more_of form_of d x xs in
+    ap (λ ys. x ∷ (take m xs ++ ys)) (joined_parts form_of m d xs) ∙ ap (λ ys. x ∷ ys) (take-append-drop m xs)
+joined_parts form_of (suc n) d (x ∷ xs) = joined_parts form_of n d xs
+
+tokens_children : (d : Division) (ps : List (List ℕ)) (xs : List Step) → token_kinds (children_steps d ps ++ xs) ≡ joined ps ++ token_kinds xs
+tokens_children d [] xs = refl
+tokens_children d (p ∷ ps) xs =
+    ap token_kinds (append_assoc (child_steps d p) (children_steps d ps) xs)
+    ∙ tokens_child d p (children_steps d ps ++ xs)
+    ∙ ap (λ ks. p ++ ks) (tokens_children d ps xs)
+    ∙ sym (append_assoc p (joined ps) (token_kinds xs))
+
+-- ---- numbers
+
+numbers_exits : (n : ℕ) (xs : List Step) → has_lawful_numbers (exits n ++ xs) ≡ has_lawful_numbers xs
+numbers_exits zero xs = refl
+numbers_exits (suc n) xs = numbers_exits n xs
+
+numbers_end : (n kind : ℕ) (xs : List Step) → has_lawful_numbers ((exits n ++ Token kind ∷ []) ++ xs) ≡ has_lawful_numbers xs
+numbers_end n kind xs = ap has_lawful_numbers (append_assoc (exits n) (Token kind ∷ []) xs) ∙ numbers_exits n (Token kind ∷ xs)
+
+numbers_kind : (d : Division) (n kind : ℕ) (f : Form) (xs : List Step) → has_lawful_numbers (steps_by d n kind f ++ xs) ≡ has_lawful_numbers xs
+numbers_kind d n kind Trivia xs = refl
+numbers_kind Flat n kind Semicolon xs = numbers_end n kind xs
+numbers_kind Grouped zero kind Semicolon xs = refl
+numbers_kind Grouped (suc n) kind Semicolon xs = refl
+numbers_kind d n kind Terminator xs = numbers_end n kind xs
+numbers_kind d n kind Command xs = refl
+numbers_kind d n kind Open xs = refl
+numbers_kind d zero kind Close xs = refl
+numbers_kind d (suc n) kind Close xs = refl
+numbers_kind d n kind Other xs = refl
+
+numbers_core : (d : Division) (n : ℕ) (kinds : List ℕ) (xs : List Step) → has_lawful_numbers (core d n kinds ++ xs) ≡ has_lawful_numbers xs
+numbers_core d n [] xs = numbers_exits n xs
+numbers_core d n (kind ∷ kinds) xs =
+    ap has_lawful_numbers (append_assoc (kind_steps d n kind) (core d (open_behind d n (form kind)) kinds) xs)
+    ∙ numbers_kind d n kind (form kind) (core d (open_behind d n (form kind)) kinds ++ xs)
+    ∙ numbers_core d (open_behind d n (form kind)) kinds xs
+
+numbers_fault : (b : Bool) (xs : List Step) → has_lawful_numbers ((if b then Error 10 ∷ [] else []) ++ xs) ≡ has_lawful_numbers xs
+numbers_fault true xs = refl
+numbers_fault false xs = refl
+
+numbers_child : (d : Division) (kinds : List ℕ) (xs : List Step) → has_lawful_numbers (child_steps d kinds ++ xs) ≡ has_lawful_numbers xs
+numbers_child d kinds xs =
+    let inner = fault (node_of kinds) in
+    ap has_lawful_numbers (append_assoc (inner ++ core d 0 kinds) (Exit ∷ []) xs ∙ append_assoc inner (core d 0 kinds) (Exit ∷ xs))
+    ∙ numbers_fault (node_of kinds == ERROR) (core d 0 kinds ++ Exit ∷ xs)
+    ∙ numbers_core d 0 kinds (Exit ∷ xs)
+
+numbers_children : (d : Division) (ps : List (List ℕ)) (xs : List Step) → has_lawful_numbers (children_steps d ps ++ xs) ≡ has_lawful_numbers xs
+numbers_children d [] xs = refl
+numbers_children d (p ∷ ps) xs =
+    ap has_lawful_numbers (append_assoc (child_steps d p) (children_steps d ps) xs)
+    ∙ numbers_child d p (children_steps d ps ++ xs) ∙ numbers_children d ps xs
+
+pub plain_lawful : (d : Division) (kinds : List ℕ) → IsTrue (has_no_trivia kinds) → IsLawful kinds (plain d kinds)
+plain_lawful d kinds none = record {
+  balanced = closes_children d 0 (parts form d kinds) (Exit ∷ []);
+  tokens = tokens_children d (parts form d kinds) (Exit ∷ []) ∙ append-nil (joined (parts form d kinds)) ∙ joined_parts form 0 d kinds;
+  numbers = numbers_children d (parts form d kinds) (Exit ∷ []);
+}
+
+-- a child's steps are a tree of its kinds
+pub child_balanced : (d : Division) (kinds : List ℕ) → is_balanced (child_steps d kinds) ≡ true
+child_balanced d kinds =
+    let inner = fault (node_of kinds) in
+    ap (closes 1) (append_assoc inner (core d 0 kinds) (Exit ∷ []))
+    ∙ closes_fault (node_of kinds == ERROR) 0 (core d 0 kinds ++ Exit ∷ [])
+    ∙ closes_core d 0 0 kinds (Exit ∷ [])
+
+pub child_tokens : (d : Division) (kinds : List ℕ) → token_kinds (child_steps d kinds) ≡ kinds
+child_tokens d kinds = ap token_kinds (sym (append-nil (child_steps d kinds))) ∙ tokens_child d kinds [] ∙ append-nil kinds

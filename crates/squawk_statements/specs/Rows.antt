@@ -1,0 +1,35 @@
+-- The rows of the table as lists, and the kinds that decide.
+use Rattle.std.specs.Prelude.{◌≡◌, ℕ, ◌==◌, ◌&&◌, ◌||◌, Bool, false, List, [], ◌∷◌, drop, if◌then◌else◌}
+use Rattle.std.specs.List.{find, prefix_len}
+use Rattle.squawk_kinds.specs.declared.numbers.TheConstants.Number as kind
+use Rattle.squawk_events.specs.Kinds.{is_trivia_kind, kept}
+use Rattle.squawk_statements.specs.Opening as opening
+use Rattle.squawk_statements.specs.declared.rows.Row.{Row}
+
+-- the kinds and the node of a row
+abbrev pub row_of : Row → opening.Row
+row_of row = (row.first ∷ row.more.now, row.node)
+
+-- of these rows the first that fits is the longest of the whole table, where the first kind is this one
+unfoldable pub Decide : ℕ → List opening.Row → Type 0
+Decide first rows = (more : List ℕ) → find (λ (row : opening.Row). opening.is_prefix row.0 (first ∷ more)) rows ≡ opening.longest opening.rows (first ∷ more)
+
+-- the kinds that are read: all, or those that are no trivia
+abbrev pub read : Bool → List ℕ → List ℕ
+read past_trivia ks = if past_trivia then kept ks else ks
+
+-- what the key still takes of these kinds, where it has others so far
+abbrev pub key_behind : List ℕ → List ℕ → List ℕ
+key_behind [] ks = opening.key ks
+key_behind (k ∷ []) ks = if k == kind.CREATE_KW then drop (prefix_len opening.is_modifier ks) ks else ks
+key_behind (k ∷ l ∷ so_far) ks = ks
+
+-- whether a kind behind these is a modifier that is left out
+abbrev pub is_left_out : List ℕ → ℕ → Bool
+is_left_out [] k = false
+is_left_out (c ∷ []) k = c == kind.CREATE_KW && opening.is_modifier k
+is_left_out (c ∷ d ∷ so_far) k = false
+
+-- whether the key goes on behind a kind without it
+abbrev pub is_passed : Bool → List ℕ → ℕ → Bool
+is_passed past_trivia so_far k = past_trivia && is_trivia_kind k || is_left_out so_far k

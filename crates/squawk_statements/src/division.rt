@@ -1,0 +1,63 @@
+//! What ends a statement, and what opens and closes a group.
+ghost use Rattle.std.specs.Prelude.{◌≡◌, ◌<◌, ◌^◌};
+ghost use Rattle.squawk_lexer.specs.Cut.{is_trivia};
+ghost use Rattle.squawk_statements.specs.Children.{ends, groups_after, is_lone};
+ghost use Rattle.squawk_statements.specs.Kinds.{form};
+
+use squawk_kinds::SyntaxKind;
+
+/// Where a semicolon ends a statement.
+#[derive(Clone, Copy, Debug, PartialEq, Eq)]
+pub enum Division {
+    /// Each semicolon ends one.
+    Flat,
+    /// A semicolon between parentheses ends none.
+    Grouped,
+}
+
+/// Whether the kind is trivia: white space or a comment.
+#[tactic(auto, unfolding(crate::specs::Kinds::form))]
+pub(crate) fn is_trivia(kind: SyntaxKind) -> bool
+    ensures { result ≡ is_trivia (form kind) }
+{
+    matches!(kind, SyntaxKind::WHITESPACE | SyntaxKind::COMMENT)
+}
+
+/// Whether the kind is a child of the root by itself where no statement is open.
+#[tactic(auto, unfolding(crate::specs::Kinds::form))]
+pub(crate) fn is_lone(kind: SyntaxKind) -> bool
+    ensures { result ≡ is_lone (form kind) }
+{
+    matches!(
+        kind,
+        SyntaxKind::SEMICOLON | SyntaxKind::PSQL_TERMINATOR_TEXT | SyntaxKind::PSQL_COMMAND_TEXT
+    )
+}
+
+/// Whether the kind ends the statement in which so many groups are open.
+#[tactic(auto, unfolding(crate::specs::Kinds::form))]
+pub(crate) fn is_end(division: Division, groups: usize, kind: SyntaxKind) -> bool
+    ensures { result ≡ ends division groups (form kind) }
+{
+    match kind {
+        SyntaxKind::PSQL_TERMINATOR_TEXT => true,
+        SyntaxKind::SEMICOLON => match division {
+            Division::Flat => true,
+            Division::Grouped => groups == 0,
+        },
+        _ => false,
+    }
+}
+
+/// How many groups are open behind a kind that does not end the statement.
+#[tactic(auto, unfolding(crate::specs::Kinds::form))]
+pub(crate) fn next_groups(groups: usize, kind: SyntaxKind) -> usize
+    requires { groups < 2 ^ 63 }
+    ensures { result ≡ groups_after groups (form kind) }
+{
+    match kind {
+        SyntaxKind::L_PAREN => groups + 1,
+        SyntaxKind::R_PAREN => groups.saturating_sub(1),
+        _ => groups,
+    }
+}

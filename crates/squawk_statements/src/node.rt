@@ -1,0 +1,135 @@
+//! The node of a statement, by the kinds that it begins with.
+ghost use Rattle.std.specs.Prelude.{◌↔◌, false, IsNone, ◌≡◌, ◌≤◌, ◌<◌, length, take, option_map};
+ghost use Rattle.squawk_events.specs.Kinds.{is_trivia_kind};
+ghost use Rattle.squawk_statements.specs.Opening.{is_modifier, is_prefix, key, longest, opening_of, statement_node, rows};
+ghost use Rattle.std.specs.List.{list_any};
+ghost use Rattle.squawk_statements.specs.Rows.{row_of, read, is_left_out, is_passed};
+
+use crate::rows::{Row, rows_from};
+use squawk_kinds::SyntaxKind;
+use squawk_kinds::numbers::Number;
+
+/// The kinds that decide the node of a statement, by their numbers: no row has more than four.
+#[derive(Clone, Copy)]
+struct Start {
+    kinds: [u16; 4],
+    len: usize,
+}
+
+/// Whether the kind is white space or a comment.
+#[tactic(auto, unfolding(squawk_events::specs::Kinds::is_trivia_kind))]
+pub(crate) fn is_trivia(kind: SyntaxKind) -> bool
+    ensures { result ≡ is_trivia_kind kind }
+{
+    matches!(kind, SyntaxKind::WHITESPACE | SyntaxKind::COMMENT)
+}
+
+/// Whether the kind may stand between `CREATE` and what is created.
+#[tactic(auto, unfolding(crate::specs::Opening::is_modifier, crate::specs::Opening::modifiers))]
+fn is_modifier(kind: SyntaxKind) -> bool
+    ensures { result ≡ is_modifier kind }
+{
+    matches!(
+        kind,
+        SyntaxKind::OR_KW
+            | SyntaxKind::REPLACE_KW
+            | SyntaxKind::TEMP_KW
+            | SyntaxKind::TEMPORARY_KW
+            | SyntaxKind::GLOBAL_KW
+            | SyntaxKind::LOCAL_KW
+            | SyntaxKind::UNLOGGED_KW
+            | SyntaxKind::UNIQUE_KW
+            | SyntaxKind::TRUSTED_KW
+            | SyntaxKind::PROCEDURAL_KW
+            | SyntaxKind::RECURSIVE_KW
+            | SyntaxKind::CONSTRAINT_KW
+    )
+}
+
+/// Whether a statement that begins with these kinds begins with those of the row.
+fn fits(row: &Row, start: &[u16]) -> bool
+    requires { 0 < length start.now }
+    ensures { result ≡ is_prefix (row_of row.now).0 start.now }
+{
+    row.first == start[0] && start[1..].starts_with(row.more)
+}
+
+/// The node of the longest row that is a prefix of these kinds.
+fn look_up(start: &[u16]) -> Option<SyntaxKind>
+    ensures { result ≡ option_map (λ row. row.1) (longest rows start.now) }
+{
+    if start.is_empty() {
+        return None;
+    }
+    let rows = rows_from(start[0]);
+    for row in rows {
+        if fits(row, start) {
+            return SyntaxKind::from_raw(row.node);
+        }
+    }
+    None
+}
+
+/// The first kinds of the key of these kinds, or of those of them that are no trivia.
+fn start_of(kinds: &[SyntaxKind], past_trivia: bool) -> Start
+    ensures within { result.len ≤ 4 }
+    ensures key { take result.len result.kinds ≡ take 4 (key (read past_trivia kinds.now)) }
+{
+    let mut start = Start {
+        kinds: [0; 4],
+        len: 0,
+    };
+    for kind in kinds {
+        if start.len == 4 {
+            return start;
+        }
+        if !is_passed(&start.kinds[..start.len], past_trivia, *kind) {
+            start.kinds[start.len] = kind.to_raw();
+            start.len += 1;
+        }
+    }
+    start
+}
+
+/// Whether the kind is a modifier that is left out behind these kinds of the key.
+fn is_left_out(so_far: &[u16], kind: SyntaxKind) -> bool
+    ensures { result ≡ is_left_out so_far.now kind }
+{
+    so_far.len() == 1 && so_far[0] == Number::CREATE_KW && is_modifier(kind)
+}
+
+/// Whether the key goes on behind this kind without it.
+fn is_passed(so_far: &[u16], past_trivia: bool, kind: SyntaxKind) -> bool
+    ensures { result ≡ is_passed past_trivia so_far.now kind }
+{
+    past_trivia && is_trivia(kind) || is_left_out(so_far, kind)
+}
+
+/// The node of a statement of these kinds, or of those of them that are no trivia.
+fn opening_in(kinds: &[SyntaxKind], past_trivia: bool) -> Option<SyntaxKind>
+    ensures { result ≡ opening_of (read past_trivia kinds.now) }
+{
+    let start = start_of(kinds, past_trivia);
+    look_up(&start.kinds[..start.len])
+}
+
+/// The node of a statement whose kinds that are no trivia are these.
+///
+/// The longest row of the table decides that is a prefix of the kinds, where modifiers such as `OR REPLACE` behind a first `CREATE` are
+/// left out. `None` exactly where no row is: the node is then `ERROR`.
+pub fn opening(kinds: &[SyntaxKind]) -> Option<SyntaxKind>
+    ensures node { result ≡ opening_of kinds.now }
+    ensures none { IsNone result ↔ (list_any (λ row. is_prefix row.0 (key kinds.now)) rows ≡ false) }
+{
+    opening_in(kinds, false)
+}
+
+/// The node of a statement of these kinds, or of those of them that are no trivia.
+pub(crate) fn statement_node(kinds: &[SyntaxKind], past_trivia: bool) -> SyntaxKind
+    ensures { result ≡ statement_node (read past_trivia kinds.now) }
+{
+    match opening_in(kinds, past_trivia) {
+        Some(node) => node,
+        None => SyntaxKind::ERROR,
+    }
+}

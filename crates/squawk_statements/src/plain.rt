@@ -1,0 +1,179 @@
+//! The plain grammar.
+ghost use Rattle.std.specs.Prelude.{◌≡◌, ◌≤◌, ◌<◌, ◌+◌, ◌^◌, [], ◌∷◌, ◌++◌, length, OnOk, IfOk, IsOkUnless, IsTrue};
+ghost use Rattle.squawk_events.specs.Depth.{depth_of};
+ghost use Rattle.squawk_statements.specs.Kinds.{form};
+ghost use Rattle.squawk_events.specs.declared.error.FrontError.TheVariants.{OutOfMemory};
+ghost use Rattle.squawk_statements.specs.Plain.{node_of, exits, kind_steps, open_behind, core, fault, child_steps, plain};
+ghost use Rattle.squawk_statements.specs.declared.division.Division.TheVariants.{Flat};
+
+use crate::division::{Division, is_end};
+use crate::first::first_rest;
+use crate::node::statement_node;
+use squawk_events::{FrontError, Grammar, Input, Output};
+use squawk_kinds::SyntaxKind;
+
+/// Ends so many groups.
+fn close_groups(output: &mut Output, groups: usize) -> Result<(), FrontError>
+    requires { groups ≤ depth_of output.old }
+    ensures ok { OnOk result (output.new ≡ output.old ++ exits groups) }
+    ensures depth { OnOk result (depth_of output.new + groups ≡ depth_of output.old) }
+    ensures refusal { IsOkUnless result OutOfMemory }
+{
+    let mut left = groups;
+    while left > 0 {
+        output.exit()?;
+        left -= 1;
+    }
+    Ok(())
+}
+
+/// Gives the steps of a kind of a child, and answers how many groups are open behind it.
+#[tactic(auto, unfolding(crate::specs::Kinds::form))]
+fn put_kind(
+    output: &mut Output,
+    division: Division,
+    groups: usize,
+    kind: SyntaxKind,
+) -> Result<usize, FrontError>
+    requires open_groups { groups ≤ depth_of output.old }
+    requires small { groups < 2 ^ 63 }
+    ensures ok { OnOk result (output.new ≡ output.old ++ kind_steps division groups kind) }
+    ensures groups { IfOk result (λ n. n ≡ open_behind division groups (form kind)) }
+    ensures depth { IfOk result (λ n. depth_of output.new + groups ≡ depth_of output.old + n) }
+    ensures more { IfOk result (λ n. n ≤ groups + 1) }
+    ensures refusal { IsOkUnless result OutOfMemory }
+{
+    if is_end(division, groups, kind) {
+        close_groups(output, groups)?;
+        output.token(kind)?;
+        return Ok(0);
+    }
+    match kind {
+        SyntaxKind::L_PAREN => {
+            output.enter(SyntaxKind::PAREN_EXPR)?;
+            output.token(kind)?;
+            Ok(groups + 1)
+        }
+        SyntaxKind::R_PAREN if groups > 0 => {
+            output.token(kind)?;
+            output.exit()?;
+            Ok(groups - 1)
+        }
+        _ => {
+            output.token(kind)?;
+            Ok(groups)
+        }
+    }
+}
+
+/// Gives the steps of what a child holds.
+fn put_core(output: &mut Output, division: Division, kinds: &[SyntaxKind]) -> Result<(), FrontError>
+    ensures ok { OnOk result (output.new ≡ output.old ++ core division 0 kinds.now) }
+    ensures depth { OnOk result (depth_of output.new ≡ depth_of output.old) }
+    ensures refusal { IsOkUnless result OutOfMemory }
+{
+    let mut groups = 0;
+    for i in 0..kinds.len() {
+        groups = put_kind(output, division, groups, kinds[i])?;
+    }
+    close_groups(output, groups)
+}
+
+/// Notes an unknown statement.
+fn put_fault(output: &mut Output, node: SyntaxKind) -> Result<(), FrontError>
+    ensures ok { OnOk result (output.new ≡ output.old ++ fault node) }
+    ensures depth { OnOk result (depth_of output.new ≡ depth_of output.old) }
+    ensures refusal { IsOkUnless result OutOfMemory }
+{
+    if node == SyntaxKind::ERROR {
+        output.error(10)?;
+    }
+    Ok(())
+}
+
+/// The node of a child of these kinds, none of which is trivia.
+#[tactic(auto, unfolding(crate::specs::Kinds::form))]
+fn node_of(kinds: &[SyntaxKind]) -> SyntaxKind
+    requires { 0 < length kinds.now }
+    ensures { result ≡ node_of kinds.now }
+{
+    let first = kinds[0];
+    match first {
+        SyntaxKind::WHITESPACE | SyntaxKind::COMMENT => SyntaxKind::ERROR,
+        SyntaxKind::SEMICOLON => SyntaxKind::EMPTY_STMT,
+        SyntaxKind::PSQL_TERMINATOR_TEXT | SyntaxKind::PSQL_COMMAND_TEXT =>
+            SyntaxKind::PSQL_COMMAND,
+        _ => statement_node(kinds, false),
+    }
+}
+
+/// Gives the steps of a child.
+fn put_child(
+    output: &mut Output,
+    division: Division,
+    kinds: &[SyntaxKind],
+) -> Result<(), FrontError>
+    requires { 0 < length kinds.now }
+    ensures ok { OnOk result (output.new ≡ output.old ++ child_steps division kinds.now) }
+    ensures depth { OnOk result (depth_of output.new ≡ depth_of output.old) }
+    ensures refusal { IsOkUnless result OutOfMemory }
+{
+    let node = node_of(kinds);
+    output.enter(node)?;
+    put_fault(output, node)?;
+    put_core(output, division, kinds)?;
+    output.exit()
+}
+
+/// Gives the steps of a text of these kinds.
+fn put_plain(
+    output: &mut Output,
+    division: Division,
+    kinds: &[SyntaxKind],
+) -> Result<(), FrontError>
+    requires { output.old ≡ [] }
+    ensures ok { OnOk result (output.new ≡ plain division kinds.now) }
+    ensures refusal { IsOkUnless result OutOfMemory }
+{
+    output.enter(SyntaxKind::SOURCE_FILE)?;
+    let mut at = 0;
+    while at < kinds.len() {
+        let count = first_rest(division, &kinds[at..]).more + 1;
+        put_child(output, division, &kinds[at..at + count])?;
+        at += count;
+    }
+    output.exit()
+}
+
+/// Statements by their semicolons, with groups inside them.
+#[derive(Clone, Copy, Debug, PartialEq, Eq)]
+pub struct PlainGrammar;
+
+impl Grammar for PlainGrammar {
+    ghost use Rattle.squawk_statements.specs.PlainIsLawful.{plain_lawful};
+
+    ghost told = { λ _ kinds. plain Flat kinds };
+
+    fn run(&self, input: &Input, output: &mut Output) -> Result<(), FrontError> {
+        put_plain(output, Division::Flat, input.kinds())
+    }
+
+    ghost lawful = { λ _ kinds no_trivia. plain_lawful Flat kinds no_trivia };
+}
+
+/// The same, where a semicolon inside a group ends no statement.
+#[derive(Clone, Copy, Debug, PartialEq, Eq)]
+pub struct GroupedGrammar;
+
+impl Grammar for GroupedGrammar {
+    ghost use Rattle.squawk_statements.specs.PlainIsLawful.{plain_lawful};
+    ghost use Rattle.squawk_statements.specs.declared.division.Division.TheVariants.{Grouped};
+
+    ghost told = { λ _ kinds. plain Grouped kinds };
+
+    fn run(&self, input: &Input, output: &mut Output) -> Result<(), FrontError> {
+        put_plain(output, Division::Grouped, input.kinds())
+    }
+
+    ghost lawful = { λ _ kinds no_trivia. plain_lawful Grouped kinds no_trivia };
+}
