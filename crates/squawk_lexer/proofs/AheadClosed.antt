@@ -1,4 +1,4 @@
--- Elements that close are decided by the characters up to their end, and by the next.
+-- Elements that close are decided by the characters up to their end, and by what the tests say of the next.
 use Rattle.std.proofs.Common.{◌≡◌, ℕ, zero, suc, ◌+◌, ◌<◌, ◌≤◌, Bool, true, false, List, [], ◌∷◌, ◌++◌, length, get_or, take, drop, length-drop, length-append, Option, None, Some, option_map, unwrap_or, is_some, nat_eq, refl, sym, ap, ◌∙◌, ◌&&◌, eqb, cond, arith}
 use Rattle.std.proofs.lemmas.List.{take-append-le}
 use Rattle.std.proofs.lemmas.Bool.{and_parts, false≢true}
@@ -16,24 +16,29 @@ use Rattle.squawk_lexer.specs.Dollar.{tag_end, opens_dollar, delimiter, find_end
 use Rattle.squawk_lexer.proofs.TokenLaws.{junk_on}
 use Rattle.squawk_lexer.proofs.DollarLaws as dollars
 use Rattle.squawk_lexer.proofs.Steps.{drop_read, within_read, junk_past}
-use Rattle.squawk_lexer.proofs.Ahead.{Looks, branch, pick, Alike, read, take_same, seen}
-use Rattle.squawk_lexer.proofs.AheadRuns.{run_same, parameter_same}
+use Rattle.squawk_lexer.proofs.Ahead.{Looks, branch, pick, Alike, take_same, test, seen}
+use Rattle.squawk_lexer.proofs.AheadRuns.{Asks, run_same, parameter_same}
 
 -- ---- ends that are found or not
 
 -- an end that is found j characters further on
-pub shorter : (o : Option ℕ) (j len total n : ℕ) → total ≡ len + j → unwrap_or (option_map (λ m. m + j) o) total + 1 ≤ n + j → unwrap_or o len + 1 ≤ n
+pub shorter : (o : Option ℕ) (j len total n : ℕ) → total ≡ len + j → unwrap_or (option_map (λ m. m + j) o) total ≤ n + j → unwrap_or o len ≤ n
 shorter None j len total n e h = omega arith
 shorter (Some m) j len total n e h = omega arith
 
-pub later : (o p : Option ℕ) (j len total n : ℕ) → total ≡ len + j → (unwrap_or o len + 1 ≤ n → p ≡ o) → unwrap_or (option_map (λ m. m + j) o) total + 1 ≤ n + j
+pub later : (o p : Option ℕ) (j len total n : ℕ) → total ≡ len + j → (unwrap_or o len ≤ n → p ≡ o) → unwrap_or (option_map (λ m. m + j) o) total ≤ n + j
     → option_map (λ m. m + j) p ≡ option_map (λ m. m + j) o
 later o p j len total n e same h = ap (option_map (λ m. m + j)) (same (shorter o j len total n e h))
 
 -- at least j, where that many more follow
-far : (o : Option ℕ) (j len total : ℕ) → total ≡ len + j → j ≤ unwrap_or (option_map (λ m. m + j) o) total
+pub far : (o : Option ℕ) (j len total : ℕ) → total ≡ len + j → j ≤ unwrap_or (option_map (λ m. m + j) o) total
 far None j len total e = omega arith
 far (Some m) j len total e = omega arith
+
+-- and n more than that
+pub farther : (o : Option ℕ) (j len total n : ℕ) → total ≡ len + j → n ≤ unwrap_or o len → n + j ≤ unwrap_or (option_map (λ m. m + j) o) total
+farther None j len total n e h = omega arith
+farther (Some m) j len total n e h = omega arith
 
 pub either_far : (b : Bool) (x y : Option ℕ) (len n : ℕ) → n ≤ unwrap_or x len → n ≤ unwrap_or y len → n ≤ unwrap_or (cond b x y) len
 either_far true x y len n p q = p
@@ -48,18 +53,23 @@ quoted_far escapes q c (d ∷ cs) =
     either_far (eqb c q) _ _ _ 1 (either_far (eqb d q) _ (Some 1) _ 1 two (omega arith))
     (either_far (escapes && eqb c 92) _ _ _ 1 two (far (quoted_len escapes q (d ∷ cs)) 1 (length (d ∷ cs)) (length (c ∷ d ∷ cs)) (omega arith)))
 
-quoted_looks : (escapes : Bool) (q : ℕ) → Looks 1 (quoted_len escapes q) (λ v. unwrap_or (quoted_len escapes q v) (length v))
-quoted_looks escapes q [] r s h = absurd (omega arith)
-quoted_looks escapes q (x ∷ []) r s h = absurd (omega (arith, quoted_far escapes q x r))
-quoted_looks escapes q (x ∷ y ∷ xs) r s h =
-    let m = λ (o : Option ℕ). unwrap_or o (length (x ∷ y ∷ xs ++ r)) + 1 in
+quoted_looks : {told : (ℕ → Bool) → Type 0} {pairs : (ℕ → Bool) → (ℕ → Bool) → Type 0} (escapes : Bool) (q : ℕ) → told (λ c. eqb c q) → Looks told pairs (quoted_len escapes q) (λ v. unwrap_or (quoted_len escapes q v) (length v))
+quoted_looks escapes q t [] c d r s f h = absurd (omega (arith, quoted_far escapes q c r))
+quoted_looks escapes q t (x ∷ []) c d r s f h =
+    let m = λ (o : Option ℕ). unwrap_or o (length (x ∷ c ∷ r)) in
+    let two = far (quoted_len escapes q r) 2 (length r) (length (x ∷ c ∷ r)) (omega arith) in
+    let one = farther (quoted_len escapes q (c ∷ r)) 1 (length (c ∷ r)) (length (x ∷ c ∷ r)) 1 (omega arith) (quoted_far escapes q c r) in
+    branch m (eqb x q) _ _ _ _ 1 (λ e. pick m (eqb c q) (eqb d q) _ (Some 1) _ (Some 1) 1 (f.one (λ c. eqb c q) t) (λ e k. absurd (omega (arith, two))) (λ e k. refl))
+    (λ e. branch m (escapes && eqb x 92) _ _ _ _ 1 (λ e k. absurd (omega (arith, two))) (λ e k. absurd (omega (arith, one)))) h
+quoted_looks escapes q t (x ∷ y ∷ xs) c d r s f h =
+    let m = λ (o : Option ℕ). unwrap_or o (length (x ∷ y ∷ xs ++ c ∷ r)) in
     let n = length (x ∷ y ∷ xs) in
-    let two = λ (k : unwrap_or (option_map (λ n. n + 2) (quoted_len escapes q (xs ++ r))) (length (x ∷ y ∷ xs ++ r)) + 1 ≤ n).
-    later (quoted_len escapes q (xs ++ r)) (quoted_len escapes q (xs ++ s)) 2 (length (xs ++ r)) (length (x ∷ y ∷ xs ++ r)) (length xs) (omega arith) (quoted_looks escapes q xs r s) (omega arith) in
-    let one = λ (k : unwrap_or (option_map (λ n. n + 1) (quoted_len escapes q (y ∷ xs ++ r))) (length (x ∷ y ∷ xs ++ r)) + 1 ≤ n).
-    later (quoted_len escapes q (y ∷ xs ++ r)) (quoted_len escapes q (y ∷ xs ++ s)) 1 (length (y ∷ xs ++ r)) (length (x ∷ y ∷ xs ++ r)) (length (y ∷ xs)) (omega arith) (quoted_looks escapes q (y ∷ xs) r s) (omega arith) in
-    branch m (eqb x q) _ _ _ _ n (λ t. branch m (eqb y q) _ (Some 1) _ (Some 1) n (λ t k. two k) (λ t k. refl))
-    (λ t. branch m (escapes && eqb x 92) _ _ _ _ n (λ t k. two k) (λ t k. one k)) h
+    let two = λ (k : unwrap_or (option_map (λ n. n + 2) (quoted_len escapes q (xs ++ c ∷ r))) (length (x ∷ y ∷ xs ++ c ∷ r)) ≤ n).
+    later (quoted_len escapes q (xs ++ c ∷ r)) (quoted_len escapes q (xs ++ d ∷ s)) 2 (length (xs ++ c ∷ r)) (length (x ∷ y ∷ xs ++ c ∷ r)) (length xs) (omega arith) (quoted_looks escapes q t xs c d r s f) (omega arith) in
+    let one = λ (k : unwrap_or (option_map (λ n. n + 1) (quoted_len escapes q (y ∷ xs ++ c ∷ r))) (length (x ∷ y ∷ xs ++ c ∷ r)) ≤ n).
+    later (quoted_len escapes q (y ∷ xs ++ c ∷ r)) (quoted_len escapes q (y ∷ xs ++ d ∷ s)) 1 (length (y ∷ xs ++ c ∷ r)) (length (x ∷ y ∷ xs ++ c ∷ r)) (length (y ∷ xs)) (omega arith) (quoted_looks escapes q t (y ∷ xs) c d r s f) (omega arith) in
+    branch m (eqb x q) _ _ _ _ n (λ e. branch m (eqb y q) _ (Some 1) _ (Some 1) n (λ e k. two k) (λ e k. refl))
+    (λ e. branch m (escapes && eqb x 92) _ _ _ _ n (λ e k. two k) (λ e k. one k)) h
 
 -- ---- block comments
 
@@ -72,34 +82,45 @@ comment_far (suc n) c (d ∷ cs) =
     either_far (opens c d) _ _ _ 1 (omega (arith, far (comment_len (suc (suc n)) cs) 2 (length cs) (length (c ∷ d ∷ cs)) (omega arith)))
     (either_far (closes c d) _ _ _ 1 (omega (arith, far (comment_len n cs) 2 (length cs) (length (c ∷ d ∷ cs)) (omega arith))) (far (comment_len (suc n) (d ∷ cs)) 1 (length (d ∷ cs)) (length (c ∷ d ∷ cs)) (omega arith)))
 
-comment_looks : (inner : ℕ) (xs r s : List ℕ) → unwrap_or (comment_len inner (xs ++ r)) (length (xs ++ r)) + 1 ≤ length xs → comment_len inner (xs ++ s) ≡ comment_len inner (xs ++ r)
-comment_looks inner [] r s h = absurd (omega arith)
-comment_looks inner (x ∷ []) r s h = absurd (omega (arith, comment_far inner x r))
-comment_looks zero (x ∷ y ∷ xs) r s h =
-    let m = λ (o : Option ℕ). unwrap_or o (length (x ∷ y ∷ xs ++ r)) + 1 in
+-- and at least two of two
+comment_farther : (inner x c : ℕ) (cs : List ℕ) → 2 ≤ unwrap_or (comment_len inner (x ∷ c ∷ cs)) (length (x ∷ c ∷ cs))
+comment_farther zero x c cs =
+    let total = length (x ∷ c ∷ cs) in
+    either_far (opens x c) _ _ _ 2 (far (comment_len 1 cs) 2 (length cs) total (omega arith))
+    (either_far (closes x c) (Some 2) _ _ 2 (omega arith) (farther (comment_len 0 (c ∷ cs)) 1 (length (c ∷ cs)) total 1 (omega arith) (comment_far 0 c cs)))
+comment_farther (suc n) x c cs =
+    let total = length (x ∷ c ∷ cs) in
+    either_far (opens x c) _ _ _ 2 (far (comment_len (suc (suc n)) cs) 2 (length cs) total (omega arith))
+    (either_far (closes x c) _ _ _ 2 (far (comment_len n cs) 2 (length cs) total (omega arith)) (farther (comment_len (suc n) (c ∷ cs)) 1 (length (c ∷ cs)) total 1 (omega arith) (comment_far (suc n) c cs)))
+
+comment_looks : (inner : ℕ) (xs : List ℕ) (c d : ℕ) (r s : List ℕ) → unwrap_or (comment_len inner (xs ++ c ∷ r)) (length (xs ++ c ∷ r)) ≤ length xs → comment_len inner (xs ++ d ∷ s) ≡ comment_len inner (xs ++ c ∷ r)
+comment_looks inner [] c d r s h = absurd (omega (arith, comment_far inner c r))
+comment_looks inner (x ∷ []) c d r s h = absurd (omega (arith, comment_farther inner x c r))
+comment_looks zero (x ∷ y ∷ xs) c d r s h =
+    let m = λ (o : Option ℕ). unwrap_or o (length (x ∷ y ∷ xs ++ c ∷ r)) in
     let n = length (x ∷ y ∷ xs) in
     branch m (opens x y) _ _ _ _ n
-    (λ t k. later (comment_len 1 (xs ++ r)) (comment_len 1 (xs ++ s)) 2 (length (xs ++ r)) (length (x ∷ y ∷ xs ++ r)) (length xs) (omega arith) (comment_looks 1 xs r s) (omega arith))
+    (λ t k. later (comment_len 1 (xs ++ c ∷ r)) (comment_len 1 (xs ++ d ∷ s)) 2 (length (xs ++ c ∷ r)) (length (x ∷ y ∷ xs ++ c ∷ r)) (length xs) (omega arith) (comment_looks 1 xs c d r s) (omega arith))
     (λ t. branch m (closes x y) (Some 2) _ (Some 2) _ n (λ t k. refl)
-    (λ t k. later (comment_len 0 (y ∷ xs ++ r)) (comment_len 0 (y ∷ xs ++ s)) 1 (length (y ∷ xs ++ r)) (length (x ∷ y ∷ xs ++ r)) (length (y ∷ xs)) (omega arith) (comment_looks 0 (y ∷ xs) r s) (omega arith))) h
-comment_looks (suc i) (x ∷ y ∷ xs) r s h =
-    let m = λ (o : Option ℕ). unwrap_or o (length (x ∷ y ∷ xs ++ r)) + 1 in
+    (λ t k. later (comment_len 0 (y ∷ xs ++ c ∷ r)) (comment_len 0 (y ∷ xs ++ d ∷ s)) 1 (length (y ∷ xs ++ c ∷ r)) (length (x ∷ y ∷ xs ++ c ∷ r)) (length (y ∷ xs)) (omega arith) (comment_looks 0 (y ∷ xs) c d r s) (omega arith))) h
+comment_looks (suc i) (x ∷ y ∷ xs) c d r s h =
+    let m = λ (o : Option ℕ). unwrap_or o (length (x ∷ y ∷ xs ++ c ∷ r)) in
     let n = length (x ∷ y ∷ xs) in
     branch m (opens x y) _ _ _ _ n
-    (λ t k. later (comment_len (suc (suc i)) (xs ++ r)) (comment_len (suc (suc i)) (xs ++ s)) 2 (length (xs ++ r)) (length (x ∷ y ∷ xs ++ r)) (length xs) (omega arith) (comment_looks (suc (suc i)) xs r s) (omega arith))
+    (λ t k. later (comment_len (suc (suc i)) (xs ++ c ∷ r)) (comment_len (suc (suc i)) (xs ++ d ∷ s)) 2 (length (xs ++ c ∷ r)) (length (x ∷ y ∷ xs ++ c ∷ r)) (length xs) (omega arith) (comment_looks (suc (suc i)) xs c d r s) (omega arith))
     (λ t. branch m (closes x y) _ _ _ _ n
-    (λ t k. later (comment_len i (xs ++ r)) (comment_len i (xs ++ s)) 2 (length (xs ++ r)) (length (x ∷ y ∷ xs ++ r)) (length xs) (omega arith) (comment_looks i xs r s) (omega arith))
-    (λ t k. later (comment_len (suc i) (y ∷ xs ++ r)) (comment_len (suc i) (y ∷ xs ++ s)) 1 (length (y ∷ xs ++ r)) (length (x ∷ y ∷ xs ++ r)) (length (y ∷ xs)) (omega arith) (comment_looks (suc i) (y ∷ xs) r s) (omega arith))) h
+    (λ t k. later (comment_len i (xs ++ c ∷ r)) (comment_len i (xs ++ d ∷ s)) 2 (length (xs ++ c ∷ r)) (length (x ∷ y ∷ xs ++ c ∷ r)) (length xs) (omega arith) (comment_looks i xs c d r s) (omega arith))
+    (λ t k. later (comment_len (suc i) (y ∷ xs ++ c ∷ r)) (comment_len (suc i) (y ∷ xs ++ d ∷ s)) 1 (length (y ∷ xs ++ c ∷ r)) (length (x ∷ y ∷ xs ++ c ∷ r)) (length (y ∷ xs)) (omega arith) (comment_looks (suc i) (y ∷ xs) c d r s) (omega arith))) h
 
 -- ---- from lists to places
 
 -- what is found from a place on, and where it ends: one that ends before the text does is found
-pub found_same : (g : List ℕ → Option ℕ) → Looks 1 g (λ v. unwrap_or (g v) (length v)) → (k : ℕ) (u v : List ℕ) (i : ℕ) → Alike k u v → end_of u i (g (drop i u)) ≤ k
+pub found_same : {told : (ℕ → Bool) → Type 0} {pairs : (ℕ → Bool) → (ℕ → Bool) → Type 0} (g : List ℕ → Option ℕ) → Looks told pairs g (λ v. unwrap_or (g v) (length v)) → (k : ℕ) (u v : List ℕ) (i : ℕ) → Alike told pairs k u v → end_of u i (g (drop i u)) ≤ k
     → (g (drop i v) ≡ g (drop i u)) × (end_of v i (g (drop i v)) ≡ end_of u i (g (drop i u)))
 found_same g looks k u v i a h = by (seen g (λ w. unwrap_or (g w) (length w)) looks k u v i a h)
   where
-    within : k + 1 ≤ length u
-    within = a.one.within
+    within : k < length u
+    within = a.left
 
     end : (o : Option ℕ) → end_of u i o ≤ k → end_of v i o ≡ end_of u i o
     end None h = absurd (omega (arith, length-drop i u))
@@ -108,13 +129,13 @@ found_same g looks k u v i a h = by (seen g (λ w. unwrap_or (g w) (length w)) l
     by : g (drop i v) ≡ g (drop i u) → (g (drop i v) ≡ g (drop i u)) × (end_of v i (g (drop i v)) ≡ end_of u i (g (drop i u)))
     by e = (e, ap (end_of v i) e ∙ end (g (drop i u)) h)
 
-pub quoted_same : (escapes : Bool) (q k : ℕ) (u v : List ℕ) (i : ℕ) → Alike k u v → quoted escapes q u i ≤ k
+pub quoted_same : {told : (ℕ → Bool) → Type 0} {pairs : (ℕ → Bool) → (ℕ → Bool) → Type 0} (escapes : Bool) (q : ℕ) → told (λ c. eqb c q) → (k : ℕ) (u v : List ℕ) (i : ℕ) → Alike told pairs k u v → quoted escapes q u i ≤ k
     → (quoted_len escapes q (drop i v) ≡ quoted_len escapes q (drop i u)) × (quoted escapes q v i ≡ quoted escapes q u i)
-quoted_same escapes q k u v i a h = found_same (quoted_len escapes q) (quoted_looks escapes q) k u v i a h
+quoted_same escapes q t k u v i a h = found_same (quoted_len escapes q) (quoted_looks escapes q t) k u v i a h
 
-pub comment_same : (inner k : ℕ) (u v : List ℕ) (i : ℕ) → Alike k u v → comment_end inner u i ≤ k
+pub comment_same : {told : (ℕ → Bool) → Type 0} {pairs : (ℕ → Bool) → (ℕ → Bool) → Type 0} (inner k : ℕ) (u v : List ℕ) (i : ℕ) → Alike told pairs k u v → comment_end inner u i ≤ k
     → (comment_len inner (drop i v) ≡ comment_len inner (drop i u)) × (comment_end inner v i ≡ comment_end inner u i)
-comment_same inner k u v i a h = found_same (comment_len inner) (comment_looks inner) k u v i a h
+comment_same inner k u v i a h = found_same (comment_len inner) (λ xs c d r s f. comment_looks inner xs c d r s) k u v i a h
 
 -- ---- dollar strings
 
@@ -122,20 +143,24 @@ starts_same : (d xs r s : List ℕ) → length d ≤ length xs → starts_with n
 starts_same d xs r s h = ap (pointwise nat_eq d) (take-append-le (length d) xs s h ∙ sym (take-append-le (length d) xs r h))
 
 -- where it is found, it stands before there
-find_short : (d v : List ℕ) (n : ℕ) → unwrap_or (find_end d v) (length v) + 1 ≤ n → n ≤ length v → length d ≤ n
+find_short : (d v : List ℕ) (n : ℕ) → unwrap_or (find_end d v) (length v) ≤ n → n < length v → length d ≤ n
 find_short d v n h within = by (find_end d v) refl h
   where
-    by : (o : Option ℕ) → find_end d v ≡ o → unwrap_or o (length v) + 1 ≤ n → length d ≤ n
+    by : (o : Option ℕ) → find_end d v ≡ o → unwrap_or o (length v) ≤ n → length d ≤ n
     by None e h = absurd (omega arith)
     by (Some m) e h = omega (arith, (dollars.found d v m e).0)
 
-find_looks : (d : List ℕ) → Looks 1 (find_end d) (λ v. unwrap_or (find_end d v) (length v))
-find_looks d [] r s h = absurd (omega arith)
-find_looks d (x ∷ xs) r s h =
-    let m = λ (o : Option ℕ). unwrap_or o (length (x ∷ xs ++ r)) + 1 in
-    let short : length d ≤ length (x ∷ xs) = find_short d (x ∷ xs ++ r) (length (x ∷ xs)) h (omega (arith, length-append xs r)) in
-    pick m (starts_with nat_eq (x ∷ xs ++ r) d) (starts_with nat_eq (x ∷ xs ++ s) d) (Some (length d)) _ (Some (length d)) _ (length (x ∷ xs)) (starts_same d (x ∷ xs) r s short) (λ t k. refl)
-    (λ t k. later (find_end d (xs ++ r)) (find_end d (xs ++ s)) 1 (length (xs ++ r)) (length (x ∷ xs ++ r)) (length xs) (omega arith) (find_looks d xs r s) (omega arith)) h
+find_looks : (w xs : List ℕ) (c d : ℕ) (r s : List ℕ) → unwrap_or (find_end w (xs ++ c ∷ r)) (length (xs ++ c ∷ r)) ≤ length xs → find_end w (xs ++ d ∷ s) ≡ find_end w (xs ++ c ∷ r)
+find_looks w [] c d r s h =
+    let m = λ (o : Option ℕ). unwrap_or o (length (c ∷ r)) in
+    let short : length w ≤ 0 = find_short w (c ∷ r) 0 h (omega arith) in
+    pick m (starts_with nat_eq (c ∷ r) w) (starts_with nat_eq (d ∷ s) w) (Some (length w)) _ (Some (length w)) _ 0 (starts_same w [] (c ∷ r) (d ∷ s) short) (λ t k. refl)
+    (λ t k. absurd (omega (arith, far (find_end w r) 1 (length r) (length (c ∷ r)) (omega arith)))) h
+find_looks w (x ∷ xs) c d r s h =
+    let m = λ (o : Option ℕ). unwrap_or o (length (x ∷ xs ++ c ∷ r)) in
+    let short : length w ≤ length (x ∷ xs) = find_short w (x ∷ xs ++ c ∷ r) (length (x ∷ xs)) h (omega (arith, length-append xs (c ∷ r))) in
+    pick m (starts_with nat_eq (x ∷ xs ++ c ∷ r) w) (starts_with nat_eq (x ∷ xs ++ d ∷ s) w) (Some (length w)) _ (Some (length w)) _ (length (x ∷ xs)) (starts_same w (x ∷ xs) (c ∷ r) (d ∷ s) short) (λ t k. refl)
+    (λ t k. later (find_end w (xs ++ c ∷ r)) (find_end w (xs ++ d ∷ s)) 1 (length (xs ++ c ∷ r)) (length (x ∷ xs ++ c ∷ r)) (length xs) (omega arith) (find_looks w xs c d r s) (omega arith)) h
 
 -- a run of fewer characters is no longer
 fewer : (p q : ℕ → Bool) → ((c : ℕ) → p c ≡ true → q c ≡ true) → (v : List ℕ) → prefix_len p v ≤ prefix_len q v
@@ -167,11 +192,11 @@ tag_in_junk u = by (is_id_start (get_or u 1 0)) refl
         rw (no_digit t, all) (omega arith)
     by false t = omega (arith, junk_on u (run is_digit u 1))
 
--- where the tag ends is read there
-tag_same : (k : ℕ) (u v : List ℕ) → Alike k u v → 1 ≤ k → tag_end u ≤ k → tag_end v ≡ tag_end u
-tag_same k u v a some h =
-    pick (λ n. n) (is_id_start (get_or u 1 0)) (is_id_start (get_or v 1 0)) (run is_tag_cont u 1) 1 (run is_tag_cont v 1) 1 k (ap is_id_start (read k u v 1 a some))
-    (λ t e. run_same is_tag_cont k u v 1 a e) (λ t e. refl) h
+-- what follows the tag is tested there
+tag_same : {told : (ℕ → Bool) → Type 0} {pairs : (ℕ → Bool) → (ℕ → Bool) → Type 0} → Asks told pairs → (k : ℕ) (u v : List ℕ) → Alike told pairs k u v → 1 ≤ k → tag_end u ≤ k → tag_end v ≡ tag_end u
+tag_same w k u v a some h =
+    pick (λ n. n) (is_id_start (get_or u 1 0)) (is_id_start (get_or v 1 0)) (run is_tag_cont u 1) 1 (run is_tag_cont v 1) 1 k (test is_id_start w.id_start k u v 1 a some)
+    (λ t e. run_same is_tag_cont w.tag_cont k u v 1 a e) (λ t e. refl) h
 
 tag_in : (u : List ℕ) → tag_end u ≤ (dollar u).end
 tag_in u = by (opens_dollar u)
@@ -180,20 +205,20 @@ tag_in u = by (opens_dollar u)
     by true = omega arith
     by false = tag_in_junk u
 
-string_same : (k : ℕ) (u v : List ℕ) → Alike k u v → tag_end v ≡ tag_end u → (dollar_string u).end ≤ k → dollar_string v ≡ dollar_string u
+string_same : {told : (ℕ → Bool) → Type 0} {pairs : (ℕ → Bool) → (ℕ → Bool) → Type 0} (k : ℕ) (u v : List ℕ) → Alike told pairs k u v → tag_end v ≡ tag_end u → (dollar_string u).end ≤ k → dollar_string v ≡ dollar_string u
 string_same k u v a e h =
     let i = tag_end u + 1 in
     let d = delimiter u in
     let same : delimiter v ≡ d = ap (λ n. take (n + 1) v) e ∙ take_same k u v i a (omega arith) in
-    let (found, end) = found_same (find_end d) (find_looks d) k u v i a h in
+    let (found, end) = found_same (find_end d) (λ xs c e r s f. find_looks d xs c e r s) k u v i a h in
     let closes : closing v ≡ closing u = ap (λ n. find_end (delimiter v) (drop (n + 1) v)) e ∙ ap (λ w. find_end w (drop i v)) same ∙ found in
     let stops : end_of v (tag_end v + 1) (closing v) ≡ end_of u i (closing u) = ap (λ n. end_of v (n + 1) (closing v)) e ∙ ap (end_of v i) (closes ∙ sym found) ∙ end in
     ap (λ o. literal (DollarQuotedString (is_some o)) (end_of v (tag_end v + 1) (closing v))) closes ∙ ap (literal (DollarQuotedString (is_some (closing u)))) stops
 
-pub dollar_same : (k : ℕ) (u v : List ℕ) → Alike k u v → 1 ≤ k → (dollar u).end ≤ k → dollar v ≡ dollar u
-dollar_same k u v a some h =
+pub dollar_same : {told : (ℕ → Bool) → Type 0} {pairs : (ℕ → Bool) → (ℕ → Bool) → Type 0} → Asks told pairs → (k : ℕ) (u v : List ℕ) → Alike told pairs k u v → 1 ≤ k → (dollar u).end ≤ k → dollar v ≡ dollar u
+dollar_same w k u v a some h =
     let within : tag_end u ≤ k = omega (arith, tag_in u) in
-    let e : tag_end v ≡ tag_end u = tag_same k u v a some within in
-    let test : opens_dollar v ≡ opens_dollar u = ap (λ n. eqb (get_or v n 0) 36) e ∙ ap (λ c. eqb c 36) (read k u v (tag_end u) a within) in
+    let e : tag_end v ≡ tag_end u = tag_same w k u v a some within in
+    let test : opens_dollar v ≡ opens_dollar u = ap (λ n. eqb (get_or v n 0) 36) e ∙ test (λ c. eqb c 36) w.dollar k u v (tag_end u) a within in
     pick (λ (x : Lexeme). x.end) (opens_dollar u) (opens_dollar v) (dollar_string u) (parameter u) (dollar_string v) (parameter v) k test
-    (λ t j. string_same k u v a e j) (λ t j. parameter_same k u v a j) h
+    (λ t j. string_same k u v a e j) (λ t j. parameter_same w k u v a j) h

@@ -1,6 +1,7 @@
--- A token is decided by its own characters and two more, or by one more that is `;`.
-use Rattle.std.proofs.Common.{◌≡◌, ℕ, ◌+◌, ◌<◌, ◌≤◌, Bool, true, false, List, length, get_or, take, refl, sym, ap, ◌∙◌, inl, inr, ◌⊎◌, ◌&&◌, eqb, arith}
-use Rattle.std.proofs.lemmas.Bool.{cases_lt, cases_eq}
+-- A token is decided by its own characters, and by what the tests say of the two after them.
+use Rattle.std.proofs.Common.{◌≡◌, ℕ, ◌+◌, ◌<◌, ◌≤◌, Bool, true, false, List, length, get_or, take, drop, refl, sym, ap, ◌∙◌, inl, inr, ◌⊎◌, ◌&&◌, eqb, cond, arith}
+use Rattle.std.specs.Bool.{⊤}
+use Rattle.std.proofs.Math.Bool.{and_assoc}
 use Rattle.squawk_lexer.specs.declared.token.Token.{Token}
 use Rattle.squawk_lexer.specs.declared.token.LiteralKind.{LiteralKind}
 use Rattle.squawk_lexer.specs.declared.token.LiteralKind.TheVariants.{Str, NationalStr, BitStr, ByteStr, UnicodeEscStr, EscStr}
@@ -17,103 +18,198 @@ use Rattle.squawk_lexer.specs.Symbols.{symbol}
 use Rattle.squawk_lexer.specs.Token.{has_escapes, string, quoted_ident, is_letter, start, opening, opened, begun, lexeme_of, lexeme_at, token_at}
 use Rattle.squawk_lexer.specs.LookAhead.{Agrees, LexemesLookAhead, TokensLookAhead}
 use Rattle.squawk_lexer.proofs.TokenLaws.{lexeme_at_some}
-use Rattle.squawk_lexer.proofs.Steps.{ne-eqb, and_false}
-use Rattle.squawk_lexer.proofs.Ahead.{pick, agrees_read, Alike, alike_two, read, take_same}
-use Rattle.squawk_lexer.proofs.AheadRuns.{run_same, number_same, fractional_same}
+use Rattle.squawk_lexer.proofs.Ahead.{pick, agrees_right, agrees_less, agrees_read, after, Alike, read, take_same, test, pair}
+use Rattle.squawk_lexer.proofs.AheadRuns.{Asks, run_same, number_same, fractional_same}
 use Rattle.squawk_lexer.proofs.AheadClosed.{quoted_same, comment_same, dollar_same}
-use Rattle.squawk_lexer.proofs.AheadPsql.{psql_same}
+use Rattle.squawk_lexer.proofs.AheadPsql.{AsksPsql, psql_same}
 
 -- ---- words
 
-string_same : (kind : Bool → LiteralKind) (escapes : Bool) (k : ℕ) (u v : List ℕ) (i : ℕ) → Alike k u v → (string kind escapes u i).end ≤ k → string kind escapes v i ≡ string kind escapes u i
-string_same kind escapes k u v i a h =
-    let (found, ends) = quoted_same escapes apostrophe k u v i a h in
+string_same : {told : (ℕ → Bool) → Type 0} {pairs : (ℕ → Bool) → (ℕ → Bool) → Type 0} → Asks told pairs → (kind : Bool → LiteralKind) (escapes : Bool) (k : ℕ) (u v : List ℕ) (i : ℕ) → Alike told pairs k u v → (string kind escapes u i).end ≤ k → string kind escapes v i ≡ string kind escapes u i
+string_same w kind escapes k u v i a h =
+    let (found, ends) = quoted_same escapes apostrophe w.apostrophe k u v i a h in
     rw (ends, found) refl
 
-quoted_ident_same : (uescape : Bool) (k : ℕ) (u v : List ℕ) (i : ℕ) → Alike k u v → (quoted_ident uescape u i).end ≤ k → quoted_ident uescape v i ≡ quoted_ident uescape u i
-quoted_ident_same uescape k u v i a h =
-    let (found, ends) = quoted_same false quotation_mark k u v i a h in
+quoted_ident_same : {told : (ℕ → Bool) → Type 0} {pairs : (ℕ → Bool) → (ℕ → Bool) → Type 0} → Asks told pairs → (uescape : Bool) (k : ℕ) (u v : List ℕ) (i : ℕ) → Alike told pairs k u v → (quoted_ident uescape u i).end ≤ k → quoted_ident uescape v i ≡ quoted_ident uescape u i
+quoted_ident_same w uescape k u v i a h =
+    let (found, ends) = quoted_same false quotation_mark w.quotation k u v i a h in
     rw (ends, found) refl
 
--- the third character tells only behind a `&` (38)
-third : (c d e f : ℕ) → (d ≡ 38 → e ≡ f) → opening c d e ≡ opening c d f
+-- what the first three characters open, by two tests of the second one and two of the second and the third
+abbrev opening_by : ℕ → Bool → Bool → Bool → Opening
+opening_by c quote string ident =
+    cond (is_letter 110 c && quote) National
+    (cond (is_letter 98 c && quote) Bit
+    (cond (is_letter 120 c && quote) Byte
+    (cond (is_letter 101 c && quote) Escape
+    (cond (is_letter 117 c && string) UnicodeString
+    (cond (is_letter 117 c && ident) UnicodeIdent Plain)))))
+
+opening_is : (c d e : ℕ) → opening c d e ≡ opening_by c (eqb d 39) (eqb d 38 && eqb e 39) (eqb d 38 && eqb e 34)
 unfolding opening
-third c d e f same = elim (cases_eq d 38) [ inl is ↦ rw (same is) refl | inr is_not ↦ rw (ne-eqb d 38 is_not, and_false (is_letter 117 c)) refl ]
+opening_is c d e = rw (and_assoc (is_letter 117 c) (eqb d 38) (eqb e 39), and_assoc (is_letter 117 c) (eqb d 38) (eqb e 34)) refl
 
-opening_same : (k : ℕ) (u v : List ℕ) → Alike k u v → 1 ≤ k → opening (get_or v 0 0) (get_or v 1 0) (get_or v 2 0) ≡ opening (get_or u 0 0) (get_or u 1 0) (get_or u 2 0)
-opening_same k u v a some =
+opening_same : {told : (ℕ → Bool) → Type 0} {pairs : (ℕ → Bool) → (ℕ → Bool) → Type 0} → Asks told pairs → (k : ℕ) (u v : List ℕ) → Alike told pairs k u v → 1 ≤ k → opening (get_or v 0 0) (get_or v 1 0) (get_or v 2 0) ≡ opening (get_or u 0 0) (get_or u 1 0) (get_or u 2 0)
+opening_same w k u v a some =
     let first : get_or v 0 0 ≡ get_or u 0 0 = read k u v 0 a (omega arith) in
-    let second : get_or v 1 0 ≡ get_or u 1 0 = read k u v 1 a some in
-    rw (first, second) (third (get_or u 0 0) (get_or u 1 0) (get_or v 2 0) (get_or u 2 0) last)
-  where
-    last : get_or u 1 0 ≡ 38 → get_or v 2 0 ≡ get_or u 2 0
-    last e = by (cases_lt 1 k) a.two
-      where
-        by : (1 < k) ⊎ (k ≤ 1) → Agrees (k + 2) u v ⊎ (get_or u k 0 ≡ 59) → get_or v 2 0 ≡ get_or u 2 0
-        by (inl more) t = read k u v 2 a (omega arith)
-        by (inr one) (inl two) = agrees_read (k + 2) u v 2 two (omega arith)
-        by (inr one) (inr semi) = let is : k ≡ 1 = omega arith in absurd (let two : 59 ≡ 38 = sym semi ∙ ap (λ j. get_or u j 0) is ∙ e in omega arith)
+    let quote = test (λ c. eqb c 39) w.apostrophe k u v 1 a some in
+    let string = pair (λ c. eqb c 38) (λ c. eqb c 39) w.apostrophe w.and_string k u v 1 2 a some refl in
+    let ident = pair (λ c. eqb c 38) (λ c. eqb c 34) w.quotation w.and_ident k u v 1 2 a some refl in
+    opening_is (get_or v 0 0) (get_or v 1 0) (get_or v 2 0)
+    ∙ ap (λ c. opening_by c (eqb (get_or v 1 0) 39) (eqb (get_or v 1 0) 38 && eqb (get_or v 2 0) 39) (eqb (get_or v 1 0) 38 && eqb (get_or v 2 0) 34)) first
+    ∙ ap (λ b. opening_by (get_or u 0 0) b (eqb (get_or v 1 0) 38 && eqb (get_or v 2 0) 39) (eqb (get_or v 1 0) 38 && eqb (get_or v 2 0) 34)) quote
+    ∙ ap (λ b. opening_by (get_or u 0 0) (eqb (get_or u 1 0) 39) b (eqb (get_or v 1 0) 38 && eqb (get_or v 2 0) 34)) string
+    ∙ ap (opening_by (get_or u 0 0) (eqb (get_or u 1 0) 39) (eqb (get_or u 1 0) 38 && eqb (get_or u 2 0) 39)) ident
+    ∙ sym (opening_is (get_or u 0 0) (get_or u 1 0) (get_or u 2 0))
 
-opened_same : (s : Opening) (k : ℕ) (u v : List ℕ) → Alike k u v → (opened s u).end ≤ k → opened s v ≡ opened s u
-opened_same National k u v a h = string_same NationalStr false k u v 2 a h
-opened_same Bit k u v a h = string_same BitStr false k u v 2 a h
-opened_same Byte k u v a h = string_same ByteStr false k u v 2 a h
-opened_same Escape k u v a h = string_same EscStr true k u v 2 a h
-opened_same UnicodeString k u v a h = string_same UnicodeEscStr false k u v 3 a h
-opened_same UnicodeIdent k u v a h = quoted_ident_same true k u v 3 a h
-opened_same Plain k u v a h = ap (lexeme kinds.Ident) (run_same is_id_cont k u v 1 a h)
+opened_same : {told : (ℕ → Bool) → Type 0} {pairs : (ℕ → Bool) → (ℕ → Bool) → Type 0} → Asks told pairs → (s : Opening) (k : ℕ) (u v : List ℕ) → Alike told pairs k u v → (opened s u).end ≤ k → opened s v ≡ opened s u
+opened_same w National k u v a h = string_same w NationalStr false k u v 2 a h
+opened_same w Bit k u v a h = string_same w BitStr false k u v 2 a h
+opened_same w Byte k u v a h = string_same w ByteStr false k u v 2 a h
+opened_same w Escape k u v a h = string_same w EscStr true k u v 2 a h
+opened_same w UnicodeString k u v a h = string_same w UnicodeEscStr false k u v 3 a h
+opened_same w UnicodeIdent k u v a h = quoted_ident_same w true k u v 3 a h
+opened_same w Plain k u v a h = ap (lexeme kinds.Ident) (run_same is_id_cont w.id_cont k u v 1 a h)
 
 -- ---- every row
 
-begun_same : (strings : Strings) (s : Start) (k : ℕ) (u v : List ℕ) → Alike k u v → 1 ≤ k → (begun strings s u).end ≤ k → begun strings s v ≡ begun strings s u
-begun_same strings White k u v a some h = ap (lexeme kinds.Whitespace) (run_same is_white k u v 0 a h)
-begun_same strings LineComment k u v a some h = ap (lexeme kinds.LineComment) (run_same is_not_line_end k u v 2 a h)
-begun_same strings BlockComment k u v a some h =
+-- the tests that a row does on what follows its token
+abbrev pub AsksOf : ((ℕ → Bool) → Type 0) → ((ℕ → Bool) → (ℕ → Bool) → Type 0) → Start → Type 0
+AsksOf told pairs White = told is_white
+AsksOf told pairs LineComment = told is_not_line_end
+AsksOf told pairs BlockComment = ⊤
+AsksOf told pairs Psql = AsksPsql told
+AsksOf told pairs DotDot = ⊤
+AsksOf told pairs Symbol = ⊤
+AsksOf told pairs _ = Asks told pairs
+
+pub begun_same : {told : (ℕ → Bool) → Type 0} {pairs : (ℕ → Bool) → (ℕ → Bool) → Type 0} (strings : Strings) (s : Start) → AsksOf told pairs s → (k : ℕ) (u v : List ℕ) → Alike told pairs k u v → 1 ≤ k → (begun strings s u).end ≤ k → begun strings s v ≡ begun strings s u
+begun_same strings White w k u v a some h = ap (lexeme kinds.Whitespace) (run_same is_white w k u v 0 a h)
+begun_same strings LineComment w k u v a some h = ap (lexeme kinds.LineComment) (run_same is_not_line_end w k u v 2 a h)
+begun_same strings BlockComment w k u v a some h =
     let (found, ends) = comment_same 0 k u v 2 a h in
     rw (ends, found) refl
-begun_same strings String k u v a some h = string_same Str (has_escapes strings) k u v 1 a h
-begun_same strings QuotedIdent k u v a some h = quoted_ident_same false k u v 1 a h
-begun_same strings Word k u v a some h =
-    ap (λ s. opened s v) (opening_same k u v a some) ∙ opened_same (opening (get_or u 0 0) (get_or u 1 0) (get_or u 2 0)) k u v a h
-begun_same strings Dollar k u v a some h = dollar_same k u v a some h
-begun_same strings Number k u v a some h = number_same k u v a h
-begun_same strings DotDot k u v a some h = refl
-begun_same strings Fraction k u v a some h = fractional_same k u v 1 a h
-begun_same strings Psql k u v a some h = psql_same k u v a h
-begun_same strings Symbol k u v a some h = ap (λ c. lexeme (symbol c) 1) (read k u v 0 a (omega arith))
+begun_same strings String w k u v a some h = string_same w Str (has_escapes strings) k u v 1 a h
+begun_same strings QuotedIdent w k u v a some h = quoted_ident_same w false k u v 1 a h
+begun_same strings Word w k u v a some h =
+    ap (λ s. opened s v) (opening_same w k u v a some) ∙ opened_same w (opening (get_or u 0 0) (get_or u 1 0) (get_or u 2 0)) k u v a h
+begun_same strings Dollar w k u v a some h = dollar_same w k u v a some h
+begun_same strings Number w k u v a some h = number_same w k u v a h
+begun_same strings DotDot w k u v a some h = refl
+begun_same strings Fraction w k u v a some h = fractional_same w k u v 1 a h
+begun_same strings Psql w k u v a some h = psql_same w k u v a h
+begun_same strings Symbol w k u v a some h = ap (λ c. lexeme (symbol c) 1) (read k u v 0 a (omega arith))
+
+-- the row that a text begins with
+abbrev pub row : List ℕ → Start
+row u = start (get_or u 0 0) (get_or u 1 0)
 
 -- a token is the same in texts that are alike up to its end
-pub lexeme_same : (strings : Strings) (s : Bool) (k : ℕ) (u v : List ℕ) → Alike k u v → (lexeme_at strings s u).end ≡ k → lexeme_at strings s v ≡ lexeme_at strings s u
-lexeme_same strings s k u v a e =
+pub lexeme_same : {told : (ℕ → Bool) → Type 0} {pairs : (ℕ → Bool) → (ℕ → Bool) → Type 0} (strings : Strings) (s : Bool) (k : ℕ) (u v : List ℕ) → Alike told pairs k u v → row v ≡ row u → AsksOf told pairs (row u) → (lexeme_at strings s u).end ≡ k
+    → lexeme_at strings s v ≡ lexeme_at strings s u
+lexeme_same strings s k u v a rows w e =
     pick (λ (x : Lexeme). x.end) _ _ (lexeme kinds.Whitespace 1) (lexeme_of strings u) (lexeme kinds.Whitespace 1) (lexeme_of strings v) k
     (ap (λ c. s && eqb c byte_order_mark) first) (λ t h. refl)
-    (λ t h. ap (λ x. begun strings x v) rows ∙ begun_same strings (start (get_or u 0 0) (get_or u 1 0)) k u v a some h) (omega (arith, e))
+    (λ t h. ap (λ x. begun strings x v) rows ∙ begun_same strings (row u) w k u v a some h) (omega (arith, e))
   where
-    within : k + 1 ≤ length u
-    within = a.one.within
+    within : k < length u
+    within = a.left
 
     some : 1 ≤ k
     some = omega (arith, lexeme_at_some strings s u (omega arith), e)
 
     first : get_or v 0 0 ≡ get_or u 0 0
-    first = read k u v 0 a (omega arith)
-
-    rows : start (get_or v 0 0) (get_or v 1 0) ≡ start (get_or u 0 0) (get_or u 1 0)
-    rows = ap (λ c. start c (get_or v 1 0)) first ∙ ap (start (get_or u 0 0)) (read k u v 1 a some)
-
--- ---- the laws
-
-pub lexemes_look_ahead : LexemesLookAhead
-lexemes_look_ahead strings s u v a = lexeme_same strings s (lexeme_at strings s u).end u v (alike_two (lexeme_at strings s u).end u v a) refl
+    first = read k u v 0 a some
 
 abbrev pub token_from : Lexeme → List ℕ → Token
 token_from x u = record { kind = x.kind; len = bytes (take x.end u) }
 
 -- and its bytes are the same
-token_of : (strings : Strings) (s : Bool) (k : ℕ) (u v : List ℕ) → Alike k u v → (lexeme_at strings s u).end ≡ k → lexeme_at strings s v ≡ lexeme_at strings s u → token_at strings s v ≡ token_at strings s u
+pub token_of : {told : (ℕ → Bool) → Type 0} {pairs : (ℕ → Bool) → (ℕ → Bool) → Type 0} (strings : Strings) (s : Bool) (k : ℕ) (u v : List ℕ) → Alike told pairs k u v → (lexeme_at strings s u).end ≡ k → lexeme_at strings s v ≡ lexeme_at strings s u → token_at strings s v ≡ token_at strings s u
 token_of strings s k u v a e same = ap (λ x. token_from x v) same ∙ ap (λ w. record { kind = (lexeme_at strings s u).kind; len = bytes w }) (take_same k u v (lexeme_at strings s u).end a (omega (arith, e)))
+
+-- ---- texts whose next character is the same: every test says the same of it
+
+abbrev pub Any : (ℕ → Bool) → Type 0
+Any p = ⊤
+
+-- and of two characters, where the first test is not passed by `;` (59)
+abbrev pub PastSemi : (ℕ → Bool) → (ℕ → Bool) → Type 0
+PastSemi p q = p 59 ≡ false
+
+any : Asks Any PastSemi
+any = record {
+  id_start = tt;
+  id_cont = tt;
+  tag_cont = tt;
+  digit = tt;
+  hex = tt;
+  letters = λ x y p q. tt;
+  no_point = tt;
+  dollar = tt;
+  apostrophe = tt;
+  quotation = tt;
+  points = refl;
+  signs = refl;
+  low_digit = refl;
+  low_hex = refl;
+  and_string = refl;
+  and_ident = refl;
+}
+
+asks_any : (s : Start) → AsksOf Any PastSemi s
+asks_any White = tt
+asks_any LineComment = tt
+asks_any BlockComment = tt
+asks_any Psql = record { line_end = tt; not_line_end = tt; blank = tt; command_word = tt; ends = tt; other = λ x e. tt }
+asks_any DotDot = tt
+asks_any Symbol = tt
+asks_any String = any
+asks_any QuotedIdent = any
+asks_any Word = any
+asks_any Dollar = any
+asks_any Number = any
+asks_any Fraction = any
+
+-- the texts agree on the next character, and on the one after it, unless the next is `;`
+pub alike_next : (k : ℕ) (u v : List ℕ) → Agrees (k + 1) u v → Agrees (k + 2) u v ⊎ (get_or u k 0 ≡ 59) → Alike Any PastSemi k u v
+alike_next k u v a more = record {
+  left = let w : k + 1 ≤ length u = a.within in omega arith;
+  right = let w : k + 1 ≤ length v = agrees_right (k + 1) u v a in omega arith;
+  same = (agrees_less k (k + 1) u v (omega arith) a).same;
+  follows = record { one = λ p t. ap p here; two = λ p q t. by p q t more };
+}
+  where
+    here : get_or v k 0 ≡ get_or u k 0
+    here = agrees_read (k + 1) u v k a (omega arith)
+
+    by : (p q : ℕ → Bool) → PastSemi p q → Agrees (k + 2) u v ⊎ (get_or u k 0 ≡ 59)
+        → (p (get_or v k 0) && q (get_or (drop (k + 1) v) 0 0)) ≡ (p (get_or u k 0) && q (get_or (drop (k + 1) u) 0 0))
+    by p q t (inl two) =
+        let next : get_or (drop (k + 1) v) 0 0 ≡ get_or (drop (k + 1) u) 0 0 = after k v ∙ agrees_read (k + 2) u v (k + 1) two (omega arith) ∙ sym (after k u) in
+        ap (λ c. p c && q (get_or (drop (k + 1) v) 0 0)) here ∙ ap (λ c. p (get_or u k 0) && q c) next
+    by p q t (inr semi) = rw (here, semi, t) refl
+
+-- so a token is the same in such texts
+pub lexeme_next : (strings : Strings) (s : Bool) (k : ℕ) (u v : List ℕ) → Agrees (k + 1) u v → Agrees (k + 2) u v ⊎ (get_or u k 0 ≡ 59) → (lexeme_at strings s u).end ≡ k
+    → lexeme_at strings s v ≡ lexeme_at strings s u
+lexeme_next strings s k u v a more e =
+    let within : k + 1 ≤ length u = a.within in
+    let some : 1 ≤ k = omega (arith, lexeme_at_some strings s u (omega arith), e) in
+    let rows : row v ≡ row u = ap (λ c. start c (get_or v 1 0)) (agrees_read (k + 1) u v 0 a (omega arith)) ∙ ap (start (get_or u 0 0)) (agrees_read (k + 1) u v 1 a (omega arith)) in
+    lexeme_same strings s k u v (alike_next k u v a more) rows (asks_any (row u)) e
+
+-- ---- the laws
+
+agrees_two : (k : ℕ) (u v : List ℕ) → Agrees (k + 2) u v → Agrees (k + 1) u v
+agrees_two k u v a = agrees_less (k + 1) (k + 2) u v (omega arith) a
+
+pub lexemes_look_ahead : LexemesLookAhead
+lexemes_look_ahead strings s u v a =
+    let k = (lexeme_at strings s u).end in
+    lexeme_next strings s k u v (agrees_two k u v a) (inl a) refl
 
 pub tokens_look_ahead : TokensLookAhead
 tokens_look_ahead strings s u v a =
     let k = (lexeme_at strings s u).end in
-    token_of strings s k u v (alike_two k u v a) refl (lexemes_look_ahead strings s u v a)
+    token_of strings s k u v (alike_next k u v (agrees_two k u v a) (inl a)) refl (lexemes_look_ahead strings s u v a)

@@ -10,7 +10,7 @@ use Rattle.squawk_lexer.specs.Token.{start, begun, lexeme_of}
 use Rattle.squawk_lexer.proofs.Steps.{behind_read, behind_within}
 
 -- the test of each row
-abbrev row_test : Start → ℕ → ℕ → Bool
+abbrev pub row_test : Start → ℕ → ℕ → Bool
 row_test White c d = is_white c
 row_test LineComment c d = eqb c 45 && eqb d 45
 row_test BlockComment c d = eqb c 47 && eqb d 42
@@ -69,7 +69,7 @@ same_test Psql c d = refl
 same_test Symbol c d = refl
 
 -- the row that is chosen fits
-row_fits : (r : Start) (c d : ℕ) → r ≡ start c d → row_test r c d ≡ true
+pub row_fits : (r : Start) (c d : ℕ) → r ≡ start c d → row_test r c d ≡ true
 unfolding start
 row_fits r c d e =
     sym (same_test r c d)

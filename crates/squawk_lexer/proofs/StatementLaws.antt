@@ -19,13 +19,12 @@ use Rattle.squawk_lexer.specs.Symbols.{symbol}
 use Rattle.squawk_lexer.specs.Token.{start as row, opening, begun, lexeme_of, lexeme_at, token_at}
 use Rattle.squawk_lexer.specs.Cut.{tokens_from}
 use Rattle.squawk_lexer.specs.LookAhead.{Agrees, EndsWithSemi, StatementsStandAlone}
-use Rattle.squawk_lexer.proofs.TokenLaws.{lexeme_at_some, is_semi, IsOther, either_other, symbol_other, fractional_other, number_other, opened_other, dollar_other}
+use Rattle.squawk_lexer.proofs.TokenLaws.{lexeme_at_some, command_plain, is_semi, IsOther, either_other, symbol_other, fractional_other, number_other, opened_other, dollar_other}
 use Rattle.squawk_lexer.proofs.WithinLaws.{tokens_within}
 use Rattle.squawk_lexer.proofs.CutLaws.{tokens_first, tokens_none}
 use Rattle.squawk_lexer.proofs.Steps.{within_read, and_false}
 use Rattle.squawk_lexer.proofs.StartSteps.{begin_psql}
-use Rattle.squawk_lexer.proofs.Ahead.{Alike}
-use Rattle.squawk_lexer.proofs.AheadTokens.{token_from, lexeme_same}
+use Rattle.squawk_lexer.proofs.AheadTokens.{token_from, lexeme_next}
 
 -- ---- what a token that is a `;` begins with: `;` (59), or a backslash (92) and `;`
 
@@ -44,8 +43,8 @@ psql_semi u e = elim (cases_eq (get_or u 1 0) 59) [ inl is ↦ is | inr is_not �
   where
     other : eqb (get_or u 1 0) 59 ≡ false → IsOther (psql u)
     other t =
-        either_other (eqb (get_or u 1 0) 92) (lexeme (kinds.PsqlCommand false) 2) _ (record { real = refl; other = refl })
-        (rw t (either_other (eqb (get_or u 1 0) 58) (lexeme kinds.Colon 2) (lexeme (kinds.PsqlCommand (is_among query_ending_words (command_word u))) (command_end u)) (record { real = refl; other = refl }) (record { real = refl; other = refl })))
+        either_other (eqb (get_or u 1 0) 92) (lexeme (kinds.PsqlCommand false) 2) _ (record { real = refl; other = refl; plain = refl })
+        (rw t (either_other (eqb (get_or u 1 0) 58) (lexeme kinds.Colon 2) (lexeme (kinds.PsqlCommand (is_among query_ending_words (command_word u))) (command_end u)) (record { real = refl; other = refl; plain = refl }) (record { real = refl; other = refl; plain = command_plain (is_among query_ending_words (command_word u)) })))
 
 begun_semi : (strings : Strings) (s : Start) (u : List ℕ) → row (get_or u 0 0) (get_or u 1 0) ≡ s → (begun strings s u).kind ≡ kinds.Semi → BeginsSemi u
 begun_semi strings White u r e = absurd (cc)
@@ -153,8 +152,8 @@ step strings s a b some e behind = by (cases_lt 0 (length rest))
     ends : EndsWithSemi (token ∷ tokens_from strings 0 false rest)
     ends = subst EndsWithSemi (tokens_first strings s a some) e
 
-    alike : 1 ≤ length rest → EndsWithSemi (tokens_from strings 0 false rest) → Alike k a (a ++ b)
-    alike more e = record { one = longer (k + 1) a b (omega (arith, len)); two = next (cases_lt 1 (length rest)) }
+    same : 1 ≤ length rest → EndsWithSemi (tokens_from strings 0 false rest) → lexeme_at strings s (a ++ b) ≡ lexeme_at strings s a
+    same more e = lexeme_next strings s k a (a ++ b) (longer (k + 1) a b (omega (arith, len))) (next (cases_lt 1 (length rest))) refl
       where
         next : (1 < length rest) ⊎ (length rest ≤ 1) → Agrees (k + 2) a (a ++ b) ⊎ (get_or a k 0 ≡ 59)
         next (inl more) = inl (longer (k + 2) a b (omega (arith, len)))
@@ -170,7 +169,7 @@ step strings s a b some e behind = by (cases_lt 0 (length rest))
         first_stays strings s a b some (semi_same strings s a b some kind) (none_stands strings rest b empty)
     by (inl more) =
         let e = more_semi token (tokens_from strings 0 false rest) (some_tokens strings rest more) ends in
-        first_stays strings s a b some (lexeme_same strings s k a (a ++ b) (alike more e) refl) (behind e)
+        first_stays strings s a b some (same more e) (behind e)
 
 stands : (n : ℕ) (strings : Strings) (s : Bool) (a b : List ℕ) → length a ≤ n → EndsWithSemi (tokens_from strings 0 s a) → Stands strings s a b
 stands n strings s [] b h e = absurd e

@@ -25,6 +25,7 @@ use Rattle.squawk_lexer.specs.Token.{start, opening, begun, opened, lexeme_of, l
 use Rattle.squawk_lexer.specs.declared.token.LiteralKind.{LiteralKind}
 use Rattle.squawk_lexer.specs.declared.token.TokenKind.{TokenKind}
 use Rattle.squawk_lexer.specs.declared.token.TokenKind.TheVariants as kinds
+use Rattle.squawk_lexer.specs.Cut.{form_of, is_trivia}
 use Rattle.squawk_lexer.proofs.Steps.{drop_read}
 use Rattle.squawk_lexer.proofs.StartSteps.{start_white}
 
@@ -162,10 +163,16 @@ is_semi _ = false
 record IsReal (x : Lexeme) : Type 0 where
   real : is_eof x.kind ≡ false
 
--- nor `Semi`
+-- nor `Semi`, nor a gap
 pub record IsOther (x : Lexeme) : Type 0 where
   pub real : is_eof x.kind ≡ false
   pub other : is_semi x.kind ≡ false
+  pub plain : is_trivia (form_of x.kind) ≡ false
+
+-- a command is no gap
+pub command_plain : (b : Bool) → is_trivia (form_of (kinds.PsqlCommand b)) ≡ false
+command_plain true = refl
+command_plain false = refl
 
 either_real : (b : Bool) (x y : Lexeme) → IsReal x → IsReal y → IsReal (cond b x y)
 either_real true x y p q = p
@@ -184,7 +191,7 @@ unfolding symbol
 symbol_other c e = grind (arith, nat_tests)
 
 literal_other : (k : LiteralKind) (n : ℕ) → IsOther (literal k n)
-literal_other k n = record { real = refl; other = refl }
+literal_other k n = record { real = refl; other = refl; plain = refl }
 
 pub fractional_other : (u : List ℕ) (i : ℕ) → IsOther (fractional u i)
 fractional_other u i =
@@ -207,11 +214,11 @@ opened_other Bit u = literal_other _ _
 opened_other Byte u = literal_other _ _
 opened_other Escape u = literal_other _ _
 opened_other UnicodeString u = literal_other _ _
-opened_other UnicodeIdent u = record { real = refl; other = refl }
-opened_other Plain u = record { real = refl; other = refl }
+opened_other UnicodeIdent u = record { real = refl; other = refl; plain = refl }
+opened_other Plain u = record { real = refl; other = refl; plain = refl }
 
 pub dollar_other : (u : List ℕ) → IsOther (dollar u)
-dollar_other u = either_other (opens_dollar u) (dollar_string u) (parameter u) (literal_other _ _) (record { real = refl; other = refl })
+dollar_other u = either_other (opens_dollar u) (dollar_string u) (parameter u) (literal_other _ _) (record { real = refl; other = refl; plain = refl })
 
 psql_real : (u : List ℕ) → IsReal (psql u)
 psql_real u =

@@ -22,3 +22,4 @@ pub mod TokensModel
 pub mod Laws
 pub mod LookAhead
 pub mod QuotedLaws
+pub mod Gaps

@@ -4,6 +4,7 @@ ghost use Rattle.squawk_lexer.specs.Laws.{RunsAreLongest, RunsAreOne, TokensProg
 ghost use Rattle.squawk_lexer.specs.LookAhead.{LexemesLookAhead, TokensLookAhead, TextsLookAhead, TextsProgress, TextsRestart, StatementsStandAlone};
 ghost use Rattle.squawk_lexer.specs.QuotedLaws.{QuotedEndsFirst, QuotedEndsOnce, DigitsAreLongest};
 ghost use Rattle.squawk_lexer.specs.declared.lexer.TheConstants.{BOM};
+ghost use Rattle.squawk_lexer.specs.Gaps.{GapsAreSeen, TokensStay, TokensStayBefore};
 ghost use Rattle.squawk_lexer.specs.PsqlArguments.{QuotesCloseFirst, OpenQuotesStayOpen, ArgumentsAreLongest, ArgumentsAreOne, ArgumentIsLongest, ArgumentIsOne, MarkedIsFirst};
 
 /// A run of a class is the longest: all its characters are of the class, and the one behind it is not. Only one end is such.
@@ -88,4 +89,11 @@ pub fn digits_are_longest()
 /// The mark is U+FEFF in UTF-8.
 pub fn mark_is_one_character()
     ensures { BOM.now ≡ 0xEF ∷ 0xBB ∷ 0xBF ∷ [] }
+{}
+
+/// Which gap follows a token does not change it: white or a comment, directly behind it or behind one more character.
+pub fn tokens_stay()
+    ensures seen { GapsAreSeen }
+    ensures near { TokensStay }
+    ensures before { TokensStayBefore }
 {}

@@ -1,0 +1,11 @@
+use Rattle.squawk_lexer.proofs.GapLaws.{gaps_are_seen, tokens_stay, tokens_stay_before}
+use Rattle.squawk_lexer.proofs.laws.tokens_stay.Goals as goal
+
+pub returns-clause-near : goal.returns-clause-near
+returns-clause-near c = tokens_stay
+
+pub returns-clause-before : goal.returns-clause-before
+returns-clause-before c = tokens_stay_before
+
+pub returns-clause-seen : goal.returns-clause-seen
+returns-clause-seen c = gaps_are_seen

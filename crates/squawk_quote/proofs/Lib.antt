@@ -1,0 +1,5 @@
+pub mod QuotedLaws
+pub mod DollarLaws
+pub mod TagLaws
+pub mod QuoteBytes
+pub mod SpellingLaws

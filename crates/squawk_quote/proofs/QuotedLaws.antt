@@ -1,0 +1,112 @@
+-- A quoted text is one token, and its value is the one that was quoted.
+use Rattle.std.proofs.Common.{◌≡◌, ℕ, zero, suc, ◌+◌, ◌-◌, ◌≤◌, Bool, true, false, List, [], ◌∷◌, ◌++◌, length, take, Some, option_map, length-append, refl, ap, ◌∙◌, eqb, cond, arith}
+use Rattle.std.proofs.lemmas.Bool.Decides.{nat_tests}
+use Rattle.std.proofs.Math.Seq.{take-append_seam, take-length}
+use Rattle.squawk_lexer.specs.declared.token.TokenKind.TheVariants as kinds
+use Rattle.squawk_lexer.specs.declared.token.LiteralKind.TheVariants.{Str}
+use Rattle.squawk_lexer.specs.declared.token.Strings.{Strings}
+use Rattle.squawk_lexer.specs.declared.token.Strings.TheVariants.{Standard}
+use Rattle.squawk_lexer.specs.Kind.{Lexeme, lexeme, literal}
+use Rattle.squawk_lexer.specs.Quoted.{quoted_len}
+use Rattle.squawk_lexer.specs.Text.{bytes}
+use Rattle.squawk_lexer.specs.Token.{start, lexeme_at, token_at}
+use Rattle.squawk_lexer.specs.Cut.{tokens_from, tokens}
+use Rattle.squawk_quote.specs.Values.{doubled, string_of, ident_of, undoubled, inside, value_by, value_in, value_of, IsToken}
+
+-- ---- quoting and reading back
+
+pub undoubled_doubled : (q : ℕ) (v : List ℕ) → undoubled q (doubled q v) ≡ v
+undoubled_doubled q [] = refl
+undoubled_doubled q (c ∷ cs) = by (eqb c q) refl (undoubled_doubled q cs)
+  where
+    plain : (w : List ℕ) → eqb c q ≡ false → undoubled q (c ∷ w) ≡ c ∷ undoubled q w
+    plain [] t = refl
+    plain (d ∷ ds) t = rw t refl
+
+    same : eqb q q ≡ true
+    same = grind (arith, nat_tests)
+
+    by : (b : Bool) → eqb c q ≡ b → undoubled q (doubled q cs) ≡ cs → undoubled q (cond b (q ∷ q ∷ doubled q cs) (c ∷ doubled q cs)) ≡ c ∷ cs
+    by true t e =
+        let is : q ≡ c = grind (arith, nat_tests) in
+        rw same (ap (λ w. q ∷ w) e ∙ ap (λ d. d ∷ cs) is)
+    by false t e = plain (doubled q cs) t ∙ ap (λ w. c ∷ w) e
+
+-- ---- where the quoted text ends
+
+plain_len : (q c : ℕ) (w : List ℕ) → eqb c q ≡ false → 1 ≤ length w → quoted_len false q (c ∷ w) ≡ option_map (λ n. n + 1) (quoted_len false q w)
+plain_len q c [] t h = absurd (omega arith)
+plain_len q c (d ∷ ds) t h = rw t refl
+
+pub doubled_len : (q : ℕ) (v : List ℕ) → quoted_len false q (doubled q v ++ q ∷ []) ≡ Some (length (doubled q v) + 1)
+doubled_len q [] = let same : eqb q q ≡ true = grind (arith, nat_tests) in rw same refl
+doubled_len q (c ∷ cs) = by (eqb c q) refl (doubled_len q cs)
+  where
+    w : List ℕ
+    w = doubled q cs
+
+    by : (b : Bool) → eqb c q ≡ b → quoted_len false q (w ++ q ∷ []) ≡ Some (length w + 1)
+        → quoted_len false q (cond b (q ∷ q ∷ w) (c ∷ w) ++ q ∷ []) ≡ Some (length (cond b (q ∷ q ∷ w) (c ∷ w)) + 1)
+    by true t e =
+        let same : eqb q q ≡ true = grind (arith, nat_tests) in
+        let sum : length w + 1 + 2 ≡ length (q ∷ q ∷ w) + 1 = omega arith in
+        rw (same, e) (ap Some sum)
+    by false t e =
+        let sum : length w + 1 + 1 ≡ length (c ∷ w) + 1 = omega arith in
+        plain_len q c (w ++ q ∷ []) t (omega (arith, length-append w (q ∷ []))) ∙ rw e (ap Some sum)
+
+-- ---- one token
+
+-- a text that is one lexeme is one token
+pub one_token : (strings : Strings) (c : ℕ) (cs : List ℕ) → (lexeme_at strings true (c ∷ cs)).end ≡ length (c ∷ cs)
+    → tokens strings (c ∷ cs) ≡ token_at strings true (c ∷ cs) ∷ []
+one_token strings c cs e = ap (λ ts. token_at strings true (c ∷ cs) ∷ ts) (ap (λ n. tokens_from strings (n - 1) false cs) e ∙ all (length (c ∷ cs) - 1) cs (omega arith))
+  where
+    all : (n : ℕ) (w : List ℕ) → length w ≤ n → tokens_from strings n false w ≡ []
+    all n [] h = refl
+    all zero (d ∷ ds) h = absurd (omega arith)
+    all (suc n) (d ∷ ds) h = all n ds (omega arith)
+
+-- a quoted text's own characters
+pub inside_quoted : (q : ℕ) (w : List ℕ) → inside 1 (q ∷ (w ++ q ∷ [])) ≡ w
+inside_quoted q w =
+    let len : length (q ∷ (w ++ q ∷ [])) - (1 + 1) ≡ length w = omega (arith, length-append w (q ∷ [])) in
+    ap (λ n. take n (w ++ q ∷ [])) len ∙ take-append_seam w (q ∷ [])
+
+-- a string is one terminated token
+pub string_lexeme : (v : List ℕ) → lexeme_at Standard true (string_of v) ≡ literal (Str true) (length (string_of v))
+unfolding start
+string_lexeme v = rw (doubled_len 39 v) (ap (literal (Str true)) (let e : 1 + (length (doubled 39 v) + 1) ≡ length (string_of v) = omega (arith, length-append (doubled 39 v) (39 ∷ [])) in e))
+
+pub ident_lexeme : (v : List ℕ) → lexeme_at Standard true (ident_of v) ≡ lexeme (kinds.QuotedIdent true false) (length (ident_of v))
+unfolding start
+ident_lexeme v = rw (doubled_len 34 v) (ap (lexeme (kinds.QuotedIdent true false)) (let e : 1 + (length (doubled 34 v) + 1) ≡ length (ident_of v) = omega (arith, length-append (doubled 34 v) (34 ∷ [])) in e))
+
+-- and its value is the one that was quoted
+pub string_value : (v : List ℕ) → value_of (string_of v) ≡ Some v
+string_value v =
+    ap (λ ts. value_in ts (string_of v)) (one_token Standard 39 (doubled 39 v ++ 39 ∷ []) (ap (λ (x : Lexeme). x.end) (string_lexeme v)))
+    ∙ ap (λ (x : Lexeme). value_by x.kind (string_of v)) (string_lexeme v)
+    ∙ ap (λ w. Some (undoubled 39 w)) (inside_quoted 39 (doubled 39 v))
+    ∙ ap Some (undoubled_doubled 39 v)
+
+pub ident_value : (v : List ℕ) → value_of (ident_of v) ≡ Some v
+ident_value v =
+    ap (λ ts. value_in ts (ident_of v)) (one_token Standard 34 (doubled 34 v ++ 34 ∷ []) (ap (λ (x : Lexeme). x.end) (ident_lexeme v)))
+    ∙ ap (λ (x : Lexeme). value_by x.kind (ident_of v)) (ident_lexeme v)
+    ∙ ap (λ w. Some (undoubled 34 w)) (inside_quoted 34 (doubled 34 v))
+    ∙ ap Some (undoubled_doubled 34 v)
+
+-- and these are tokens of their kinds
+token_is : (c : ℕ) (cs : List ℕ) (x : Lexeme) → lexeme_at Standard true (c ∷ cs) ≡ x → x.end ≡ length (c ∷ cs) → IsToken x.kind (c ∷ cs)
+token_is c cs x e len =
+    one_token Standard c cs (ap (λ (y : Lexeme). y.end) e ∙ len)
+    ∙ ap (λ (y : Lexeme). record { kind = y.kind; len = bytes (take y.end (c ∷ cs)) } ∷ []) e
+    ∙ ap (λ n. record { kind = x.kind; len = bytes (take n (c ∷ cs)) } ∷ []) len
+    ∙ ap (λ w. record { kind = x.kind; len = bytes w } ∷ []) (take-length (c ∷ cs))
+
+pub string_token : (v : List ℕ) → IsToken (kinds.Literal (Str true)) (string_of v)
+string_token v = token_is 39 (doubled 39 v ++ 39 ∷ []) (literal (Str true) (length (string_of v))) (string_lexeme v) refl
+
+pub ident_token : (v : List ℕ) → IsToken (kinds.QuotedIdent true false) (ident_of v)
+ident_token v = token_is 34 (doubled 34 v ++ 34 ∷ []) (lexeme (kinds.QuotedIdent true false) (length (ident_of v))) (ident_lexeme v) refl

@@ -1,0 +1,2 @@
+pub mod CopyData
+pub mod CopyIn

@@ -1,0 +1,5 @@
+//! Scripts, split into statements, commands and inline data.
+#![tactic(auto)]
+
+mod data;
+pub mod laws;

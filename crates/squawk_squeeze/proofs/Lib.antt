@@ -1,0 +1,2 @@
+pub mod SqueezeLaws
+pub mod SqueezeBytes
