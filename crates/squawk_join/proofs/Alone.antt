@@ -4,8 +4,8 @@ use Rattle.std.proofs.lemmas.List.{length-take-le, take_all, drop_all, take-map}
 use Rattle.std.specs.Prelude.{Option, Some, None, option_map}
 use Rattle.squawk_join.specs.Join.{lex_form}
 use Rattle.squawk_join.specs.ParseOf.{parse_of, child_of, join}
-use Rattle.squawk_lexed.specs.Woven.{are_sound}
-use Rattle.squawk_lexed.specs.declared.lex.Lex.{Lex}
+use Rattle.squawk_woven.specs.Woven.{are_sound}
+use Rattle.squawk_woven.specs.declared.lex.Lex.{Lex}
 use Rattle.squawk_lexer.specs.Cut.{Form, is_trivia, Trivia, Semicolon, Terminator, Command, Open, Close, Other}
 use Rattle.squawk_statements.specs.Children.{ends, groups_after, closing, solid_len, statement, first, more_of, parts, parts_from}
 use Rattle.squawk_statements.specs.Kinds.{form}

@@ -8,8 +8,8 @@ use Rattle.squawk_events.specs.declared.steps.StrStep.{StrStep}
 use Rattle.squawk_events.specs.declared.steps.StrStep.TheVariants as out
 use Rattle.squawk_join.specs.Steps.{closes, is_balanced, has_no_errors}
 use Rattle.squawk_join.specs.Tree.{without_errors}
-use Rattle.squawk_lexed.specs.Woven.{front_steps, front_end, behind_front, next_len, woven_from, woven}
-use Rattle.squawk_lexed.specs.declared.lex.Lex.{Lex}
+use Rattle.squawk_woven.specs.Woven.{front_steps, front_end, behind_front, next_len, woven_from, woven}
+use Rattle.squawk_woven.specs.declared.lex.Lex.{Lex}
 use Rattle.squawk_join.proofs.LeavesLemmas.{never_closed}
 
 -- trivia in a node

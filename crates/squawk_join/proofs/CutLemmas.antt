@@ -6,8 +6,8 @@ use Rattle.std.specs.Prelude.{Option, Some, None, option_map}
 use Rattle.squawk_events.specs.Kinds.{is_trivia_kind}
 use Rattle.squawk_statements.specs.Kinds.{form, form_trivia}
 use Rattle.squawk_lexer.specs.Cut.{Form, is_trivia, Trivia, Semicolon, Terminator, Command, Open, Close, Other}
-use Rattle.squawk_lexed.specs.Woven.{kept}
-use Rattle.squawk_lexed.specs.declared.lex.Lex.{Lex}
+use Rattle.squawk_woven.specs.Woven.{kept}
+use Rattle.squawk_woven.specs.declared.lex.Lex.{Lex}
 use Rattle.squawk_statements.specs.Children.{ends, groups_after, closing, solid_len, statement, first}
 use Rattle.squawk_statements.specs.declared.division.Division.{Division}
 use Rattle.squawk_join.specs.Join.{lex_form}

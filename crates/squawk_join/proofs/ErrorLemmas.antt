@@ -7,8 +7,8 @@ use Rattle.squawk_events.specs.declared.steps.Step.{Step}
 use Rattle.squawk_events.specs.declared.steps.Step.TheVariants.{Enter, Token, Exit, Error}
 use Rattle.squawk_events.specs.declared.steps.StrStep.{StrStep}
 use Rattle.squawk_events.specs.declared.steps.StrStep.TheVariants as out
-use Rattle.squawk_lexed.specs.Woven.{kept, front_steps, front_end, behind_front, next_len, is_empty, woven_from, woven, are_sound, faults_within}
-use Rattle.squawk_lexed.specs.declared.lex.Lex.{Lex}
+use Rattle.squawk_woven.specs.Woven.{kept, front_steps, front_end, behind_front, next_len, is_empty, woven_from, woven, are_sound, faults_within}
+use Rattle.squawk_woven.specs.declared.lex.Lex.{Lex}
 use Rattle.squawk_events.specs.Lawful.{IsLawful}
 use Rattle.std.specs.Prelude.{Result, Ok, Err, IfOk}
 use Rattle.squawk_join.specs.Tree.{Tree, without_errors}

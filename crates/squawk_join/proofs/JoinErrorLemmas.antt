@@ -8,9 +8,9 @@ use Rattle.squawk_events.specs.declared.steps.Step.{Step}
 use Rattle.squawk_events.specs.declared.steps.Step.TheVariants.{Enter, Token, Exit, Error}
 use Rattle.squawk_events.specs.declared.steps.StrStep.{StrStep}
 use Rattle.squawk_events.specs.declared.steps.StrStep.TheVariants as out
-use Rattle.squawk_lexed.specs.Woven.{kept, bytes, front_steps, front_end, behind_front, next_len, is_empty, woven_from, woven, are_sound, faults_within}
-use Rattle.squawk_lexed.specs.declared.lex.Lex.{Lex}
-use Rattle.squawk_lexed.specs.declared.lex.Fault.{Fault}
+use Rattle.squawk_woven.specs.Woven.{kept, bytes, front_steps, front_end, behind_front, next_len, is_empty, woven_from, woven, are_sound, faults_within}
+use Rattle.squawk_woven.specs.declared.lex.Lex.{Lex}
+use Rattle.squawk_woven.specs.declared.lex.Fault.{Fault}
 use Rattle.squawk_statements.specs.Children.{first, more_of, parts}
 use Rattle.squawk_statements.specs.Plain.{child_steps}
 use Rattle.squawk_statements.specs.declared.division.Division.{Division}

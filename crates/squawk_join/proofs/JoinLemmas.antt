@@ -9,8 +9,8 @@ use Rattle.squawk_events.specs.declared.steps.Step.TheVariants.{Enter, Token, Ex
 use Rattle.squawk_events.specs.declared.steps.StrStep.{StrStep}
 use Rattle.squawk_events.specs.declared.steps.StrStep.TheVariants as out
 use Rattle.squawk_kinds.specs.declared.numbers.TheConstants.Number.{SOURCE_FILE, ERROR}
-use Rattle.squawk_lexed.specs.Woven.{kept, bytes, front_steps, front_end, behind_front, next_len, step_woven, step_end, step_left, is_empty, woven_from, woven}
-use Rattle.squawk_lexed.specs.declared.lex.Lex.{Lex}
+use Rattle.squawk_woven.specs.Woven.{kept, bytes, front_steps, front_end, behind_front, next_len, step_woven, step_end, step_left, is_empty, woven_from, woven}
+use Rattle.squawk_woven.specs.declared.lex.Lex.{Lex}
 use Rattle.squawk_statements.specs.Children.{ends, first, more_of, parts, parts_from}
 use Rattle.squawk_statements.specs.Plain.{node_of}
 use Rattle.squawk_statements.specs.Plain.{core, exits, kind_steps, open_behind, opened_before, closed_behind, fault, child_steps, children_steps, plain}

@@ -9,8 +9,8 @@ use Rattle.squawk_events.specs.declared.steps.Step.{Step}
 use Rattle.squawk_events.specs.declared.steps.Step.TheVariants.{Enter, Token, Exit, Error}
 use Rattle.squawk_events.specs.declared.steps.StrStep.{StrStep}
 use Rattle.squawk_events.specs.declared.steps.StrStep.TheVariants as out
-use Rattle.squawk_lexed.specs.Woven.{kept, front_steps, front_end, behind_front, next_len, woven_from, woven, begins_with}
-use Rattle.squawk_lexed.specs.declared.lex.Lex.{Lex}
+use Rattle.squawk_woven.specs.Woven.{kept, front_steps, front_end, behind_front, next_len, woven_from, woven, begins_with}
+use Rattle.squawk_woven.specs.declared.lex.Lex.{Lex}
 use Rattle.squawk_join.specs.Tree.{Tree, leaves, without_errors, laid}
 
 same_kind : (k : ℕ) (b : Bool) → (Rattle.std.specs.Prelude.nat_eq k k && b) ≡ b

@@ -10,8 +10,8 @@ use Rattle.squawk_events.specs.declared.steps.StrStep.TheVariants as out
 use Rattle.squawk_join.specs.Join.{lex_form, child_woven}
 use Rattle.squawk_join.specs.Steps.{Node, closes, root_children_from, root_children, root_child}
 use Rattle.squawk_join.specs.Tree.{leaves, laid, without_errors}
-use Rattle.squawk_lexed.specs.Woven.{kept, bytes, woven_from, woven}
-use Rattle.squawk_lexed.specs.declared.lex.Lex.{Lex}
+use Rattle.squawk_woven.specs.Woven.{kept, bytes, woven_from, woven}
+use Rattle.squawk_woven.specs.declared.lex.Lex.{Lex}
 use Rattle.squawk_lexer.specs.Cut.{Form, is_trivia, Trivia, Semicolon, Terminator, Command, Open, Close, Other}
 use Rattle.squawk_statements.specs.Children.{Child, ends, groups_after, closing, solid_len, statement, first, more_of, parts, parts_from, children, children_from}
 use Rattle.squawk_statements.specs.Kinds.{form, form_trivia}

@@ -15,9 +15,9 @@ use Rattle.squawk_join.specs.IsTree.{IsErrorWithin, IsTree}
 use Rattle.squawk_join.specs.ParseOf.{tree_of}
 use Rattle.squawk_join.specs.Steps.{leaves, tiles}
 use Rattle.squawk_join.specs.Tree as tree
-use Rattle.squawk_lexed.specs.Woven.{kept, bytes, next_len, front_steps, front_end, behind_front, woven_from, woven, are_sound, faults_within}
-use Rattle.squawk_lexed.specs.declared.lex.Fault.{Fault}
-use Rattle.squawk_lexed.specs.declared.lex.Lex.{Lex}
+use Rattle.squawk_woven.specs.Woven.{kept, bytes, next_len, front_steps, front_end, behind_front, woven_from, woven, are_sound, faults_within}
+use Rattle.squawk_woven.specs.declared.lex.Fault.{Fault}
+use Rattle.squawk_woven.specs.declared.lex.Lex.{Lex}
 use Rattle.squawk_join.proofs.Balanced.{balanced-woven, without-has_none}
 use Rattle.squawk_join.proofs.ErrorLemmas.{errors_whole}
 use Rattle.squawk_join.proofs.LeavesLemmas.{leaves_whole}

@@ -3,9 +3,9 @@ use Rattle.std.specs.Prelude.{ℕ, ◌+◌, ◌==◌, List, [], ◌∷◌, ◌++
 use Rattle.squawk_events.specs.declared.steps.ParseError.{ParseError}
 use Rattle.squawk_events.specs.declared.steps.StrStep.{StrStep}
 use Rattle.squawk_events.specs.declared.steps.StrStep.TheVariants.{Enter, Token, Exit, Error}
-use Rattle.squawk_lexed.specs.Woven.{next_len}
-use Rattle.squawk_lexed.specs.declared.lex.Lex.{Lex}
-use Rattle.squawk_lexed.specs.declared.lex.Fault.{Fault}
+use Rattle.squawk_woven.specs.Woven.{next_len}
+use Rattle.squawk_woven.specs.declared.lex.Lex.{Lex}
+use Rattle.squawk_woven.specs.declared.lex.Fault.{Fault}
 
 abbrev pub error : ℕ → ℕ → ℕ → ParseError
 error start end number = record { start = start; end = end; number = number }

@@ -7,8 +7,8 @@ use Rattle.squawk_kinds.specs.declared.numbers.TheConstants.Number.{SOURCE_FILE}
 use Rattle.squawk_events.specs.declared.steps.ParseError.{ParseError}
 use Rattle.squawk_events.specs.declared.steps.StrStep.{StrStep}
 use Rattle.squawk_events.specs.declared.steps.StrStep.TheVariants.{Enter, Token, Exit, Error}
-use Rattle.squawk_lexed.specs.Woven.{kept, bytes, woven_from}
-use Rattle.squawk_lexed.specs.declared.lex.Lex.{Lex}
+use Rattle.squawk_woven.specs.Woven.{kept, bytes, woven_from}
+use Rattle.squawk_woven.specs.declared.lex.Lex.{Lex}
 use Rattle.squawk_statements.specs.Plain.{child_steps}
 use Rattle.squawk_join.specs.Errors.{error, errors}
 use Rattle.squawk_statements.specs.declared.division.Division.{Division}

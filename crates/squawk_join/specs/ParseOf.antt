@@ -7,8 +7,8 @@ use Rattle.squawk_join.specs.Errors.{errors}
 use Rattle.squawk_join.specs.Join.{child_woven, shifted, moved}
 use Rattle.squawk_join.specs.Tree.{Tree, without_errors}
 use Rattle.squawk_kinds.specs.declared.numbers.TheConstants.Number.{SOURCE_FILE}
-use Rattle.squawk_lexed.specs.Woven.{kept, bytes, woven}
-use Rattle.squawk_lexed.specs.declared.lex.Lex.{Lex}
+use Rattle.squawk_woven.specs.Woven.{kept, bytes, woven}
+use Rattle.squawk_woven.specs.declared.lex.Lex.{Lex}
 use Rattle.squawk_statements.specs.Plain.{plain}
 use Rattle.squawk_statements.specs.declared.division.Division.{Division}
 

@@ -1,11 +1,11 @@
 //! The errors of a parse.
 ghost use Rattle.std.specs.Prelude.{[], ◌∷◌, ◌≡◌, ◌≤◌, ◌<◌, ◌+◌, ◌^◌, ◌++◌, drop, length, OnOk, IfOk, IsOkUnless, IsTrue};
 ghost use Rattle.squawk_events.specs.declared.error.FrontError.TheVariants.{OutOfMemory};
-ghost use Rattle.squawk_lexed.specs.Woven.{bytes, are_sound, next_len, faults_within};
+ghost use Rattle.squawk_woven.specs.Woven.{bytes, are_sound, next_len, faults_within};
 ghost use Rattle.squawk_join.specs.Errors.{placed, step_errors, end_behind, left_behind, walked};
 
 use squawk_events::{FrontError, ParseError, StrStep};
-use squawk_lexed::{Fault, Lex};
+use squawk_woven::{Fault, Lex};
 
 /// The token that comes next, and where it begins.
 #[derive(Clone, Copy)]

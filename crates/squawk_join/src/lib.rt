@@ -8,8 +8,8 @@ ghost use Rattle.squawk_join.specs.Join.{lex_form};
 ghost use Rattle.squawk_join.specs.Steps.{root_children, root_child};
 ghost use Rattle.squawk_join.specs.IsTree.{IsTree};
 ghost use Rattle.squawk_join.specs.ParseOf.{parse_of, tree_of, child_of, join};
-ghost use Rattle.squawk_lexed.specs.Woven.{are_sound, bytes, kept, woven};
-ghost use Rattle.squawk_lexed.specs.declared.lex.Lex.{Lex};
+ghost use Rattle.squawk_woven.specs.Woven.{are_sound, bytes, kept, woven};
+ghost use Rattle.squawk_woven.specs.declared.lex.Lex.{Lex};
 ghost use Rattle.squawk_statements.specs.Children.{parts, children, more_of};
 ghost use Rattle.squawk_statements.specs.declared.division.Division.{Division};
 

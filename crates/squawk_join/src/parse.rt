@@ -1,7 +1,7 @@
 //! The parse of a text.
 ghost use Rattle.std.specs.Prelude.{◌≡◌, ℕ, List, [], ◌∷◌, ◌++◌, IfOk, IsOkUnless};
 ghost use Rattle.squawk_events.specs.declared.error.FrontError.TheVariants.{OutOfMemory};
-ghost use Rattle.squawk_lexed.specs.Woven.{kept, woven};
+ghost use Rattle.squawk_woven.specs.Woven.{kept, woven};
 ghost use Rattle.squawk_statements.specs.Children.{parts};
 ghost use Rattle.squawk_statements.specs.declared.division.Division.TheVariants.{Flat};
 ghost use Rattle.squawk_join.specs.Errors.{errors};
@@ -10,8 +10,8 @@ ghost use Rattle.squawk_join.specs.Join.{joined, joined_errors, lex_form};
 
 use crate::TreeSink;
 use squawk_events::{EntryPoint, FrontError, Grammar, ParseError, StrStep};
-use squawk_lexed::LexedStr;
 use squawk_statements::PlainGrammar;
+use squawk_woven::LexedStr;
 use std::alloc::Global;
 use std::marker::Model;
 

@@ -1,14 +1,14 @@
 //! What takes the steps and errors of a parse.
 ghost use Rattle.std.specs.Prelude.{◌≡◌, ◌<◌, ◌^◌, IsTrue, [], ◌∷◌, ◌++◌, OnOk, OnErr, IfOk, IsOkUnless};
 ghost use Rattle.squawk_events.specs.declared.error.FrontError.TheVariants.{OutOfMemory};
-ghost use Rattle.squawk_lexed.specs.Woven.{bytes, are_sound};
+ghost use Rattle.squawk_woven.specs.Woven.{bytes, are_sound};
 ghost use Rattle.squawk_join.specs.Errors.{walked};
 ghost use Rattle.squawk_join.specs.Tree.{Tree, without_errors};
 
 use crate::Parse;
 use crate::errors::push_errors;
 use squawk_events::{FrontError, ParseError, StepSink, StrStep};
-use squawk_lexed::Lex;
+use squawk_woven::Lex;
 use std::alloc::Global;
 use std::marker::Model;
 

@@ -1,3 +1,6 @@
-mod FrontLemmas
-mod KeptLemmas
-mod WovenLemmas
+pub mod FaultLemmas
+pub mod StoredLemmas
+pub mod FrontLemmas
+pub mod KeptLemmas
+pub mod WovenLemmas
+pub mod PartLemmas

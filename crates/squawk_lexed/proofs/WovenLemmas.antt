@@ -11,7 +11,7 @@ use Rattle.squawk_events.specs.declared.steps.StrStep.{StrStep}
 use Rattle.squawk_events.specs.declared.steps.StrStep.TheVariants as out
 use Rattle.squawk_lexed.specs.Fronts.{AppendsFront}
 use Rattle.squawk_lexed.specs.Woven.{kept, front_steps, behind_front, step_woven, is_empty, woven, woven_from, left_from, are_served, begins_with}
-use Rattle.squawk_lexed.specs.declared.lex.Lex.{Lex}
+use Rattle.squawk_lexed.specs.Lex.{Lex}
 use Rattle.squawk_lexed.proofs.FrontLemmas.{front_part, front_then, front_none, front_on}
 
 pub front_part_of : {A : Type 0} (old now xs ys w : List A) → w ≡ xs ++ ys → AppendsFront old now xs → AppendsFront old now w

@@ -1,12 +1,11 @@
 -- Steps with the ranges of their tokens, and with the trivia between them.
-use Rattle.std.specs.Prelude.{ℕ, ◌+◌, ◌==◌, Bool, true, false, not, ◌&&◌, List, [], ◌∷◌, ◌++◌, drop, nat_le, nat_lt, Option, Some, None, if◌then◌else◌}
+use Rattle.std.specs.Prelude.{ℕ, ◌+◌, ◌==◌, Bool, true, false, not, ◌&&◌, List, [], ◌∷◌, ◌++◌, drop, if◌then◌else◌}
 use Rattle.squawk_events.specs.Kinds.{is_trivia_kind}
 use Rattle.squawk_events.specs.declared.steps.Step.{Step}
 use Rattle.squawk_events.specs.declared.steps.Step.TheVariants.{Enter, Token, Exit, Error}
 use Rattle.squawk_events.specs.declared.steps.StrStep.{StrStep}
 use Rattle.squawk_events.specs.declared.steps.StrStep.TheVariants as out
-use Rattle.squawk_lexed.specs.declared.lex.Fault.{Fault}
-use Rattle.squawk_lexed.specs.declared.lex.Lex.{Lex}
+use Rattle.squawk_lexed.specs.Lex.{Lex}
 
 abbrev pub kept_kind : ℕ → List ℕ
 kept_kind kind = if is_trivia_kind kind then [] else kind ∷ []
@@ -15,10 +14,6 @@ kept_kind kind = if is_trivia_kind kind then [] else kind ∷ []
 abbrev pub kept : List Lex → List ℕ
 kept [] = []
 kept (t ∷ ts) = kept_kind t.kind ++ kept ts
-
-abbrev pub bytes : List Lex → ℕ
-bytes [] = 0
-bytes (t ∷ ts) = t.len + bytes ts
 
 -- the steps of the trivia at the front of tokens that begin at a place
 abbrev pub front_steps : ℕ → List Lex → List StrStep
@@ -105,13 +100,3 @@ abbrev pub begins_with : List ℕ → List ℕ → Bool
 begins_with xs [] = true
 begins_with [] (y ∷ ys) = false
 begins_with (x ∷ xs) (y ∷ ys) = x == y && begins_with xs ys
-
-abbrev pub faults_within : ℕ → List (Option Fault) → Bool
-faults_within len [] = true
-faults_within len (None ∷ fs) = faults_within len fs
-faults_within len (Some f ∷ fs) = nat_le 1 f.number && (nat_le f.number 9 && (nat_le f.start f.end && (nat_le f.end len && faults_within len fs)))
-
--- each token has a length, and a fault of it lies in it
-abbrev pub are_sound : List Lex → Bool
-are_sound [] = true
-are_sound (t ∷ ts) = nat_lt 0 t.len && (faults_within t.len t.faults && are_sound ts)

@@ -2,12 +2,12 @@
 ghost use Rattle.std.specs.Prelude.{◌≡◌, ◌^◌, ◌<◌, ◌≤◌, ◌+◌, [], ◌∷◌, ◌++◌, length, OnOk, OnErr, IfOk, IsOkUnless, IsTrue, drop};
 ghost use Rattle.squawk_events.specs.Lawful.{is_balanced, token_kinds};
 ghost use Rattle.squawk_events.specs.declared.error.FrontError.TheVariants.{OutOfMemory};
-ghost use Rattle.squawk_lexed.specs.Woven.{kept, begins_with, bytes, front_steps, front_end, behind_front, step_woven, step_end, step_left, is_served, are_served, woven, woven_from, left_from, left_over, is_empty};
+ghost use Rattle.squawk_lexed.specs.Woven.{kept, begins_with, front_steps, front_end, behind_front, step_woven, step_end, step_left, is_served, are_served, woven, woven_from, left_from, left_over, is_empty};
+ghost use Rattle.squawk_lexed.specs.Lexes.{bytes};
 ghost use Rattle.squawk_lexed.specs.Fronts.{AppendsFront};
 ghost use Rattle.squawk_events.specs.declared.steps.Step.TheVariants.{Enter};
 
-use crate::lex::is_trivia;
-use crate::{Lex, LexedStr};
+use crate::lexed::{LexedStr, is_trivia};
 use squawk_events::{FrontError, Output, Step, StepSink, StrStep};
 use squawk_kinds::SyntaxKind;
 
@@ -19,24 +19,28 @@ struct Place {
 }
 
 /// Gives out the trivia that come next.
-fn give_front<K: StepSink>(tokens: &[Lex], from: Place, sink: &mut K) -> Result<Place, FrontError>
-    requires within { from.index ≤ length tokens.now }
-    requires small { from.at + bytes (drop from.index tokens.now) < 2 ^ 32 }
-    ensures ok { OnOk result (K.steps sink.new ≡ K.steps sink.old ++ front_steps from.at (drop from.index tokens.now)) }
-    ensures left { IfOk result (λ to. drop to.index tokens.now ≡ behind_front (drop from.index tokens.now)) }
-    ensures at { IfOk result (λ to. to.at ≡ front_end from.at (drop from.index tokens.now)) }
-    ensures same_end { IfOk result (λ to. to.at + bytes (drop to.index tokens.now) ≡ from.at + bytes (drop from.index tokens.now)) }
-    ensures within { IfOk result (λ to. to.index ≤ length tokens.now) }
-    ensures front { OnErr result (AppendsFront (K.steps sink.old) (K.steps sink.new) (front_steps from.at (drop from.index tokens.now))) }
+fn give_front<K: StepSink>(
+    lexed: &LexedStr<'_>,
+    from: Place,
+    sink: &mut K,
+) -> Result<Place, FrontError>
+    requires within { from.index ≤ length lexed.now.tokens }
+    requires small { from.at + bytes (drop from.index lexed.now.tokens) < 2 ^ 32 }
+    ensures ok { OnOk result (K.steps sink.new ≡ K.steps sink.old ++ front_steps from.at (drop from.index lexed.now.tokens)) }
+    ensures left { IfOk result (λ to. drop to.index lexed.now.tokens ≡ behind_front (drop from.index lexed.now.tokens)) }
+    ensures at { IfOk result (λ to. to.at ≡ front_end from.at (drop from.index lexed.now.tokens)) }
+    ensures same_end { IfOk result (λ to. to.at + bytes (drop to.index lexed.now.tokens) ≡ from.at + bytes (drop from.index lexed.now.tokens)) }
+    ensures within { IfOk result (λ to. to.index ≤ length lexed.now.tokens) }
+    ensures front { OnErr result (AppendsFront (K.steps sink.old) (K.steps sink.new) (front_steps from.at (drop from.index lexed.now.tokens))) }
     ensures errors { K.errors sink.new ≡ K.errors sink.old }
     ensures refusal { IsOkUnless result OutOfMemory }
 {
     let mut index = from.index;
     let mut at = from.at;
-    while index < tokens.len() && is_trivia(tokens[index].kind) {
-        let end = at + tokens[index].len;
+    while index < lexed.len() && is_trivia(lexed.piece(index).kind) {
+        let end = at + lexed.piece(index).len;
         sink.step(StrStep::Token {
-            kind: tokens[index].kind,
+            kind: lexed.piece(index).kind,
             start: at,
             end,
         })?;
@@ -48,33 +52,33 @@ fn give_front<K: StepSink>(tokens: &[Lex], from: Place, sink: &mut K) -> Result<
 
 /// Gives out a step, and before it the trivia that wait for it.
 fn give_step<K: StepSink>(
-    tokens: &[Lex],
+    lexed: &LexedStr<'_>,
     from: Place,
     step: Step,
     last: bool,
     sink: &mut K,
 ) -> Result<Place, FrontError>
-    requires within { from.index ≤ length tokens.now }
-    requires small { from.at + bytes (drop from.index tokens.now) < 2 ^ 32 }
-    requires served { IsTrue (is_served (drop from.index tokens.now) step) }
-    ensures ok { OnOk result (K.steps sink.new ≡ K.steps sink.old ++ step_woven last from.at (drop from.index tokens.now) step) }
-    ensures left { IfOk result (λ to. drop to.index tokens.now ≡ step_left last (drop from.index tokens.now) step) }
-    ensures at { IfOk result (λ to. to.at ≡ step_end last from.at (drop from.index tokens.now) step) }
-    ensures same_end { IfOk result (λ to. to.at + bytes (drop to.index tokens.now) ≡ from.at + bytes (drop from.index tokens.now)) }
-    ensures within { IfOk result (λ to. to.index ≤ length tokens.now) }
-    ensures front { OnErr result (AppendsFront (K.steps sink.old) (K.steps sink.new) (step_woven last from.at (drop from.index tokens.now) step)) }
+    requires within { from.index ≤ length lexed.now.tokens }
+    requires small { from.at + bytes (drop from.index lexed.now.tokens) < 2 ^ 32 }
+    requires served { IsTrue (is_served (drop from.index lexed.now.tokens) step) }
+    ensures ok { OnOk result (K.steps sink.new ≡ K.steps sink.old ++ step_woven last from.at (drop from.index lexed.now.tokens) step) }
+    ensures left { IfOk result (λ to. drop to.index lexed.now.tokens ≡ step_left last (drop from.index lexed.now.tokens) step) }
+    ensures at { IfOk result (λ to. to.at ≡ step_end last from.at (drop from.index lexed.now.tokens) step) }
+    ensures same_end { IfOk result (λ to. to.at + bytes (drop to.index lexed.now.tokens) ≡ from.at + bytes (drop from.index lexed.now.tokens)) }
+    ensures within { IfOk result (λ to. to.index ≤ length lexed.now.tokens) }
+    ensures front { OnErr result (AppendsFront (K.steps sink.old) (K.steps sink.new) (step_woven last from.at (drop from.index lexed.now.tokens) step)) }
     ensures errors { K.errors sink.new ≡ K.errors sink.old }
     ensures refusal { IsOkUnless result OutOfMemory }
 {
     match step {
         Step::Enter { kind } => {
-            let to = give_front(tokens, from, sink)?;
+            let to = give_front(lexed, from, sink)?;
             sink.step(StrStep::Enter { kind })?;
             Ok(to)
         }
         Step::Token { kind } => {
-            let to = give_front(tokens, from, sink)?;
-            let end = to.at + tokens[to.index].len;
+            let to = give_front(lexed, from, sink)?;
+            let end = to.at + lexed.piece(to.index).len;
             sink.step(StrStep::Token {
                 kind,
                 start: to.at,
@@ -86,7 +90,7 @@ fn give_step<K: StepSink>(
             })
         }
         Step::Exit if last => {
-            let to = give_front(tokens, from, sink)?;
+            let to = give_front(lexed, from, sink)?;
             sink.step(StrStep::Exit)?;
             Ok(to)
         }
@@ -105,20 +109,24 @@ fn give_step<K: StepSink>(
 }
 
 /// Gives out all steps but the first, and answers whether all tokens were given out.
-fn give_rest<K: StepSink>(tokens: &[Lex], rest: &[Step], sink: &mut K) -> Result<bool, FrontError>
-    requires small { bytes tokens.now < 2 ^ 32 }
-    requires served { IsTrue (are_served tokens.now rest.now) }
-    ensures ok { OnOk result (K.steps sink.new ≡ K.steps sink.old ++ woven_from 0 tokens.now rest.now) }
-    ensures all { IfOk result (λ all. all ≡ is_empty (left_from tokens.now rest.now)) }
-    ensures front { OnErr result (AppendsFront (K.steps sink.old) (K.steps sink.new) (woven_from 0 tokens.now rest.now)) }
+fn give_rest<K: StepSink>(
+    lexed: &LexedStr<'_>,
+    rest: &[Step],
+    sink: &mut K,
+) -> Result<bool, FrontError>
+    requires served { IsTrue (are_served lexed.now.tokens rest.now) }
+    ensures ok { OnOk result (K.steps sink.new ≡ K.steps sink.old ++ woven_from 0 lexed.now.tokens rest.now) }
+    ensures all { IfOk result (λ all. all ≡ is_empty (left_from lexed.now.tokens rest.now)) }
+    ensures front { OnErr result (AppendsFront (K.steps sink.old) (K.steps sink.new) (woven_from 0 lexed.now.tokens rest.now)) }
     ensures errors { K.errors sink.new ≡ K.errors sink.old }
     ensures refusal { IsOkUnless result OutOfMemory }
 {
+    let count = lexed.len();
     let mut place = Place { index: 0, at: 0 };
     for k in 0..rest.len() {
-        place = give_step(tokens, place, rest[k], k + 1 == rest.len(), sink)?;
+        place = give_step(lexed, place, rest[k], k + 1 == rest.len(), sink)?;
     }
-    Ok(place.index == tokens.len())
+    Ok(place.index == count)
 }
 
 /// The kind of the node that balanced steps begin with.
@@ -132,7 +140,7 @@ fn root_of(steps: &[Step]) -> SyntaxKind
     kind
 }
 
-impl LexedStr {
+impl<'a> LexedStr<'a> {
     /// Gives out the steps of an output with the ranges of their tokens and with the trivia, and
     /// answers whether all tokens were given out.
     pub fn intersperse_trivia<K: StepSink>(
@@ -141,10 +149,10 @@ impl LexedStr {
         sink: &mut K,
     ) -> Result<bool, FrontError>
         requires balanced { IsTrue (is_balanced output.now) }
-        requires tokens { IsTrue (begins_with (kept self.now) (token_kinds output.now)) }
-        ensures ok { OnOk result (K.steps sink.new ≡ K.steps sink.old ++ woven self.now output.now) }
-        ensures all { IfOk result (λ all. all ≡ is_empty (left_over self.now output.now)) }
-        ensures front { OnErr result (AppendsFront (K.steps sink.old) (K.steps sink.new) (woven self.now output.now)) }
+        requires tokens { IsTrue (begins_with (kept self.now.tokens) (token_kinds output.now)) }
+        ensures ok { OnOk result (K.steps sink.new ≡ K.steps sink.old ++ woven self.now.tokens output.now) }
+        ensures all { IfOk result (λ all. all ≡ is_empty (left_over self.now.tokens output.now)) }
+        ensures front { OnErr result (AppendsFront (K.steps sink.old) (K.steps sink.new) (woven self.now.tokens output.now)) }
         ensures errors { K.errors sink.new ≡ K.errors sink.old }
         ensures refusal { IsOkUnless result OutOfMemory }
     {
@@ -152,7 +160,7 @@ impl LexedStr {
         sink.step(StrStep::Enter {
             kind: root_of(steps),
         })?;
-        let all = give_rest(self.tokens(), &steps[1..], sink)?;
+        let all = give_rest(self, &steps[1..], sink)?;
         Ok(all)
     }
 }

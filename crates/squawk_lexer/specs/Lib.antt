@@ -23,3 +23,4 @@ pub mod Laws
 pub mod LookAhead
 pub mod QuotedLaws
 pub mod Gaps
+pub mod Flags

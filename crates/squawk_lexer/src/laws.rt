@@ -1,6 +1,7 @@
 //! Laws that the definitions of the grammar obey. Each is the clause of a function that does nothing.
 ghost use Rattle.std.specs.Prelude.{◌≡◌, ◌∷◌, []};
 ghost use Rattle.squawk_lexer.specs.Laws.{RunsAreLongest, RunsAreOne, TokensProgress, TokensWithin, PlacesAddUp, PlacesWithin, TokensRestart, FoundIsFirst, NoneIsNowhere, CommentsBalance, OpenCommentsStayOpen};
+ghost use Rattle.squawk_lexer.specs.Flags.{FlagsLieWithin, TokensAreCut};
 ghost use Rattle.squawk_lexer.specs.LookAhead.{LexemesLookAhead, TokensLookAhead, TextsLookAhead, TextsProgress, TextsRestart, StatementsStandAlone};
 ghost use Rattle.squawk_lexer.specs.QuotedLaws.{QuotedEndsFirst, QuotedEndsOnce, DigitsAreLongest};
 ghost use Rattle.squawk_lexer.specs.declared.lexer.TheConstants.{BOM};
@@ -96,4 +97,11 @@ pub fn tokens_stay()
     ensures seen { GapsAreSeen }
     ensures near { TokensStay }
     ensures before { TokensStayBefore }
+{}
+
+/// The places that the flags of a number or a parameter name lie in it: an exponent without digits begins before the junk, and junk behind
+/// a first byte, at the token's end at the latest. Each token of a text is the first token of some text, so this holds of it.
+pub fn flags_lie_within()
+    ensures within { FlagsLieWithin }
+    ensures cut { TokensAreCut }
 {}

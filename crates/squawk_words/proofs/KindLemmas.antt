@@ -7,6 +7,7 @@ use Rattle.std.proofs.lemmas.List.{get_or_past}
 use Rattle.std.proofs.lemmas.List.Sums.{AllPass-from_list_all}
 use Rattle.std.proofs.lemmas.Option.{slice_get-get_or}
 use Rattle.std.proofs.lemmas.Slice.Eq.{bytes_eq-Decides}
+use Rattle.squawk_kinds.specs.Role.{Role, Trivia, Semicolon, Terminator, Command, Open, Close, Other, role, is_other}
 use Rattle.squawk_names.specs.Texts.{texts}
 use Rattle.squawk_words.specs.KindOf.{kind_of, IsWord, HasNoWord, HasWord, backquoted}
 use Rattle.squawk_words.specs.Index.{word_of, pairs_of}
@@ -146,6 +147,26 @@ apart_back pairs others text kind (Some k) all other e =
 pub in_pairs : (kinds : List ℕ) (pairs : List (List ℕ × ℕ)) (text : List ℕ) (kind : Option ℕ) → kind ≡ kind_of (pairs_of kinds) text
     → pairs_of kinds ≡ pairs → kind ≡ kind_of pairs text
 in_pairs kinds pairs text kind found same = found ∙ ap (λ ps. kind_of ps text) same
+
+-- whether the kind of the pair is none that a statement or a group is told by
+abbrev pub pair_is_other : List ℕ × ℕ → Bool
+pair_is_other pair = is_other (role pair.1)
+
+is_other-is : (f : Role) → is_other f ≡ true → f ≡ Other
+is_other-is Trivia h = cc
+is_other-is Semicolon h = cc
+is_other-is Terminator h = cc
+is_other-is Command h = cc
+is_other-is Open h = cc
+is_other-is Close h = cc
+is_other-is Other h = refl
+
+pub answer-other : (pairs : List (List ℕ × ℕ)) (text : List ℕ) (kind : Option ℕ) → kind ≡ kind_of pairs text → list_all pair_is_other pairs ≡ true
+    → IfSome kind (λ k. role k ≡ Other)
+answer-other pairs text None e all = tt
+answer-other pairs text (Some k) e all =
+    let found = some-kind_of pairs text k (sym e) in
+    ap role (sym found.4.1) ∙ is_other-is _ (found_passes pair_is_other pairs text k all found)
 
 -- what the answer of a look-up says
 module _ (pairs : List (List ℕ × ℕ)) (text : List ℕ) where

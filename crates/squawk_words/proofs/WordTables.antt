@@ -1,11 +1,12 @@
 -- What the tables of words hold, by computation.
 use Rattle.std.proofs.Common.{◌≡◌, true, length, refl}
 use Rattle.std.specs.List.{list_all}
+use Rattle.squawk_kinds.specs.Role.{role}
 use Rattle.squawk_names.specs.Texts.{texts}
 use Rattle.squawk_words.specs.Index.{pairs_of, IsIndex, IsSpelled}
 use Rattle.squawk_words.specs.Words.{keywords, contextual_keywords}
 use Rattle.squawk_words.specs.declared.tables.TheConstants.{KEYWORDS, KEYWORD_STARTS, KEYWORD_TEXT, KEYWORD_OFFSETS, CONTEXTUAL_KEYWORDS, CONTEXTUAL_STARTS, CONTEXTUAL_TEXT, CONTEXTUAL_OFFSETS}
-use Rattle.squawk_words.proofs.KindLemmas.{prints, is_apart}
+use Rattle.squawk_words.proofs.KindLemmas.{prints, is_apart, pair_is_other}
 use Rattle.squawk_words.proofs.Spelled.{spelled, is_spelled, IsSpelled-from}
 use Rattle.squawk_words.proofs.Placed.{rising, climbing, placed, is_place, IsIndex-from}
 
@@ -46,3 +47,8 @@ contextual_print = refl
 pub keywords_apart : list_all (is_apart contextual_keywords) keywords ≡ true
 unfolding keywords contextual_keywords
 keywords_apart = refl
+
+-- no keyword is trivia, a semicolon, a command or a parenthesis
+pub keywords_are_other : list_all pair_is_other keywords ≡ true
+unfolding role keywords
+keywords_are_other = refl

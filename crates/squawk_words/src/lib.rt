@@ -5,6 +5,7 @@
 
 ghost use Rattle.std.specs.Prelude.{◌≡◌, ◌↔◌, IsNone, IfSome, OnSome, Some, slice_get};
 ghost use Rattle.squawk_names.specs.Texts.{texts};
+ghost use Rattle.squawk_kinds.specs.Role.{role, Other};
 ghost use Rattle.squawk_words.specs.KindOf.{keyword_of, contextual_keyword_of, HasNoWord, HasWord, backquoted};
 ghost use Rattle.squawk_words.specs.Words.{keywords, contextual_keywords};
 
@@ -33,6 +34,7 @@ pub fn from_keyword(ident: &str) -> Option<SyntaxKind>
     ensures kind { result ≡ keyword_of ident.now }
     ensures none { IsNone result ↔ HasNoWord keywords ident.now }
     ensures some { IfSome result (HasWord keywords ident.now) }
+    ensures role { IfSome result (λ kind. role kind ≡ Other) }
     ensures printed { IfSome result (λ kind. slice_get texts kind ≡ Some (backquoted ident.now)) }
     ensures apart { OnSome result (IsNone (contextual_keyword_of ident.now)) }
 {

@@ -1,6 +1,6 @@
 use Rattle.std.proofs.Common.{◌≡◌, ◌≤◌, ◌+◌, ◌++◌, drop, length}
 use Rattle.std.specs.Prelude.{IsTrue}
-use Rattle.squawk_lexed.specs.Woven.{bytes, are_sound}
+use Rattle.squawk_woven.specs.Woven.{bytes, are_sound}
 use Rattle.squawk_join.specs.Errors.{walked}
 use Rattle.squawk_join.proofs.errors.push_errors.Given as goal
 

@@ -1,7 +1,7 @@
 use Rattle.std.proofs.Common.{◌≡◌, ◌++◌, drop}
 use Rattle.std.specs.Prelude.{IsTrue}
 use Rattle.squawk_join.specs.Errors.{placed}
-use Rattle.squawk_lexed.specs.Woven.{faults_within}
+use Rattle.squawk_woven.specs.Woven.{faults_within}
 use Rattle.squawk_join.proofs.errors.push_faults.Given as goal
 
 -- the faults so far, and those that are left

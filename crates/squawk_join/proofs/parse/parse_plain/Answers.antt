@@ -1,13 +1,13 @@
 use Rattle.std.proofs.Common.{ap, ◌∙◌, ◌≡◌, List, true}
 use Rattle.squawk_events.specs.Lawful.{is_balanced, token_kinds}
-use Rattle.squawk_lexed.specs.Woven.{are_sound}
-use Rattle.squawk_lexed.specs.declared.lex.Lex.{Lex}
+use Rattle.squawk_woven.specs.Woven.{are_sound}
+use Rattle.squawk_woven.specs.declared.lex.Lex.{Lex}
 use Rattle.squawk_statements.specs.PlainIsLawful.{plain_lawful}
 use Rattle.squawk_join.specs.Errors.{errors}
 use Rattle.squawk_join.proofs.ErrorLemmas.{errors_whole}
 use Rattle.squawk_join.proofs.JoinErrorLemmas.{join_errors_law, has_no_trivia_kept}
 use Rattle.std.specs.Prelude.{Result, Ok, Err, IfOk}
-use Rattle.squawk_lexed.specs.Woven.{kept, woven}
+use Rattle.squawk_woven.specs.Woven.{kept, woven}
 use Rattle.squawk_statements.specs.Children.{parts}
 use Rattle.squawk_statements.specs.Plain.{plain}
 use Rattle.squawk_statements.specs.declared.division.Division.{Division}

@@ -2,7 +2,7 @@
 ghost use Rattle.std.specs.Prelude.{◌≡◌, ◌^◌, ◌<◌, [], ◌∷◌, ◌++◌, length, IfOk, OnOk, IsOkUnless, IsTrue, drop};
 ghost use Rattle.squawk_events.specs.Kinds.{is_trivia_kind, has_no_trivia};
 ghost use Rattle.squawk_events.specs.declared.error.FrontError.TheVariants.{OutOfMemory};
-ghost use Rattle.squawk_lexed.specs.Woven.{kept, kept_kind, bytes, are_sound};
+ghost use Rattle.squawk_woven.specs.Woven.{kept, kept_kind, bytes, are_sound};
 
 use squawk_events::{FrontError, Input};
 use squawk_kinds::SyntaxKind;
@@ -33,8 +33,8 @@ pub struct LexedStr {
 
 impl Model for LexedStr {
     ghost use Rattle.std.specs.Prelude.{ℕ, List, ◌<◌, ◌^◌};
-    ghost use Rattle.squawk_lexed.specs.declared.lex.Lex.{Lex};
-    ghost use Rattle.squawk_lexed.specs.Woven.{bytes, are_sound};
+    ghost use Rattle.squawk_woven.specs.declared.lex.Lex.{Lex};
+    ghost use Rattle.squawk_woven.specs.Woven.{bytes, are_sound};
     ghost use Rattle.std.specs.Prelude.{IsTrue};
 
     ghost Value = { List Lex };

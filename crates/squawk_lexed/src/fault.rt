@@ -1,0 +1,117 @@
+//! What is wrong with a token.
+ghost use Rattle.std.specs.Prelude.{◌≡◌, ◌≤◌, [], ◌∷◌, ◌++◌, length, IsTrue, Some, None};
+ghost use Rattle.squawk_lexer.specs.Flags.{IsCut};
+ghost use Rattle.squawk_lexed.specs.Faults.{fault, row, exponent_row, faults, kind_faults, literal_faults, in_two, faults_within};
+ghost use Rattle.squawk_lexed.specs.FaultLists.{listed, list_of};
+
+use squawk_lexer::laws::flags_lie_within;
+use squawk_lexer::{LiteralKind, Token, TokenKind};
+
+/// What is wrong with a token, by places in it.
+#[derive(Clone, Copy, Debug, PartialEq, Eq)]
+pub struct Fault {
+    /// From 1 to 9: the number of its message.
+    pub number: u8,
+    /// Its first byte.
+    pub start: u32,
+    /// The byte behind it.
+    pub end: u32,
+}
+
+/// A fault where the test holds.
+fn row(test: bool, number: u8, start: u32, end: u32) -> Option<Fault>
+    ensures { list_of result ≡ row test (fault number start end) }
+{
+    if test {
+        Some(Fault { number, start, end })
+    } else {
+        None
+    }
+}
+
+/// These faults, with those that are there in front.
+fn in_order(first: Option<Fault>, second: Option<Fault>) -> [Option<Fault>; 2]
+    ensures { result ≡ in_two (listed first second) }
+{
+    if first.is_none() {
+        [second, None]
+    } else {
+        [first, second]
+    }
+}
+
+/// The fault of an exponent without digits.
+fn exponent_row(empty_exponent_start: Option<u32>, trailing_junk_start: u32) -> Option<Fault>
+    ensures { list_of result ≡ exponent_row empty_exponent_start trailing_junk_start }
+{
+    match empty_exponent_start {
+        Some(start) => Some(Fault {
+            number: 6,
+            start,
+            end: trailing_junk_start,
+        }),
+        None => None,
+    }
+}
+
+/// The faults of a literal of this length.
+fn literal_faults(kind: LiteralKind, len: u32) -> [Option<Fault>; 2]
+    ensures { result ≡ in_two (literal_faults kind len) }
+{
+    match kind {
+        LiteralKind::Int {
+            empty_int,
+            trailing_junk_start,
+            ..
+        } => in_order(
+            row(empty_int, 5, 0, len),
+            row(trailing_junk_start < len, 7, trailing_junk_start, len),
+        ),
+        LiteralKind::Numeric {
+            empty_exponent_start,
+            trailing_junk_start,
+        } => in_order(
+            exponent_row(empty_exponent_start, trailing_junk_start),
+            row(trailing_junk_start < len, 7, trailing_junk_start, len),
+        ),
+        LiteralKind::Str { terminated }
+        | LiteralKind::NationalStr { terminated }
+        | LiteralKind::ByteStr { terminated }
+        | LiteralKind::BitStr { terminated }
+        | LiteralKind::DollarQuotedString { terminated }
+        | LiteralKind::UnicodeEscStr { terminated }
+        | LiteralKind::EscStr { terminated } => in_order(row(!terminated, 3, 0, len), None),
+    }
+}
+
+/// The faults of a token of this kind and length.
+fn kind_faults(kind: TokenKind, len: u32) -> [Option<Fault>; 2]
+    ensures { result ≡ in_two (kind_faults kind len) }
+{
+    match kind {
+        TokenKind::Unknown => in_order(row(true, 1, 0, len), None),
+        TokenKind::BlockComment { terminated } => in_order(row(!terminated, 2, 0, len), None),
+        TokenKind::Literal { kind } => literal_faults(kind, len),
+        TokenKind::QuotedIdent { terminated, .. } => in_order(row(!terminated, 4, 0, len), None),
+        TokenKind::PositionalParam {
+            trailing_junk_start,
+        } => in_order(
+            row(trailing_junk_start == 1, 8, 0, 1),
+            row(trailing_junk_start < len, 9, trailing_junk_start, len),
+        ),
+        _ => [None, None],
+    }
+}
+
+/// The faults of a token of a text, in the order of their numbers: none, one or two, and a `None` is followed by `None`.
+///
+/// Each has a byte of the token at least.
+pub fn faults_of(token: Token) -> [Option<Fault>; 2]
+    requires cut { IsCut token }
+    ensures faults { result ≡ in_two (faults token) }
+    ensures few { length (faults token) ≤ 2 }
+    ensures within { IsTrue (faults_within token.len (faults token)) }
+{
+    flags_lie_within();
+    kind_faults(token.kind, token.len)
+}

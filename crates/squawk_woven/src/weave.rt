@@ -1,0 +1,158 @@
+//! Steps with trivia between them.
+ghost use Rattle.std.specs.Prelude.{◌≡◌, ◌^◌, ◌<◌, ◌≤◌, ◌+◌, [], ◌∷◌, ◌++◌, length, OnOk, OnErr, IfOk, IsOkUnless, IsTrue, drop};
+ghost use Rattle.squawk_events.specs.Lawful.{is_balanced, token_kinds};
+ghost use Rattle.squawk_events.specs.declared.error.FrontError.TheVariants.{OutOfMemory};
+ghost use Rattle.squawk_woven.specs.Woven.{kept, begins_with, bytes, front_steps, front_end, behind_front, step_woven, step_end, step_left, is_served, are_served, woven, woven_from, left_from, left_over, is_empty};
+ghost use Rattle.squawk_woven.specs.Fronts.{AppendsFront};
+ghost use Rattle.squawk_events.specs.declared.steps.Step.TheVariants.{Enter};
+
+use crate::lex::is_trivia;
+use crate::{Lex, LexedStr};
+use squawk_events::{FrontError, Output, Step, StepSink, StrStep};
+use squawk_kinds::SyntaxKind;
+
+/// The next token that is not given out, and where it begins.
+#[derive(Clone, Copy)]
+struct Place {
+    index: usize,
+    at: u32,
+}
+
+/// Gives out the trivia that come next.
+fn give_front<K: StepSink>(tokens: &[Lex], from: Place, sink: &mut K) -> Result<Place, FrontError>
+    requires within { from.index ≤ length tokens.now }
+    requires small { from.at + bytes (drop from.index tokens.now) < 2 ^ 32 }
+    ensures ok { OnOk result (K.steps sink.new ≡ K.steps sink.old ++ front_steps from.at (drop from.index tokens.now)) }
+    ensures left { IfOk result (λ to. drop to.index tokens.now ≡ behind_front (drop from.index tokens.now)) }
+    ensures at { IfOk result (λ to. to.at ≡ front_end from.at (drop from.index tokens.now)) }
+    ensures same_end { IfOk result (λ to. to.at + bytes (drop to.index tokens.now) ≡ from.at + bytes (drop from.index tokens.now)) }
+    ensures within { IfOk result (λ to. to.index ≤ length tokens.now) }
+    ensures front { OnErr result (AppendsFront (K.steps sink.old) (K.steps sink.new) (front_steps from.at (drop from.index tokens.now))) }
+    ensures errors { K.errors sink.new ≡ K.errors sink.old }
+    ensures refusal { IsOkUnless result OutOfMemory }
+{
+    let mut index = from.index;
+    let mut at = from.at;
+    while index < tokens.len() && is_trivia(tokens[index].kind) {
+        let end = at + tokens[index].len;
+        sink.step(StrStep::Token {
+            kind: tokens[index].kind,
+            start: at,
+            end,
+        })?;
+        at = end;
+        index += 1;
+    }
+    Ok(Place { index, at })
+}
+
+/// Gives out a step, and before it the trivia that wait for it.
+fn give_step<K: StepSink>(
+    tokens: &[Lex],
+    from: Place,
+    step: Step,
+    last: bool,
+    sink: &mut K,
+) -> Result<Place, FrontError>
+    requires within { from.index ≤ length tokens.now }
+    requires small { from.at + bytes (drop from.index tokens.now) < 2 ^ 32 }
+    requires served { IsTrue (is_served (drop from.index tokens.now) step) }
+    ensures ok { OnOk result (K.steps sink.new ≡ K.steps sink.old ++ step_woven last from.at (drop from.index tokens.now) step) }
+    ensures left { IfOk result (λ to. drop to.index tokens.now ≡ step_left last (drop from.index tokens.now) step) }
+    ensures at { IfOk result (λ to. to.at ≡ step_end last from.at (drop from.index tokens.now) step) }
+    ensures same_end { IfOk result (λ to. to.at + bytes (drop to.index tokens.now) ≡ from.at + bytes (drop from.index tokens.now)) }
+    ensures within { IfOk result (λ to. to.index ≤ length tokens.now) }
+    ensures front { OnErr result (AppendsFront (K.steps sink.old) (K.steps sink.new) (step_woven last from.at (drop from.index tokens.now) step)) }
+    ensures errors { K.errors sink.new ≡ K.errors sink.old }
+    ensures refusal { IsOkUnless result OutOfMemory }
+{
+    match step {
+        Step::Enter { kind } => {
+            let to = give_front(tokens, from, sink)?;
+            sink.step(StrStep::Enter { kind })?;
+            Ok(to)
+        }
+        Step::Token { kind } => {
+            let to = give_front(tokens, from, sink)?;
+            let end = to.at + tokens[to.index].len;
+            sink.step(StrStep::Token {
+                kind,
+                start: to.at,
+                end,
+            })?;
+            Ok(Place {
+                index: to.index + 1,
+                at: end,
+            })
+        }
+        Step::Exit if last => {
+            let to = give_front(tokens, from, sink)?;
+            sink.step(StrStep::Exit)?;
+            Ok(to)
+        }
+        Step::Exit => {
+            sink.step(StrStep::Exit)?;
+            Ok(from)
+        }
+        Step::Error { number } => {
+            sink.step(StrStep::Error {
+                number,
+                at: from.at,
+            })?;
+            Ok(from)
+        }
+    }
+}
+
+/// Gives out all steps but the first, and answers whether all tokens were given out.
+fn give_rest<K: StepSink>(tokens: &[Lex], rest: &[Step], sink: &mut K) -> Result<bool, FrontError>
+    requires small { bytes tokens.now < 2 ^ 32 }
+    requires served { IsTrue (are_served tokens.now rest.now) }
+    ensures ok { OnOk result (K.steps sink.new ≡ K.steps sink.old ++ woven_from 0 tokens.now rest.now) }
+    ensures all { IfOk result (λ all. all ≡ is_empty (left_from tokens.now rest.now)) }
+    ensures front { OnErr result (AppendsFront (K.steps sink.old) (K.steps sink.new) (woven_from 0 tokens.now rest.now)) }
+    ensures errors { K.errors sink.new ≡ K.errors sink.old }
+    ensures refusal { IsOkUnless result OutOfMemory }
+{
+    let mut place = Place { index: 0, at: 0 };
+    for k in 0..rest.len() {
+        place = give_step(tokens, place, rest[k], k + 1 == rest.len(), sink)?;
+    }
+    Ok(place.index == tokens.len())
+}
+
+/// The kind of the node that balanced steps begin with.
+fn root_of(steps: &[Step]) -> SyntaxKind
+    requires { IsTrue (is_balanced steps.now) }
+    ensures { steps.now ≡ Enter result ∷ drop 1 steps.now }
+{
+    let Step::Enter { kind } = steps[0] else {
+        unreachable!();
+    };
+    kind
+}
+
+impl LexedStr {
+    /// Gives out the steps of an output with the ranges of their tokens and with the trivia, and
+    /// answers whether all tokens were given out.
+    pub fn intersperse_trivia<K: StepSink>(
+        &self,
+        output: &Output,
+        sink: &mut K,
+    ) -> Result<bool, FrontError>
+        requires balanced { IsTrue (is_balanced output.now) }
+        requires tokens { IsTrue (begins_with (kept self.now) (token_kinds output.now)) }
+        ensures ok { OnOk result (K.steps sink.new ≡ K.steps sink.old ++ woven self.now output.now) }
+        ensures all { IfOk result (λ all. all ≡ is_empty (left_over self.now output.now)) }
+        ensures front { OnErr result (AppendsFront (K.steps sink.old) (K.steps sink.new) (woven self.now output.now)) }
+        ensures errors { K.errors sink.new ≡ K.errors sink.old }
+        ensures refusal { IsOkUnless result OutOfMemory }
+    {
+        let steps = output.steps();
+        sink.step(StrStep::Enter {
+            kind: root_of(steps),
+        })?;
+        let all = give_rest(self.tokens(), &steps[1..], sink)?;
+        Ok(all)
+    }
+}
