@@ -20,3 +20,18 @@ fn kinds_have_printed_texts(rt: HostRuntime) {
         assert_eq!(rt; name(number), text, "at {number}");
     }
 }
+
+#[test]
+fn rows_hold_printed_texts(rt: HostRuntime) {
+    for number in 0..COUNT {
+        if let Some((bytes, len)) = row(number) {
+            assert_eq!(rt;
+                Some(&bytes[4..4 + len]),
+                name(number).map(|text| text.as_bytes()),
+                "at {number}"
+            );
+        } else {
+            assert!(rt; number == 0 || number > 2050, "at {number}");
+        }
+    }
+}

@@ -1,3 +1,5 @@
+pub mod DigitLemmas
+pub mod LineLemmas
 pub mod RefusalLemmas
 pub mod ReportLemmas
 pub mod Transfer

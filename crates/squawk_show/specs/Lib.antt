@@ -1,4 +1,5 @@
 pub mod Causes
+pub mod Digits
 pub mod Memory
 pub mod Outcome
 pub mod Reading

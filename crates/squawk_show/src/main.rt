@@ -1,6 +1,7 @@
 //! The program: the report of the text on standard input.
 #![tactic(auto)]
 
+mod digits;
 mod error;
 mod line;
 mod memory_sink;

@@ -1,46 +1,78 @@
 //! The report of a tree.
-ghost use Rattle.std.specs.Prelude.{◌≡◌, ◌++◌, ◌+◌, ◌^◌, ◌<◌, length, IfOk, OnOk};
+ghost use Rattle.std.specs.Prelude.{◌≡◌, ◌++◌, [], ◌+◌, ◌^◌, ◌<◌, length, IfOk, OnOk};
 ghost use Rattle.squawk_show.specs.Report.{report_of, step_line, step_lines, depth_after};
 ghost use Rattle.squawk_tree.specs.Ranges.{ranges};
 
+use crate::digits::{Digits, Place};
 use crate::line::{push_error, push_line};
 use squawk_events::StrStep;
 use squawk_tree::Parse;
 use std::alloc::{AllocError, Global};
 
-// Appends the line of a step, if it has one, and answers the depth behind it.
+// Below so many steps the tables of digits cost more than they save.
+const FEW: usize = 16384;
+
+// The bytes of a line, as it is on average.
+const USUAL: usize = 34;
+
+// Appends the line of a step, if it has one, and answers the depth behind it, and the digits of the last end.
+#[inline(always)]
 fn push_step(
     out: &mut Vec<u8>,
+    digits: &Option<Digits>,
+    last: Place,
     depth: usize,
     step: StrStep,
     range: (u32, u32),
-) -> Result<usize, AllocError>
+) -> Result<(usize, Place), AllocError>
     requires { depth + 1 < 2 ^ 64 }
     ensures line { OnOk result (out.new.items ≡ out.old.items ++ step_line depth step range) }
-    ensures depth { IfOk result (λ next. next ≡ depth_after depth step) }
+    ensures depth { IfOk result (λ next. next.0 ≡ depth_after depth step) }
 {
     match step {
         StrStep::Enter { kind } => {
-            push_line(out, depth, b'N', kind, range)?;
-            Ok(depth + 1)
+            push_line(out, digits, last, depth, b'N', kind, range)?;
+            Ok((depth + 1, last))
         }
         StrStep::Token { kind, .. } => {
-            push_line(out, depth, b'T', kind, range)?;
-            Ok(depth)
+            let end = push_line(out, digits, last, depth, b'T', kind, range)?;
+            Ok((depth, end))
         }
-        StrStep::Exit => Ok(depth.saturating_sub(1)),
-        StrStep::Error { .. } => Ok(depth),
+        StrStep::Exit => Ok((depth.saturating_sub(1), last)),
+        StrStep::Error { .. } => Ok((depth, last)),
     }
+}
+
+// An empty report, with room for the lines of so many steps where there is memory for that.
+fn make_room(alloc: Global, steps: usize) -> Vec<u8>
+    ensures { result.items ≡ [] }
+{
+    let mut out = Vec::new(alloc);
+    let _ = out.reserve(steps.saturating_mul(USUAL));
+    out
+}
+
+// Tables of digits, where there are so many steps that they are worth making.
+fn make_digits(alloc: Global, steps: usize) -> Result<Option<Digits>, AllocError> {
+    if steps < FEW {
+        return Ok(None);
+    }
+    Ok(Some(Digits::new(alloc)?))
 }
 
 // The lines of the nodes and the leaves.
 fn make_step_lines(alloc: Global, parse: &Parse) -> Result<Vec<u8>, AllocError>
     ensures { IfOk result (λ text. text.items ≡ step_lines 0 parse.now.steps (ranges parse.now.steps)) }
 {
-    let mut out = Vec::new(alloc);
+    let steps = parse.steps().len();
+    let digits = make_digits(alloc, steps)?;
+    let mut out = make_room(alloc, steps);
     let mut depth = 0usize;
+    let mut last = Place::zero();
     for (i, step) in parse.steps().iter().enumerate() {
-        depth = push_step(&mut out, depth, *step, parse.range(i))?;
+        let next = push_step(&mut out, &digits, last, depth, *step, parse.range(i))?;
+        depth = next.0;
+        last = next.1;
     }
     Ok(out)
 }
