@@ -7,9 +7,9 @@ unfoldable pub is_trivia_kind : ℕ → Bool
 is_trivia_kind k = k == kind.WHITESPACE || k == kind.COMMENT
 
 -- the kinds that are no trivia
-abbrev pub kept : List ℕ → List ℕ
-kept [] = []
-kept (k ∷ ks) = if is_trivia_kind k then kept ks else k ∷ kept ks
+abbrev pub without_trivia : List ℕ → List ℕ
+without_trivia [] = []
+without_trivia (k ∷ ks) = if is_trivia_kind k then without_trivia ks else k ∷ without_trivia ks
 
 -- no kind is trivia
 abbrev pub has_no_trivia : List ℕ → Bool

@@ -3,8 +3,8 @@ use Rattle.std.proofs.Common.{◌≡◌, ℕ, ◌+◌, true, List, [], ◌∷◌
 use Rattle.squawk_events.specs.declared.steps.StrStep.{StrStep}
 use Rattle.squawk_events.specs.declared.steps.StrStep.TheVariants.{Enter, Token, Exit, Error}
 use Rattle.squawk_kinds.specs.declared.numbers.TheConstants.Number.{SOURCE_FILE}
-use Rattle.squawk_woven.specs.Woven.{are_sound, bytes, kept, woven}
-use Rattle.squawk_woven.specs.declared.lex.Lex.{Lex}
+use Rattle.squawk_woven.specs.Weave.{are_sound, total_len, kinds_without_trivia, weave}
+use Rattle.squawk_woven.specs.declared.lex.LexedToken.{LexedToken}
 use Rattle.squawk_statements.specs.Children.{parts}
 use Rattle.squawk_statements.specs.Plain.{plain}
 use Rattle.squawk_statements.specs.PlainIsLawful.{plain_lawful}
@@ -31,23 +31,23 @@ without-shifted n (Token kind start end ∷ xs) = ap (λ zs. Token kind (start +
 without-shifted n (Exit ∷ xs) = ap (λ zs. Exit ∷ zs) (without-shifted n xs)
 without-shifted n (Error number at ∷ xs) = without-shifted n xs
 
-steps-joined : (d : Division) (at : ℕ) (ps : List (List Lex)) → without_errors (joined_from d at ps) ≡ steps_from at (map (child_of d) ps)
+steps-joined : (d : Division) (at : ℕ) (ps : List (List LexedToken)) → without_errors (joined_from d at ps) ≡ steps_from at (map (child_of d) ps)
 steps-joined d at [] = refl
 steps-joined d at (p ∷ ps) =
-    without-append (map (shifted at) (child_woven d 0 p)) (joined_from d (at + bytes p) ps)
-    ∙ ap (λ zs. zs ++ without_errors (joined_from d (at + bytes p) ps)) (without-shifted at (child_woven d 0 p))
-    ∙ ap (λ zs. map (shifted at) (without_errors (child_woven d 0 p)) ++ zs) (steps-joined d (at + bytes p) ps)
+    without-append (map (shifted at) (child_woven d 0 p)) (joined_from d (at + total_len p) ps)
+    ∙ ap (λ zs. zs ++ without_errors (joined_from d (at + total_len p) ps)) (without-shifted at (child_woven d 0 p))
+    ∙ ap (λ zs. map (shifted at) (without_errors (child_woven d 0 p)) ++ zs) (steps-joined d (at + total_len p) ps)
 
-errors-joined : (d : Division) (at : ℕ) (ps : List (List Lex)) → joined_errors d at ps ≡ errors_of at (map (child_of d) ps)
+errors-joined : (d : Division) (at : ℕ) (ps : List (List LexedToken)) → joined_errors d at ps ≡ errors_of at (map (child_of d) ps)
 errors-joined d at [] = refl
-errors-joined d at (p ∷ ps) = ap (λ es. map (moved at) (errors p (child_woven d 0 p)) ++ es) (errors-joined d (at + bytes p) ps)
+errors-joined d at (p ∷ ps) = ap (λ es. map (moved at) (errors p (child_woven d 0 p)) ++ es) (errors-joined d (at + total_len p) ps)
 
-pub parse-joined : (d : Division) (ts : List Lex) → are_sound ts ≡ true → parse_of d ts ≡ join (map (child_of d) (parts lex_form d ts))
+pub parse-joined : (d : Division) (ts : List LexedToken) → are_sound ts ≡ true → parse_of d ts ≡ join (map (child_of d) (parts lex_form d ts))
 parse-joined d ts sound =
-    let lawful = plain_lawful d (kept ts) (has_no_trivia_kept ts) in
-    let steps : without_errors (woven ts (plain d (kept ts))) ≡ Enter SOURCE_FILE ∷ steps_from 0 (map (child_of d) (parts lex_form d ts)) ++ Exit ∷ [] =
+    let lawful = plain_lawful d (kinds_without_trivia ts) (has_no_trivia_kept ts) in
+    let steps : without_errors (weave ts (plain d (kinds_without_trivia ts))) ≡ Enter SOURCE_FILE ∷ steps_from 0 (map (child_of d) (parts lex_form d ts)) ++ Exit ∷ [] =
     ap without_errors (join_law d ts)
     ∙ ap (λ zs. Enter SOURCE_FILE ∷ zs) (without-append (joined_from d 0 (parts lex_form d ts)) (Exit ∷ []) ∙ ap (λ zs. zs ++ Exit ∷ []) (steps-joined d 0 (parts lex_form d ts))) in
-    let own : errors ts (woven ts (plain d (kept ts))) ≡ errors_of 0 (map (child_of d) (parts lex_form d ts)) =
-    join_errors_law d ts sound (errors_whole ts (plain d (kept ts)) lawful.balanced lawful.tokens sound) ∙ errors-joined d 0 (parts lex_form d ts) in
+    let own : errors ts (weave ts (plain d (kinds_without_trivia ts))) ≡ errors_of 0 (map (child_of d) (parts lex_form d ts)) =
+    join_errors_law d ts sound (errors_whole ts (plain d (kinds_without_trivia ts)) lawful.balanced lawful.tokens sound) ∙ errors-joined d 0 (parts lex_form d ts) in
     rw (steps, own) refl

@@ -9,8 +9,8 @@ use Rattle.squawk_events.specs.declared.steps.Step.{Step}
 use Rattle.squawk_events.specs.declared.steps.Step.TheVariants.{Enter, Token, Exit, Error}
 use Rattle.squawk_events.specs.declared.steps.StrStep.{StrStep}
 use Rattle.squawk_events.specs.declared.steps.StrStep.TheVariants as out
-use Rattle.squawk_woven.specs.Woven.{kept, front_steps, front_end, behind_front, next_len, woven_from, woven, begins_with}
-use Rattle.squawk_woven.specs.declared.lex.Lex.{Lex}
+use Rattle.squawk_woven.specs.Weave.{kinds_without_trivia, leading_trivia, leading_trivia_end, after_leading_trivia, next_len, weave_from, weave, begins_with}
+use Rattle.squawk_woven.specs.declared.lex.LexedToken.{LexedToken}
 use Rattle.squawk_join.specs.Tree.{Tree, leaves, without_errors, laid}
 
 same_kind : (k : ℕ) (b : Bool) → (Rattle.std.specs.Prelude.nat_eq k k && b) ≡ b
@@ -38,88 +38,88 @@ leaves_kept (out.Exit ∷ xs) = leaves_kept xs
 leaves_kept (out.Error number at ∷ xs) = leaves_kept xs
 
 -- the trivia at the front, and then what is behind them
-front_laid : (at : ℕ) (ts : List Lex) → leaves (front_steps at ts) ++ laid (front_end at ts) (behind_front ts) ≡ laid at ts
+front_laid : (at : ℕ) (ts : List LexedToken) → leaves (leading_trivia at ts) ++ laid (leading_trivia_end at ts) (after_leading_trivia ts) ≡ laid at ts
 front_laid at [] = refl
 front_laid at (t ∷ ts) = by (is_trivia_kind t.kind) (front_laid (at + t.len) ts)
   where
-    by : (b : Bool) → leaves (front_steps (at + t.len) ts) ++ laid (front_end (at + t.len) ts) (behind_front ts) ≡ laid (at + t.len) ts
-        → leaves (cond b (out.Token t.kind at (at + t.len) ∷ front_steps (at + t.len) ts) []) ++ laid (cond b (front_end (at + t.len) ts) at) (cond b (behind_front ts) (t ∷ ts)) ≡ laid at (t ∷ ts)
+    by : (b : Bool) → leaves (leading_trivia (at + t.len) ts) ++ laid (leading_trivia_end (at + t.len) ts) (after_leading_trivia ts) ≡ laid (at + t.len) ts
+        → leaves (cond b (out.Token t.kind at (at + t.len) ∷ leading_trivia (at + t.len) ts) []) ++ laid (cond b (leading_trivia_end (at + t.len) ts) at) (cond b (after_leading_trivia ts) (t ∷ ts)) ≡ laid at (t ∷ ts)
     by true rest = ap (λ ls. record { kind = t.kind; start = at; end = at + t.len } ∷ ls) rest
     by false rest = refl
 
-pub kept_behind : (ts : List Lex) → kept (behind_front ts) ≡ kept ts
+pub kept_behind : (ts : List LexedToken) → kinds_without_trivia (after_leading_trivia ts) ≡ kinds_without_trivia ts
 kept_behind [] = refl
 kept_behind (t ∷ ts) = by (is_trivia_kind t.kind) refl (kept_behind ts)
   where
-    by : (b : Bool) → is_trivia_kind t.kind ≡ b → kept (behind_front ts) ≡ kept ts → kept (cond b (behind_front ts) (t ∷ ts)) ≡ cond b [] (t.kind ∷ []) ++ kept ts
+    by : (b : Bool) → is_trivia_kind t.kind ≡ b → kinds_without_trivia (after_leading_trivia ts) ≡ kinds_without_trivia ts → kinds_without_trivia (cond b (after_leading_trivia ts) (t ∷ ts)) ≡ cond b [] (t.kind ∷ []) ++ kinds_without_trivia ts
     by true is rest = rest
     by false is rest = rw is refl
 
 -- the next token that is not trivia
-pub record Next (behind : List Lex) (kind : ℕ) (kinds : List ℕ) : Type 0 where
-  pub token : Lex
-  pub rest : List Lex
+pub record Next (behind : List LexedToken) (kind : ℕ) (kinds : List ℕ) : Type 0 where
+  pub token : LexedToken
+  pub rest : List LexedToken
   pub is : behind ≡ token ∷ rest
   pub kind_is : token.kind ≡ kind
-  pub kinds_are : kept rest ≡ kinds
+  pub kinds_are : kinds_without_trivia rest ≡ kinds
 
-pub next_of : (ts : List Lex) (kind : ℕ) (kinds : List ℕ) → kept ts ≡ kind ∷ kinds → Next (behind_front ts) kind kinds
+pub next_of : (ts : List LexedToken) (kind : ℕ) (kinds : List ℕ) → kinds_without_trivia ts ≡ kind ∷ kinds → Next (after_leading_trivia ts) kind kinds
 next_of [] kind kinds e = absurd (cc)
 next_of (t ∷ ts) kind kinds e = by (is_trivia_kind t.kind) e (next_of ts kind kinds)
   where
-    by : (b : Bool) → cond b [] (t.kind ∷ []) ++ kept ts ≡ kind ∷ kinds → (kept ts ≡ kind ∷ kinds → Next (behind_front ts) kind kinds) → Next (cond b (behind_front ts) (t ∷ ts)) kind kinds
+    by : (b : Bool) → cond b [] (t.kind ∷ []) ++ kinds_without_trivia ts ≡ kind ∷ kinds → (kinds_without_trivia ts ≡ kind ∷ kinds → Next (after_leading_trivia ts) kind kinds) → Next (cond b (after_leading_trivia ts) (t ∷ ts)) kind kinds
     by true e rest = rest e
     by false e rest = record { token = t; rest = ts; is = refl; kind_is = cc; kinds_are = cc }
 
-pub none_behind : (ts : List Lex) → kept ts ≡ [] → behind_front ts ≡ []
+pub none_behind : (ts : List LexedToken) → kinds_without_trivia ts ≡ [] → after_leading_trivia ts ≡ []
 none_behind [] e = refl
 none_behind (t ∷ ts) e = by (is_trivia_kind t.kind) e (none_behind ts)
   where
-    by : (b : Bool) → cond b [] (t.kind ∷ []) ++ kept ts ≡ [] → (kept ts ≡ [] → behind_front ts ≡ []) → cond b (behind_front ts) (t ∷ ts) ≡ []
+    by : (b : Bool) → cond b [] (t.kind ∷ []) ++ kinds_without_trivia ts ≡ [] → (kinds_without_trivia ts ≡ [] → after_leading_trivia ts ≡ []) → cond b (after_leading_trivia ts) (t ∷ ts) ≡ []
     by true e rest = rest e
     by false e rest = absurd (cc)
 
 pub never_closed : (d : ℕ) {P : Type 0} → closes (suc d) [] ≡ true → P
 never_closed d h = absurd (let e : suc d ≡ 0 = grind (arith, nat_tests) in omega arith)
 
-pub leaves_woven : (d at : ℕ) (ts : List Lex) (xs : List Step) → closes (suc d) xs ≡ true → kept ts ≡ token_kinds xs → leaves (woven_from at ts xs) ≡ laid at ts
+pub leaves_woven : (d at : ℕ) (ts : List LexedToken) (xs : List Step) → closes (suc d) xs ≡ true → kinds_without_trivia ts ≡ token_kinds xs → leaves (weave_from at ts xs) ≡ laid at ts
 leaves_woven d at ts [] h e = never_closed d h
 leaves_woven d at ts (Enter kind ∷ xs) h e =
-    leaves_append (front_steps at ts ++ out.Enter kind ∷ []) (woven_from (front_end at ts) (behind_front ts) xs)
-    ∙ ap (λ ls. ls ++ leaves (woven_from (front_end at ts) (behind_front ts) xs)) (leaves_append (front_steps at ts) (out.Enter kind ∷ []) ∙ append-nil (leaves (front_steps at ts)))
-    ∙ ap (λ ls. leaves (front_steps at ts) ++ ls) (leaves_woven (suc d) (front_end at ts) (behind_front ts) xs h (kept_behind ts ∙ e))
+    leaves_append (leading_trivia at ts ++ out.Enter kind ∷ []) (weave_from (leading_trivia_end at ts) (after_leading_trivia ts) xs)
+    ∙ ap (λ ls. ls ++ leaves (weave_from (leading_trivia_end at ts) (after_leading_trivia ts) xs)) (leaves_append (leading_trivia at ts) (out.Enter kind ∷ []) ∙ append-nil (leaves (leading_trivia at ts)))
+    ∙ ap (λ ls. leaves (leading_trivia at ts) ++ ls) (leaves_woven (suc d) (leading_trivia_end at ts) (after_leading_trivia ts) xs h (kept_behind ts ∙ e))
     ∙ front_laid at ts
 leaves_woven d at ts (Token kind ∷ xs) h e =
     let next = next_of ts kind (token_kinds xs) e in
-    let here : laid (front_end at ts) (behind_front ts) ≡ record { kind = kind; start = front_end at ts; end = front_end at ts + next_len (behind_front ts) } ∷ laid (front_end at ts + next_len (behind_front ts)) (drop 1 (behind_front ts)) = rw (next.is, next.kind_is) refl in
-    let kinds : kept (drop 1 (behind_front ts)) ≡ token_kinds xs = rw next.is next.kinds_are in
-    let more = leaves_woven d (front_end at ts + next_len (behind_front ts)) (drop 1 (behind_front ts)) xs h kinds in
-    leaves_append (front_steps at ts ++ out.Token kind (front_end at ts) (front_end at ts + next_len (behind_front ts)) ∷ []) (woven_from (front_end at ts + next_len (behind_front ts)) (drop 1 (behind_front ts)) xs)
-    ∙ ap (λ ls. ls ++ leaves (woven_from (front_end at ts + next_len (behind_front ts)) (drop 1 (behind_front ts)) xs)) (leaves_append (front_steps at ts) (out.Token kind (front_end at ts) (front_end at ts + next_len (behind_front ts)) ∷ []))
-    ∙ append_assoc (leaves (front_steps at ts)) (record { kind = kind; start = front_end at ts; end = front_end at ts + next_len (behind_front ts) } ∷ []) _
-    ∙ ap (λ ls. leaves (front_steps at ts) ++ record { kind = kind; start = front_end at ts; end = front_end at ts + next_len (behind_front ts) } ∷ ls) more
-    ∙ ap (λ ls. leaves (front_steps at ts) ++ ls) (sym here)
+    let here : laid (leading_trivia_end at ts) (after_leading_trivia ts) ≡ record { kind = kind; start = leading_trivia_end at ts; end = leading_trivia_end at ts + next_len (after_leading_trivia ts) } ∷ laid (leading_trivia_end at ts + next_len (after_leading_trivia ts)) (drop 1 (after_leading_trivia ts)) = rw (next.is, next.kind_is) refl in
+    let kinds : kinds_without_trivia (drop 1 (after_leading_trivia ts)) ≡ token_kinds xs = rw next.is next.kinds_are in
+    let more = leaves_woven d (leading_trivia_end at ts + next_len (after_leading_trivia ts)) (drop 1 (after_leading_trivia ts)) xs h kinds in
+    leaves_append (leading_trivia at ts ++ out.Token kind (leading_trivia_end at ts) (leading_trivia_end at ts + next_len (after_leading_trivia ts)) ∷ []) (weave_from (leading_trivia_end at ts + next_len (after_leading_trivia ts)) (drop 1 (after_leading_trivia ts)) xs)
+    ∙ ap (λ ls. ls ++ leaves (weave_from (leading_trivia_end at ts + next_len (after_leading_trivia ts)) (drop 1 (after_leading_trivia ts)) xs)) (leaves_append (leading_trivia at ts) (out.Token kind (leading_trivia_end at ts) (leading_trivia_end at ts + next_len (after_leading_trivia ts)) ∷ []))
+    ∙ append_assoc (leaves (leading_trivia at ts)) (record { kind = kind; start = leading_trivia_end at ts; end = leading_trivia_end at ts + next_len (after_leading_trivia ts) } ∷ []) _
+    ∙ ap (λ ls. leaves (leading_trivia at ts) ++ record { kind = kind; start = leading_trivia_end at ts; end = leading_trivia_end at ts + next_len (after_leading_trivia ts) } ∷ ls) more
+    ∙ ap (λ ls. leaves (leading_trivia at ts) ++ ls) (sym here)
     ∙ front_laid at ts
 leaves_woven d at ts (Exit ∷ []) h e =
     let none = none_behind ts e in
-    ap leaves (append-nil (front_steps at ts ++ out.Exit ∷ []))
-    ∙ leaves_append (front_steps at ts) (out.Exit ∷ [])
-    ∙ ap (λ ls. leaves (front_steps at ts) ++ ls) (let e : [] ≡ laid (front_end at ts) (behind_front ts) = rw none refl in e)
+    ap leaves (append-nil (leading_trivia at ts ++ out.Exit ∷ []))
+    ∙ leaves_append (leading_trivia at ts) (out.Exit ∷ [])
+    ∙ ap (λ ls. leaves (leading_trivia at ts) ++ ls) (let e : [] ≡ laid (leading_trivia_end at ts) (after_leading_trivia ts) = rw none refl in e)
     ∙ front_laid at ts
 leaves_woven zero at ts (Exit ∷ x ∷ xs) h e = absurd (cc)
 leaves_woven (suc d) at ts (Exit ∷ x ∷ xs) h e = leaves_woven d at ts (x ∷ xs) h e
 leaves_woven d at ts (Error number ∷ xs) h e = leaves_woven d at ts xs h e
 
-pub leaves_whole : (ts : List Lex) (xs : List Step) → is_balanced xs ≡ true → token_kinds xs ≡ kept ts → leaves (without_errors (woven ts xs)) ≡ laid 0 ts
+pub leaves_whole : (ts : List LexedToken) (xs : List Step) → is_balanced xs ≡ true → token_kinds xs ≡ kinds_without_trivia ts → leaves (without_errors (weave ts xs)) ≡ laid 0 ts
 leaves_whole ts [] h e = absurd (cc)
-leaves_whole ts (Enter kind ∷ xs) h e = leaves_kept (woven ts (Enter kind ∷ xs)) ∙ leaves_woven 0 0 ts xs h (sym e)
+leaves_whole ts (Enter kind ∷ xs) h e = leaves_kept (weave ts (Enter kind ∷ xs)) ∙ leaves_woven 0 0 ts xs h (sym e)
 leaves_whole ts (Token kind ∷ xs) h e = absurd (cc)
 leaves_whole ts (Exit ∷ xs) h e = absurd (cc)
 leaves_whole ts (Error number ∷ xs) h e = absurd (cc)
 
-pub leaves_of_parse : {E : Type 0} (r : Result Tree E) (ts : List Lex) (kinds : List ℕ) (xs : List Step) (fresh taken : Tree) → kinds ≡ kept ts → IsLawful kinds xs
-    → fresh ≡ record { steps = []; errors = [] } → taken.steps ≡ fresh.steps ++ woven ts xs → IfOk r (λ parse. parse ≡ record { steps = without_errors taken.steps; errors = taken.errors }) → IfOk r (λ parse. leaves parse.steps ≡ laid 0 ts)
+pub leaves_of_parse : {E : Type 0} (r : Result Tree E) (ts : List LexedToken) (kinds : List ℕ) (xs : List Step) (fresh taken : Tree) → kinds ≡ kinds_without_trivia ts → IsLawful kinds xs
+    → fresh ≡ record { steps = []; errors = [] } → taken.steps ≡ fresh.steps ++ weave ts xs → IfOk r (λ parse. parse ≡ record { steps = without_errors taken.steps; errors = taken.errors }) → IfOk r (λ parse. leaves parse.steps ≡ laid 0 ts)
 leaves_of_parse (Ok parse) ts kinds xs fresh taken kinds_are lawful none steps is =
-    let whole : taken.steps ≡ woven ts xs = steps ∙ ap (λ (t : Tree). t.steps ++ woven ts xs) none in
+    let whole : taken.steps ≡ weave ts xs = steps ∙ ap (λ (t : Tree). t.steps ++ weave ts xs) none in
     ap (λ (t : Tree). leaves t.steps) is ∙ ap (λ ys. leaves (without_errors ys)) whole ∙ leaves_whole ts xs lawful.balanced (lawful.tokens ∙ kinds_are)
 leaves_of_parse (Err e) ts kinds xs fresh taken kinds_are lawful none steps is = tt

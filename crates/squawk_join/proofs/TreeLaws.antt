@@ -10,14 +10,14 @@ use Rattle.squawk_events.specs.declared.steps.Step.{Step}
 use Rattle.squawk_events.specs.declared.steps.Step.TheVariants.{Enter, Token, Exit, Error}
 use Rattle.squawk_events.specs.declared.steps.StrStep.{StrStep}
 use Rattle.squawk_events.specs.declared.steps.StrStep.TheVariants as out
-use Rattle.squawk_join.specs.Errors.{error, placed, walked}
+use Rattle.squawk_join.specs.Errors.{error, errors_at, walked}
 use Rattle.squawk_join.specs.IsTree.{IsErrorWithin, IsTree}
 use Rattle.squawk_join.specs.ParseOf.{tree_of}
 use Rattle.squawk_join.specs.Steps.{leaves, tiles}
 use Rattle.squawk_join.specs.Tree as tree
-use Rattle.squawk_woven.specs.Woven.{kept, bytes, next_len, front_steps, front_end, behind_front, woven_from, woven, are_sound, faults_within}
+use Rattle.squawk_woven.specs.Weave.{kinds_without_trivia, total_len, next_len, leading_trivia, leading_trivia_end, after_leading_trivia, weave_from, weave, are_sound, faults_within}
 use Rattle.squawk_woven.specs.declared.lex.Fault.{Fault}
-use Rattle.squawk_woven.specs.declared.lex.Lex.{Lex}
+use Rattle.squawk_woven.specs.declared.lex.LexedToken.{LexedToken}
 use Rattle.squawk_join.proofs.Balanced.{balanced-woven, without-has_none}
 use Rattle.squawk_join.proofs.ErrorLemmas.{errors_whole}
 use Rattle.squawk_join.proofs.LeavesLemmas.{leaves_whole}
@@ -35,16 +35,16 @@ one_tile : (at len : ℕ) (b : Bool) → 0 < len → b ≡ true → (nat_eq at a
 one_tile at len b some h = grind (arith, nat_tests)
 
 -- the parts of a sound token
-sound_len : (t : Lex) (ts : List Lex) → are_sound (t ∷ ts) ≡ true → 0 < t.len
+sound_len : (t : LexedToken) (ts : List LexedToken) → are_sound (t ∷ ts) ≡ true → 0 < t.len
 sound_len t ts s = ltb-true 0 t.len (and_parts (nat_lt 0 t.len) (faults_within t.len t.faults && are_sound ts) s).0
 
-sound_faults : (t : Lex) (ts : List Lex) → are_sound (t ∷ ts) ≡ true → faults_within t.len t.faults ≡ true
+sound_faults : (t : LexedToken) (ts : List LexedToken) → are_sound (t ∷ ts) ≡ true → faults_within t.len t.faults ≡ true
 sound_faults t ts s = (and_parts (faults_within t.len t.faults) (are_sound ts) (and_parts (nat_lt 0 t.len) (faults_within t.len t.faults && are_sound ts) s).1).0
 
-sound_rest : (t : Lex) (ts : List Lex) → are_sound (t ∷ ts) ≡ true → are_sound ts ≡ true
+sound_rest : (t : LexedToken) (ts : List LexedToken) → are_sound (t ∷ ts) ≡ true → are_sound ts ≡ true
 sound_rest t ts s = (and_parts (faults_within t.len t.faults) (are_sound ts) (and_parts (nat_lt 0 t.len) (faults_within t.len t.faults && are_sound ts) s).1).1
 
-tiles-laid : (at end : ℕ) (ts : List Lex) → are_sound ts ≡ true → at + bytes ts ≡ end → tiles at (map (λ (l : tree.Leaf). (l.start, l.end)) (tree.laid at ts)) end ≡ true
+tiles-laid : (at end : ℕ) (ts : List LexedToken) → are_sound ts ≡ true → at + total_len ts ≡ end → tiles at (map (λ (l : tree.Leaf). (l.start, l.end)) (tree.laid at ts)) end ≡ true
 tiles-laid at end [] s e = grind (arith, nat_tests)
 tiles-laid at end (t ∷ ts) s e = one_tile at t.len _ (sound_len t ts s) (tiles-laid (at + t.len) end ts (sound_rest t ts s) (omega arith))
 
@@ -57,31 +57,31 @@ are_numbered (out.Token kind start end ∷ xs) = are_numbered xs
 are_numbered (out.Exit ∷ xs) = are_numbered xs
 are_numbered (out.Error number at ∷ xs) = nat_le 1 number && (nat_le number 10 && are_numbered xs)
 
-numbered-front : (at : ℕ) (ts : List Lex) (ys : List StrStep) → are_numbered (front_steps at ts ++ ys) ≡ are_numbered ys
+numbered-front : (at : ℕ) (ts : List LexedToken) (ys : List StrStep) → are_numbered (leading_trivia at ts ++ ys) ≡ are_numbered ys
 unfolding are_numbered
 numbered-front at [] ys = refl
 numbered-front at (t ∷ ts) ys = by (is_trivia_kind t.kind) (numbered-front (at + t.len) ts ys)
   where
-    by : (b : Bool) → are_numbered (front_steps (at + t.len) ts ++ ys) ≡ are_numbered ys
-        → are_numbered (cond b (out.Token t.kind at (at + t.len) ∷ front_steps (at + t.len) ts) [] ++ ys) ≡ are_numbered ys
+    by : (b : Bool) → are_numbered (leading_trivia (at + t.len) ts ++ ys) ≡ are_numbered ys
+        → are_numbered (cond b (out.Token t.kind at (at + t.len) ∷ leading_trivia (at + t.len) ts) [] ++ ys) ≡ are_numbered ys
     by true h = h
     by false h = refl
 
-numbered-step : (at : ℕ) (ts : List Lex) (y : StrStep) (ys : List StrStep) → are_numbered ((front_steps at ts ++ y ∷ []) ++ ys) ≡ are_numbered (y ∷ ys)
-numbered-step at ts y ys = ap are_numbered (append_assoc (front_steps at ts) (y ∷ []) ys) ∙ numbered-front at ts (y ∷ ys)
+numbered-step : (at : ℕ) (ts : List LexedToken) (y : StrStep) (ys : List StrStep) → are_numbered ((leading_trivia at ts ++ y ∷ []) ++ ys) ≡ are_numbered (y ∷ ys)
+numbered-step at ts y ys = ap are_numbered (append_assoc (leading_trivia at ts) (y ∷ []) ys) ∙ numbered-front at ts (y ∷ ys)
 
-numbered-woven : (at : ℕ) (ts : List Lex) (xs : List Step) → are_numbered (woven_from at ts xs) ≡ has_lawful_numbers xs
+numbered-woven : (at : ℕ) (ts : List LexedToken) (xs : List Step) → are_numbered (weave_from at ts xs) ≡ has_lawful_numbers xs
 unfolding are_numbered
 numbered-woven at ts [] = refl
-numbered-woven at ts (Enter kind ∷ xs) = numbered-step at ts (out.Enter kind) _ ∙ numbered-woven (front_end at ts) (behind_front ts) xs
-numbered-woven at ts (Token kind ∷ xs) = numbered-step at ts (out.Token kind (front_end at ts) (front_end at ts + next_len (behind_front ts))) _ ∙ numbered-woven (front_end at ts + next_len (behind_front ts)) _ xs
+numbered-woven at ts (Enter kind ∷ xs) = numbered-step at ts (out.Enter kind) _ ∙ numbered-woven (leading_trivia_end at ts) (after_leading_trivia ts) xs
+numbered-woven at ts (Token kind ∷ xs) = numbered-step at ts (out.Token kind (leading_trivia_end at ts) (leading_trivia_end at ts + next_len (after_leading_trivia ts))) _ ∙ numbered-woven (leading_trivia_end at ts + next_len (after_leading_trivia ts)) _ xs
 numbered-woven at ts (Exit ∷ []) = numbered-step at ts out.Exit []
 numbered-woven at ts (Exit ∷ x ∷ xs) = numbered-woven at ts (x ∷ xs)
 numbered-woven at ts (Error number ∷ xs) = ap (λ b. nat_le 1 number && (nat_le number 10 && b)) (numbered-woven at ts xs)
 
 -- ---- the errors lie in the text
 
-placed-within : (end at len : ℕ) (fs : List (Option Fault)) → faults_within len fs ≡ true → at + len ≤ end → All (IsErrorWithin end) (placed at fs)
+placed-within : (end at len : ℕ) (fs : List (Option Fault)) → faults_within len fs ≡ true → at + len ≤ end → All (IsErrorWithin end) (errors_at at fs)
 placed-within end at len [] h le = All-nil (IsErrorWithin end)
 placed-within end at len (None ∷ fs) h le = placed-within end at len fs h le
 placed-within end at len (Some f ∷ fs) h le =
@@ -93,21 +93,21 @@ placed-within end at len (Some f ∷ fs) h le =
     let nine = leb-true f.number 9 b.0 in
     let order = leb-true f.start f.end c.0 in
     let inside = leb-true f.end len d.0 in
-    All-cons (IsErrorWithin end) (error (at + f.start) (at + f.end) f.number) (placed at fs)
+    All-cons (IsErrorWithin end) (error (at + f.start) (at + f.end) f.number) (errors_at at fs)
     (record { first_number = one; last_number = omega arith; ordered = omega arith; within = omega arith })
     (placed-within end at len fs d.1 le)
 
-next-within : (ts : List Lex) → next_len ts ≤ bytes ts
+next-within : (ts : List LexedToken) → next_len ts ≤ total_len ts
 next-within [] = omega arith
 next-within (t ∷ ts) = omega arith
 
-walked-within : (end at : ℕ) (ts : List Lex) (xs : List StrStep) → at + bytes ts ≤ end → are_sound ts ≡ true → are_numbered xs ≡ true → All (IsErrorWithin end) (walked at ts xs)
+walked-within : (end at : ℕ) (ts : List LexedToken) (xs : List StrStep) → at + total_len ts ≤ end → are_sound ts ≡ true → are_numbered xs ≡ true → All (IsErrorWithin end) (walked at ts xs)
 unfolding are_numbered
 walked-within end at ts [] le s h = All-nil (IsErrorWithin end)
 walked-within end at ts (out.Enter kind ∷ xs) le s h = walked-within end at ts xs le s h
 walked-within end at [] (out.Token kind start stop ∷ xs) le s h = walked-within end (at + 0) [] xs (omega arith) s h
 walked-within end at (t ∷ ts) (out.Token kind start stop ∷ xs) le s h =
-    All-append (IsErrorWithin end) (placed at t.faults) (walked (at + t.len) ts xs)
+    All-append (IsErrorWithin end) (errors_at at t.faults) (walked (at + t.len) ts xs)
     (placed-within end at t.len t.faults (sound_faults t ts s) (omega arith))
     (walked-within end (at + t.len) ts xs (omega arith) (sound_rest t ts s) h)
 walked-within end at ts (out.Exit ∷ xs) le s h = walked-within end at ts xs le s h
@@ -121,7 +121,7 @@ walked-within end at ts (out.Error number place ∷ xs) le s h =
     (record { first_number = one; last_number = ten; ordered = omega arith; within = omega arith })
     (walked-within end at ts xs le s b.1)
 
-numbered-whole : (ts : List Lex) (xs : List Step) → has_lawful_numbers xs ≡ true → are_numbered (woven ts xs) ≡ true
+numbered-whole : (ts : List LexedToken) (xs : List Step) → has_lawful_numbers xs ≡ true → are_numbered (weave ts xs) ≡ true
 unfolding are_numbered
 numbered-whole ts [] h = refl
 numbered-whole ts (Enter kind ∷ xs) h = numbered-woven 0 ts xs ∙ h
@@ -129,14 +129,14 @@ numbered-whole ts (Token kind ∷ xs) h = refl
 numbered-whole ts (Exit ∷ xs) h = refl
 numbered-whole ts (Error number ∷ xs) h = refl
 
-pub tree_of-lawful : (ts : List Lex) (xs : List Step) → are_sound ts ≡ true → IsLawful (kept ts) xs → IsTree (bytes ts) (tree_of ts (woven ts xs))
+pub tree_of-lawful : (ts : List LexedToken) (xs : List Step) → are_sound ts ≡ true → IsLawful (kinds_without_trivia ts) xs → IsTree (total_len ts) (tree_of ts (weave ts xs))
 tree_of-lawful ts xs sound lawful = record {
   balanced = balanced-woven ts xs lawful.balanced;
-  no_errors = without-has_none (woven ts xs);
+  no_errors = without-has_none (weave ts xs);
   tiled =
-      ap (λ rs. tiles 0 rs (bytes ts)) (leaves-ranges (tree.without_errors (woven ts xs)) ∙ ap (map (λ (l : tree.Leaf). (l.start, l.end))) (leaves_whole ts xs lawful.balanced lawful.tokens))
-      ∙ tiles-laid 0 (bytes ts) ts sound (omega arith);
+      ap (λ rs. tiles 0 rs (total_len ts)) (leaves-ranges (tree.without_errors (weave ts xs)) ∙ ap (map (λ (l : tree.Leaf). (l.start, l.end))) (leaves_whole ts xs lawful.balanced lawful.tokens))
+      ∙ tiles-laid 0 (total_len ts) ts sound (omega arith);
   errors_within =
-      subst (All (IsErrorWithin (bytes ts))) (sym (errors_whole ts xs lawful.balanced lawful.tokens sound))
-      (walked-within (bytes ts) 0 ts (woven ts xs) (omega arith) sound (numbered-whole ts xs lawful.numbers));
+      subst (All (IsErrorWithin (total_len ts))) (sym (errors_whole ts xs lawful.balanced lawful.tokens sound))
+      (walked-within (total_len ts) 0 ts (weave ts xs) (omega arith) sound (numbered-whole ts xs lawful.numbers));
 }

@@ -3,18 +3,18 @@ use Rattle.std.specs.Prelude.{ℕ, ◌+◌, ◌==◌, List, [], ◌∷◌, ◌++
 use Rattle.squawk_events.specs.declared.steps.ParseError.{ParseError}
 use Rattle.squawk_events.specs.declared.steps.StrStep.{StrStep}
 use Rattle.squawk_events.specs.declared.steps.StrStep.TheVariants.{Enter, Token, Exit, Error}
-use Rattle.squawk_woven.specs.Woven.{next_len}
-use Rattle.squawk_woven.specs.declared.lex.Lex.{Lex}
+use Rattle.squawk_woven.specs.Weave.{next_len}
+use Rattle.squawk_woven.specs.declared.lex.LexedToken.{LexedToken}
 use Rattle.squawk_woven.specs.declared.lex.Fault.{Fault}
 
 abbrev pub error : ℕ → ℕ → ℕ → ParseError
 error start end number = record { start = start; end = end; number = number }
 
 -- the faults of a token that begins at a place
-abbrev pub placed : ℕ → List (Option Fault) → List ParseError
-placed at [] = []
-placed at (None ∷ fs) = placed at fs
-placed at (Some f ∷ fs) = error (at + f.start) (at + f.end) f.number ∷ placed at fs
+abbrev pub errors_at : ℕ → List (Option Fault) → List ParseError
+errors_at at [] = []
+errors_at at (None ∷ fs) = errors_at at fs
+errors_at at (Some f ∷ fs) = error (at + f.start) (at + f.end) f.number ∷ errors_at at fs
 
 -- the numbers of the Error steps at a place, in order
 abbrev pub numbers_at : ℕ → List StrStep → List ℕ
@@ -26,34 +26,34 @@ numbers_at at (Error number place ∷ xs) = if place == at then number ∷ numbe
 
 -- At each token the errors of the Error steps at its start, and then its faults; last the Error steps at the end. An Error
 -- step has the range of the token that begins at its place.
-abbrev pub errors_from : ℕ → List Lex → List StrStep → List ParseError
+abbrev pub errors_from : ℕ → List LexedToken → List StrStep → List ParseError
 errors_from at [] xs = map (error at at) (numbers_at at xs)
-errors_from at (t ∷ ts) xs = map (error at (at + t.len)) (numbers_at at xs) ++ placed at t.faults ++ errors_from (at + t.len) ts xs
+errors_from at (t ∷ ts) xs = map (error at (at + t.len)) (numbers_at at xs) ++ errors_at at t.faults ++ errors_from (at + t.len) ts xs
 
-abbrev pub errors : List Lex → List StrStep → List ParseError
+abbrev pub errors : List LexedToken → List StrStep → List ParseError
 errors ts xs = errors_from 0 ts xs
 
 -- the errors of a step, where the tokens that come begin at a place
-abbrev pub step_errors : ℕ → List Lex → StrStep → List ParseError
+abbrev pub step_errors : ℕ → List LexedToken → StrStep → List ParseError
 step_errors at ts (Enter kind) = []
 step_errors at [] (Token kind start end) = []
-step_errors at (t ∷ ts) (Token kind start end) = placed at t.faults
+step_errors at (t ∷ ts) (Token kind start end) = errors_at at t.faults
 step_errors at ts Exit = []
 step_errors at ts (Error number place) = error at (at + next_len ts) number ∷ []
 
-abbrev pub end_behind : ℕ → List Lex → StrStep → ℕ
-end_behind at ts (Enter kind) = at
-end_behind at ts (Token kind start end) = at + next_len ts
-end_behind at ts Exit = at
-end_behind at ts (Error number place) = at
+abbrev pub offset_after_step : ℕ → List LexedToken → StrStep → ℕ
+offset_after_step at ts (Enter kind) = at
+offset_after_step at ts (Token kind start end) = at + next_len ts
+offset_after_step at ts Exit = at
+offset_after_step at ts (Error number place) = at
 
-abbrev pub left_behind : List Lex → StrStep → List Lex
-left_behind ts (Enter kind) = ts
-left_behind ts (Token kind start end) = drop 1 ts
-left_behind ts Exit = ts
-left_behind ts (Error number place) = ts
+abbrev pub tokens_after_step : List LexedToken → StrStep → List LexedToken
+tokens_after_step ts (Enter kind) = ts
+tokens_after_step ts (Token kind start end) = drop 1 ts
+tokens_after_step ts Exit = ts
+tokens_after_step ts (Error number place) = ts
 
 -- the errors, read off the steps
-abbrev pub walked : ℕ → List Lex → List StrStep → List ParseError
+abbrev pub walked : ℕ → List LexedToken → List StrStep → List ParseError
 walked at ts [] = []
-walked at ts (x ∷ xs) = step_errors at ts x ++ walked (end_behind at ts x) (left_behind ts x) xs
+walked at ts (x ∷ xs) = step_errors at ts x ++ walked (offset_after_step at ts x) (tokens_after_step ts x) xs

@@ -7,19 +7,19 @@ use Rattle.squawk_kinds.specs.declared.numbers.TheConstants.Number.{SOURCE_FILE}
 use Rattle.squawk_events.specs.declared.steps.ParseError.{ParseError}
 use Rattle.squawk_events.specs.declared.steps.StrStep.{StrStep}
 use Rattle.squawk_events.specs.declared.steps.StrStep.TheVariants.{Enter, Token, Exit, Error}
-use Rattle.squawk_woven.specs.Woven.{kept, bytes, woven_from}
-use Rattle.squawk_woven.specs.declared.lex.Lex.{Lex}
+use Rattle.squawk_woven.specs.Weave.{kinds_without_trivia, total_len, weave_from}
+use Rattle.squawk_woven.specs.declared.lex.LexedToken.{LexedToken}
 use Rattle.squawk_statements.specs.Plain.{child_steps}
 use Rattle.squawk_join.specs.Errors.{error, errors}
 use Rattle.squawk_statements.specs.declared.division.Division.{Division}
 
-abbrev pub lex_form : Lex → Form
+abbrev pub lex_form : LexedToken → Form
 lex_form t = form t.kind
 
 -- the steps of a child of these tokens, the first of which begins at a place
-abbrev pub child_woven : Division → ℕ → List Lex → List StrStep
+abbrev pub child_woven : Division → ℕ → List LexedToken → List StrStep
 child_woven d at [] = []
-child_woven d at (t ∷ ts) = if is_trivia_kind t.kind then Token t.kind at (at + t.len) ∷ [] else woven_from at (t ∷ ts) (child_steps d (kept (t ∷ ts)))
+child_woven d at (t ∷ ts) = if is_trivia_kind t.kind then Token t.kind at (at + t.len) ∷ [] else weave_from at (t ∷ ts) (child_steps d (kinds_without_trivia (t ∷ ts)))
 
 -- a step as many bytes further on
 abbrev pub shifted : ℕ → StrStep → StrStep
@@ -29,11 +29,11 @@ shifted n Exit = Exit
 shifted n (Error number at) = Error number (at + n)
 
 -- children one after another, from a place on: each is made of its own tokens, with places from its own start, and shifted
-abbrev pub joined_from : Division → ℕ → List (List Lex) → List StrStep
+abbrev pub joined_from : Division → ℕ → List (List LexedToken) → List StrStep
 joined_from d at [] = []
-joined_from d at (part ∷ rest) = map (shifted at) (child_woven d 0 part) ++ joined_from d (at + bytes part) rest
+joined_from d at (part ∷ rest) = map (shifted at) (child_woven d 0 part) ++ joined_from d (at + total_len part) rest
 
-abbrev pub joined : Division → List (List Lex) → List StrStep
+abbrev pub joined : Division → List (List LexedToken) → List StrStep
 joined d children = Enter SOURCE_FILE ∷ joined_from d 0 children ++ Exit ∷ []
 
 -- an error as many bytes further on
@@ -41,6 +41,6 @@ abbrev pub moved : ℕ → ParseError → ParseError
 moved n e = error (e.start + n) (e.end + n) e.number
 
 -- the errors of children one after another, from a place on: each by its own tokens, and moved
-abbrev pub joined_errors : Division → ℕ → List (List Lex) → List ParseError
+abbrev pub joined_errors : Division → ℕ → List (List LexedToken) → List ParseError
 joined_errors d at [] = []
-joined_errors d at (part ∷ rest) = map (moved at) (errors part (child_woven d 0 part)) ++ joined_errors d (at + bytes part) rest
+joined_errors d at (part ∷ rest) = map (moved at) (errors part (child_woven d 0 part)) ++ joined_errors d (at + total_len part) rest

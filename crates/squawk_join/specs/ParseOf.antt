@@ -7,18 +7,18 @@ use Rattle.squawk_join.specs.Errors.{errors}
 use Rattle.squawk_join.specs.Join.{child_woven, shifted, moved}
 use Rattle.squawk_join.specs.Tree.{Tree, without_errors}
 use Rattle.squawk_kinds.specs.declared.numbers.TheConstants.Number.{SOURCE_FILE}
-use Rattle.squawk_woven.specs.Woven.{kept, bytes, woven}
-use Rattle.squawk_woven.specs.declared.lex.Lex.{Lex}
+use Rattle.squawk_woven.specs.Weave.{kinds_without_trivia, total_len, weave}
+use Rattle.squawk_woven.specs.declared.lex.LexedToken.{LexedToken}
 use Rattle.squawk_statements.specs.Plain.{plain}
 use Rattle.squawk_statements.specs.declared.division.Division.{Division}
 
 -- the tree of these steps over tokens
-abbrev pub tree_of : List Lex → List StrStep → Tree
+abbrev pub tree_of : List LexedToken → List StrStep → Tree
 tree_of ts steps = record { steps = without_errors steps; errors = errors ts steps }
 
 -- the parse of tokens
-abbrev pub parse_of : Division → List Lex → Tree
-parse_of d ts = tree_of ts (woven ts (plain d (kept ts)))
+abbrev pub parse_of : Division → List LexedToken → Tree
+parse_of d ts = tree_of ts (weave ts (plain d (kinds_without_trivia ts)))
 
 -- a child: its steps, its errors and its bytes, with places counted from its start
 pub record Child : Type 0 where
@@ -27,8 +27,8 @@ pub record Child : Type 0 where
   pub len : ℕ
 
 -- the child of these tokens
-abbrev pub child_of : Division → List Lex → Child
-child_of d ts = record { steps = without_errors (child_woven d 0 ts); errors = errors ts (child_woven d 0 ts); len = bytes ts }
+abbrev pub child_of : Division → List LexedToken → Child
+child_of d ts = record { steps = without_errors (child_woven d 0 ts); errors = errors ts (child_woven d 0 ts); len = total_len ts }
 
 -- the steps of children, the first of which begins at a place
 abbrev pub steps_from : ℕ → List Child → List StrStep

@@ -3,7 +3,7 @@ use Rattle.std.specs.Prelude.{ℕ, ◌+◌, List, [], ◌∷◌}
 use Rattle.squawk_events.specs.declared.steps.StrStep.{StrStep}
 use Rattle.squawk_events.specs.declared.steps.StrStep.TheVariants.{Enter, Token, Exit, Error}
 use Rattle.squawk_events.specs.declared.steps.ParseError.{ParseError}
-use Rattle.squawk_woven.specs.declared.lex.Lex.{Lex}
+use Rattle.squawk_woven.specs.declared.lex.LexedToken.{LexedToken}
 
 pub record Tree : Type 0 where
   pub steps : List StrStep
@@ -31,6 +31,6 @@ leaves (Exit ∷ xs) = leaves xs
 leaves (Error number at ∷ xs) = leaves xs
 
 -- tokens from a place on
-abbrev pub laid : ℕ → List Lex → List Leaf
+abbrev pub laid : ℕ → List LexedToken → List Leaf
 laid at [] = []
 laid at (t ∷ ts) = record { kind = t.kind; start = at; end = at + t.len } ∷ laid (at + t.len) ts

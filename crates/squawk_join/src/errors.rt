@@ -1,11 +1,11 @@
 //! The errors of a parse.
 ghost use Rattle.std.specs.Prelude.{[], ◌∷◌, ◌≡◌, ◌≤◌, ◌<◌, ◌+◌, ◌^◌, ◌++◌, drop, length, OnOk, IfOk, IsOkUnless, IsTrue};
 ghost use Rattle.squawk_events.specs.declared.error.FrontError.TheVariants.{OutOfMemory};
-ghost use Rattle.squawk_woven.specs.Woven.{bytes, are_sound, next_len, faults_within};
-ghost use Rattle.squawk_join.specs.Errors.{placed, step_errors, end_behind, left_behind, walked};
+ghost use Rattle.squawk_woven.specs.Weave.{total_len, are_sound, next_len, faults_within};
+ghost use Rattle.squawk_join.specs.Errors.{errors_at, step_errors, offset_after_step, tokens_after_step, walked};
 
 use squawk_events::{FrontError, ParseError, StrStep};
-use squawk_woven::{Fault, Lex};
+use squawk_woven::{Fault, LexedToken};
 
 /// The token that comes next, and where it begins.
 #[derive(Clone, Copy)]
@@ -15,9 +15,9 @@ struct Place {
 }
 
 /// Where the token that comes ends, or the place itself where none comes.
-fn next_end(tokens: &[Lex], from: Place) -> u32
+fn next_end(tokens: &[LexedToken], from: Place) -> u32
     requires within { from.index ≤ length tokens.now }
-    requires small { from.at + bytes (drop from.index tokens.now) < 2 ^ 32 }
+    requires small { from.at + total_len (drop from.index tokens.now) < 2 ^ 32 }
     ensures { result ≡ from.at + next_len (drop from.index tokens.now) }
 {
     if from.index < tokens.len() {
@@ -36,7 +36,7 @@ fn push_fault(
 ) -> Result<(), FrontError>
     requires small { at + len < 2 ^ 32 }
     requires sound { IsTrue (faults_within len (fault ∷ [])) }
-    ensures ok { OnOk result (errors.new.items ≡ errors.old.items ++ placed at (fault ∷ [])) }
+    ensures ok { OnOk result (errors.new.items ≡ errors.old.items ++ errors_at at (fault ∷ [])) }
     ensures refusal { IsOkUnless result OutOfMemory }
 {
     let Some(fault) = fault else {
@@ -51,10 +51,10 @@ fn push_fault(
 }
 
 /// Appends the faults of a token.
-fn push_faults(errors: &mut Vec<ParseError>, token: &Lex, at: u32) -> Result<(), FrontError>
+fn push_faults(errors: &mut Vec<ParseError>, token: &LexedToken, at: u32) -> Result<(), FrontError>
     requires small { at + token.now.len < 2 ^ 32 }
     requires sound { IsTrue (faults_within token.now.len token.now.faults) }
-    ensures ok { OnOk result (errors.new.items ≡ errors.old.items ++ placed at token.now.faults) }
+    ensures ok { OnOk result (errors.new.items ≡ errors.old.items ++ errors_at at token.now.faults) }
     ensures refusal { IsOkUnless result OutOfMemory }
 {
     let faults = &token.faults[..];
@@ -67,17 +67,17 @@ fn push_faults(errors: &mut Vec<ParseError>, token: &Lex, at: u32) -> Result<(),
 /// Appends the errors of a step.
 fn push_of_step(
     errors: &mut Vec<ParseError>,
-    tokens: &[Lex],
+    tokens: &[LexedToken],
     from: Place,
     step: StrStep,
 ) -> Result<Place, FrontError>
     requires within { from.index ≤ length tokens.now }
-    requires small { from.at + bytes (drop from.index tokens.now) < 2 ^ 32 }
+    requires small { from.at + total_len (drop from.index tokens.now) < 2 ^ 32 }
     requires sound { IsTrue (are_sound (drop from.index tokens.now)) }
     ensures ok { OnOk result (errors.new.items ≡ errors.old.items ++ step_errors from.at (drop from.index tokens.now) step) }
-    ensures at { IfOk result (λ to. to.at ≡ end_behind from.at (drop from.index tokens.now) step) }
-    ensures left { IfOk result (λ to. drop to.index tokens.now ≡ left_behind (drop from.index tokens.now) step) }
-    ensures same_end { IfOk result (λ to. to.at + bytes (drop to.index tokens.now) ≡ from.at + bytes (drop from.index tokens.now)) }
+    ensures at { IfOk result (λ to. to.at ≡ offset_after_step from.at (drop from.index tokens.now) step) }
+    ensures left { IfOk result (λ to. drop to.index tokens.now ≡ tokens_after_step (drop from.index tokens.now) step) }
+    ensures same_end { IfOk result (λ to. to.at + total_len (drop to.index tokens.now) ≡ from.at + total_len (drop from.index tokens.now)) }
     ensures within { IfOk result (λ to. to.index ≤ length tokens.now) }
     ensures sound { IfOk result (λ to. IsTrue (are_sound (drop to.index tokens.now))) }
     ensures refusal { IsOkUnless result OutOfMemory }
@@ -110,10 +110,10 @@ fn push_of_step(
 /// Appends the errors of steps over tokens.
 pub(crate) fn push_errors(
     errors: &mut Vec<ParseError>,
-    tokens: &[Lex],
+    tokens: &[LexedToken],
     steps: &[StrStep],
 ) -> Result<(), FrontError>
-    requires small { bytes tokens.now < 2 ^ 32 }
+    requires small { total_len tokens.now < 2 ^ 32 }
     requires sound { IsTrue (are_sound tokens.now) }
     ensures ok { OnOk result (errors.new.items ≡ errors.old.items ++ walked 0 tokens.now steps.now) }
     ensures refusal { IsOkUnless result OutOfMemory }

@@ -8,8 +8,8 @@ ghost use Rattle.squawk_join.specs.Join.{lex_form};
 ghost use Rattle.squawk_join.specs.Steps.{root_children, root_child};
 ghost use Rattle.squawk_join.specs.IsTree.{IsTree};
 ghost use Rattle.squawk_join.specs.ParseOf.{parse_of, tree_of, child_of, join};
-ghost use Rattle.squawk_woven.specs.Woven.{are_sound, bytes, kept, woven};
-ghost use Rattle.squawk_woven.specs.declared.lex.Lex.{Lex};
+ghost use Rattle.squawk_woven.specs.Weave.{are_sound, total_len, kinds_without_trivia, weave};
+ghost use Rattle.squawk_woven.specs.declared.lex.LexedToken.{LexedToken};
 ghost use Rattle.squawk_statements.specs.Children.{parts, children, more_of};
 ghost use Rattle.squawk_statements.specs.declared.division.Division.{Division};
 
@@ -22,16 +22,16 @@ pub use sink::TreeSink;
 
 /// The parse of a list of tokens is the join of its children's, each made of its own tokens.
 pub fn children_join()
-    ensures { (division : Division) (tokens : List Lex) → IsTrue (are_sound tokens) → parse_of division tokens ≡ join (map (child_of division) (parts lex_form division tokens)) }
+    ensures { (division : Division) (tokens : List LexedToken) → IsTrue (are_sound tokens) → parse_of division tokens ≡ join (map (child_of division) (parts lex_form division tokens)) }
 {}
 
 /// What is given out for steps that are a tree is a tree, and the root's children are those of the division.
 pub fn parses_are_trees()
-    ensures lawful { (tokens : List Lex) (steps : List Step) → IsTrue (are_sound tokens) → IsLawful (kept tokens) steps → IsTree (bytes tokens) (tree_of tokens (woven tokens steps)) }
-    ensures children { (division : Division) (tokens : List Lex) → root_children (parse_of division tokens).steps ≡ map root_child (children division (map lex_form tokens)) }
+    ensures lawful { (tokens : List LexedToken) (steps : List Step) → IsTrue (are_sound tokens) → IsLawful (kinds_without_trivia tokens) steps → IsTree (total_len tokens) (tree_of tokens (weave tokens steps)) }
+    ensures children { (division : Division) (tokens : List LexedToken) → root_children (parse_of division tokens).steps ≡ map root_child (children division (map lex_form tokens)) }
 {}
 
 /// A child parsed by itself is itself under a root.
 pub fn children_stand_alone()
-    ensures { (division : Division) (token : Lex) (tokens : List Lex) → let own = token ∷ take (more_of lex_form division token tokens) tokens in IsTrue (are_sound own) → parse_of division own ≡ join (child_of division own ∷ []) }
+    ensures { (division : Division) (token : LexedToken) (tokens : List LexedToken) → let own = token ∷ take (more_of lex_form division token tokens) tokens in IsTrue (are_sound own) → parse_of division own ≡ join (child_of division own ∷ []) }
 {}

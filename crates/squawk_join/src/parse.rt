@@ -1,7 +1,7 @@
 //! The parse of a text.
 ghost use Rattle.std.specs.Prelude.{◌≡◌, ℕ, List, [], ◌∷◌, ◌++◌, IfOk, IsOkUnless};
 ghost use Rattle.squawk_events.specs.declared.error.FrontError.TheVariants.{OutOfMemory};
-ghost use Rattle.squawk_woven.specs.Woven.{kept, woven};
+ghost use Rattle.squawk_woven.specs.Weave.{kinds_without_trivia, weave};
 ghost use Rattle.squawk_statements.specs.Children.{parts};
 ghost use Rattle.squawk_statements.specs.declared.division.Division.TheVariants.{Flat};
 ghost use Rattle.squawk_join.specs.Errors.{errors};
@@ -58,8 +58,8 @@ pub fn parse_lexed<G: Grammar>(
     lexed: &LexedStr,
     grammar: &G,
 ) -> Result<Parse, FrontError>
-    ensures steps { IfOk result (λ parse. parse.steps ≡ without_errors (woven lexed.now (G.told grammar.now (kept lexed.now)))) }
-    ensures errors { IfOk result (λ parse. parse.errors ≡ errors lexed.now (woven lexed.now (G.told grammar.now (kept lexed.now)))) }
+    ensures steps { IfOk result (λ parse. parse.steps ≡ without_errors (weave lexed.now (G.told grammar.now (kinds_without_trivia lexed.now)))) }
+    ensures errors { IfOk result (λ parse. parse.errors ≡ errors lexed.now (weave lexed.now (G.told grammar.now (kinds_without_trivia lexed.now)))) }
     ensures leaves { IfOk result (λ parse. leaves parse.steps ≡ laid 0 lexed.now) }
     ensures refusal { IsOkUnless result OutOfMemory }
 {

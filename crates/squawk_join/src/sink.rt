@@ -1,14 +1,14 @@
 //! What takes the steps and errors of a parse.
 ghost use Rattle.std.specs.Prelude.{◌≡◌, ◌<◌, ◌^◌, IsTrue, [], ◌∷◌, ◌++◌, OnOk, OnErr, IfOk, IsOkUnless};
 ghost use Rattle.squawk_events.specs.declared.error.FrontError.TheVariants.{OutOfMemory};
-ghost use Rattle.squawk_woven.specs.Woven.{bytes, are_sound};
+ghost use Rattle.squawk_woven.specs.Weave.{total_len, are_sound};
 ghost use Rattle.squawk_join.specs.Errors.{walked};
 ghost use Rattle.squawk_join.specs.Tree.{Tree, without_errors};
 
 use crate::Parse;
 use crate::errors::push_errors;
 use squawk_events::{FrontError, ParseError, StepSink, StrStep};
-use squawk_woven::Lex;
+use squawk_woven::LexedToken;
 use std::alloc::Global;
 use std::marker::Model;
 
@@ -49,8 +49,8 @@ impl TreeSink {
     }
 
     // Appends the errors of the steps that it has taken.
-    pub(crate) fn push_errors(&mut self, tokens: &[Lex]) -> Result<(), FrontError>
-        requires small { bytes tokens.now < 2 ^ 32 }
+    pub(crate) fn push_errors(&mut self, tokens: &[LexedToken]) -> Result<(), FrontError>
+        requires small { total_len tokens.now < 2 ^ 32 }
         requires sound { IsTrue (are_sound tokens.now) }
         ensures ok { OnOk result (self.new ≡ record { steps = self.old.steps; errors = self.old.errors ++ walked 0 tokens.now self.old.steps }) }
         ensures refusal { IsOkUnless result OutOfMemory }

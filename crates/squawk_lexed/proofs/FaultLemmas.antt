@@ -18,7 +18,7 @@ pub record IsFlagged (t : Token) : Type 0 where
 
 pub flagged : FlagsLieWithin → (t : Token) → IsCut t → IsFlagged t
 flagged law t cut =
-    let at = law cut.strings cut.start cut.text cut.some in
+    let at = law cut.strings cut.at_start cut.text cut.some in
     subst IsFlagged (sym cut.same) (record { some = at.0; flags = at.1 })
 
 -- ---- its faults

@@ -6,16 +6,16 @@ use Rattle.std.specs.Str.{IsCharBoundary}
 use Rattle.squawk_events.specs.declared.steps.ParseError.{ParseError}
 use Rattle.squawk_lexer.specs.declared.token.Token.{Token}
 use Rattle.squawk_lexer.specs.Flags.{FlagsLieWithin, AreCut}
-use Rattle.squawk_lexed.specs.Lex.{Lex}
-use Rattle.squawk_lexed.specs.Lexes.{lexes_of, lexed_part, token_bytes, AreLaid, bytes}
+use Rattle.squawk_lexed.specs.LexedToken.{LexedToken}
+use Rattle.squawk_lexed.specs.LexedText.{lexed_tokens, lexed_part, tokens_len, EndAtBoundaries, total_len}
 use Rattle.squawk_lexed.specs.Stored.{kinds_of, starts_of, errors_of, AreBoundaries, IsStoredAs}
 use Rattle.squawk_lexed.proofs.StoredLemmas.{lexes_sound}
 
-lexes_bytes : (text : List ℕ) (at : ℕ) (ts : List Token) → bytes (lexes_of text at ts) ≡ token_bytes ts
+lexes_bytes : (text : List ℕ) (at : ℕ) (ts : List Token) → total_len (lexed_tokens text at ts) ≡ tokens_len ts
 lexes_bytes text at [] = refl
 lexes_bytes text at (t ∷ ts) = ap (λ n. t.len + n) (lexes_bytes text (at + t.len) ts)
 
-laid_within : (text : List ℕ) (at : ℕ) (ts : List Token) → IsCharBoundary text at → AreLaid text at ts → at + token_bytes ts ≤ length text
+laid_within : (text : List ℕ) (at : ℕ) (ts : List Token) → IsCharBoundary text at → EndAtBoundaries text at ts → at + tokens_len ts ≤ length text
 laid_within text at [] here laid = omega (arith, here.0)
 laid_within text at (t ∷ ts) here laid = omega (arith, laid_within text (at + t.len) ts laid.0 laid.1)
 
@@ -33,8 +33,8 @@ part_boundary text start end p h within here =
           subst (λ n. 192 ≤ n) (sym same) (here.1 (omega (arith, len, less)) (subst (λ n. 128 ≤ n) same high)),
     )
 
-part_bounded : (text : List ℕ) (start end p at : ℕ) (ts : List Token) → at ≡ start + p → at + token_bytes ts ≤ end → end ≤ length text
-    → IsCharBoundary text at → AreLaid text at ts → AreBoundaries (slice_range text start end) (starts_of p (lexes_of text at ts))
+part_bounded : (text : List ℕ) (start end p at : ℕ) (ts : List Token) → at ≡ start + p → at + tokens_len ts ≤ end → end ≤ length text
+    → IsCharBoundary text at → EndAtBoundaries text at ts → AreBoundaries (slice_range text start end) (starts_of p (lexed_tokens text at ts))
 part_bounded text start end p at [] is h within here laid = (part_boundary text start end p (omega arith) within (subst (IsCharBoundary text) is here), tt)
 part_bounded text start end p at (t ∷ ts) is h within here laid = (
   part_boundary text start end p (omega arith) within (subst (IsCharBoundary text) is here),
@@ -42,15 +42,15 @@ part_bounded text start end p at (t ∷ ts) is h within here laid = (
 )
 
 -- what a loop over the tokens leaves
-pub part_kept : FlagsLieWithin → (text : List ℕ) (at : ℕ) (ts : List Token) → AreCut ts → AreLaid text at ts → IsCharBoundary text at → length text < 2 ^ 32
+pub part_kept : FlagsLieWithin → (text : List ℕ) (at : ℕ) (ts : List Token) → AreCut ts → EndAtBoundaries text at ts → IsCharBoundary text at → length text < 2 ^ 32
     → (from : ℕ) (left : List Token) (part kinds starts starts' : List ℕ) (errors : List ParseError) → left ≡ [] → part ≡ slice_range text at from
-    → from + token_bytes left ≡ at + token_bytes ts
-    → kinds ++ kinds_of (lexes_of text from left) ≡ kinds_of (lexes_of text at ts)
-    → starts ++ starts_of (from - at) (lexes_of text from left) ≡ starts_of 0 (lexes_of text at ts) → starts' ≡ starts ++ (from - at) ∷ []
-    → errors ++ errors_of (from - at) (lexes_of text from left) ≡ errors_of 0 (lexes_of text at ts)
-    → IsStoredAs part kinds starts' errors (lexes_of text at ts)
+    → from + tokens_len left ≡ at + tokens_len ts
+    → kinds ++ kinds_of (lexed_tokens text from left) ≡ kinds_of (lexed_tokens text at ts)
+    → starts ++ starts_of (from - at) (lexed_tokens text from left) ≡ starts_of 0 (lexed_tokens text at ts) → starts' ≡ starts ++ (from - at) ∷ []
+    → errors ++ errors_of (from - at) (lexed_tokens text from left) ≡ errors_of 0 (lexed_tokens text at ts)
+    → IsStoredAs part kinds starts' errors (lexed_tokens text at ts)
 part_kept law text at ts cut laid here fits from left part kinds starts starts' errors none is place k s s' e =
-    let end : from ≡ at + token_bytes ts = omega (arith, ap token_bytes none, place) in
+    let end : from ≡ at + tokens_len ts = omega (arith, ap tokens_len none, place) in
     let within : from ≤ length text = omega (arith, end, laid_within text at ts here laid) in
     let len : length part ≡ from - at = ap length is ∙ length-part text at from (omega (arith, end)) within in
     record {
@@ -63,8 +63,8 @@ part_kept law text at ts cut laid here fits from left part kinds starts starts' 
       boundaries = rw is (part_bounded text at from 0 at ts (omega arith) (omega (arith, end)) within here laid);
     }
 
-pub part_is : (text : List ℕ) (at from : ℕ) (ts : List Token) (left : List Token) (part : List ℕ) (us : List Lex) → left ≡ [] → part ≡ slice_range text at from
-    → from + token_bytes left ≡ at + token_bytes ts → us ≡ lexes_of text at ts → record { text = part; tokens = us } ≡ lexed_part text at ts
+pub part_is : (text : List ℕ) (at from : ℕ) (ts : List Token) (left : List Token) (part : List ℕ) (us : List LexedToken) → left ≡ [] → part ≡ slice_range text at from
+    → from + tokens_len left ≡ at + tokens_len ts → us ≡ lexed_tokens text at ts → record { text = part; tokens = us } ≡ lexed_part text at ts
 part_is text at from ts left part us none is place same =
-    let end : from ≡ at + token_bytes ts = omega (arith, ap token_bytes none, place) in
+    let end : from ≡ at + tokens_len ts = omega (arith, ap tokens_len none, place) in
     rw (is, end, same) refl

@@ -8,8 +8,8 @@ list_of None = []
 list_of (Some f) = f ∷ []
 
 -- those of the first, and those of the second
-abbrev pub listed : Option Fault → Option Fault → List Fault
-listed first second = list_of first ++ list_of second
+abbrev pub both_faults : Option Fault → Option Fault → List Fault
+both_faults first second = list_of first ++ list_of second
 
 -- the fault is in a token of this length
 pub record IsFaultIn (len : ℕ) (f : Fault) : Type 0 where

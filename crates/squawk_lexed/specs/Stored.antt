@@ -3,27 +3,27 @@ use Rattle.std.specs.Prelude.{◌≡◌, ⊤, ℕ, zero, suc, ◌+◌, ◌-◌, 
 use Rattle.std.specs.Str.{IsCharBoundary}
 use Rattle.squawk_events.specs.declared.steps.ParseError.{ParseError}
 use Rattle.squawk_lexed.specs.declared.fault.Fault.{Fault}
-use Rattle.squawk_lexed.specs.Lex.{Lex}
-use Rattle.squawk_lexed.specs.Lexes.{bytes, are_sound}
+use Rattle.squawk_lexed.specs.LexedToken.{LexedToken}
+use Rattle.squawk_lexed.specs.LexedText.{total_len, are_sound}
 
-abbrev pub kinds_of : List Lex → List ℕ
+abbrev pub kinds_of : List LexedToken → List ℕ
 kinds_of [] = []
 kinds_of (t ∷ ts) = t.kind ∷ kinds_of ts
 
 -- where each token begins, and where the last one ends
-abbrev pub starts_of : ℕ → List Lex → List ℕ
+abbrev pub starts_of : ℕ → List LexedToken → List ℕ
 starts_of at [] = at ∷ []
 starts_of at (t ∷ ts) = at ∷ starts_of (at + t.len) ts
 
 -- faults of a token that begins at a place, as errors of the text
-abbrev pub placed : ℕ → List Fault → List ParseError
-placed at [] = []
-placed at (f ∷ fs) = record { start = at + f.start; end = at + f.end; number = f.number } ∷ placed at fs
+abbrev pub errors_at : ℕ → List Fault → List ParseError
+errors_at at [] = []
+errors_at at (f ∷ fs) = record { start = at + f.start; end = at + f.end; number = f.number } ∷ errors_at at fs
 
 -- the errors of all tokens
-abbrev pub errors_of : ℕ → List Lex → List ParseError
+abbrev pub errors_of : ℕ → List LexedToken → List ParseError
 errors_of at [] = []
-errors_of at (t ∷ ts) = placed at t.faults ++ errors_of (at + t.len) ts
+errors_of at (t ∷ ts) = errors_at at t.faults ++ errors_of (at + t.len) ts
 
 -- ---- and back: a token has the errors that begin before its end
 
@@ -32,36 +32,36 @@ faults_before at end [] = []
 faults_before at end (e ∷ es) =
     if nat_lt e.start end then record { number = e.number; start = e.start - at; end = e.end - at } ∷ faults_before at end es else []
 
-abbrev pub errors_behind : ℕ → List ParseError → List ParseError
-errors_behind end [] = []
-errors_behind end (e ∷ es) = if nat_lt e.start end then errors_behind end es else e ∷ es
+abbrev pub errors_from : ℕ → List ParseError → List ParseError
+errors_from end [] = []
+errors_from end (e ∷ es) = if nat_lt e.start end then errors_from end es else e ∷ es
 
-abbrev pub lexes_from : List ℕ → List ℕ → List ParseError → List Lex
-lexes_from [] starts errors = []
-lexes_from (kind ∷ kinds) [] errors = []
-lexes_from (kind ∷ kinds) (start ∷ starts) errors =
+abbrev pub lexed_tokens_from : List ℕ → List ℕ → List ParseError → List LexedToken
+lexed_tokens_from [] starts errors = []
+lexed_tokens_from (kind ∷ kinds) [] errors = []
+lexed_tokens_from (kind ∷ kinds) (start ∷ starts) errors =
     record { kind = kind; len = slice_index starts 0 - start; faults = faults_before start (slice_index starts 0) errors }
-    ∷ lexes_from kinds starts (errors_behind (slice_index starts 0) errors)
+    ∷ lexed_tokens_from kinds starts (errors_from (slice_index starts 0) errors)
 
 abbrev pub AreBoundaries : List ℕ → List ℕ → Type 0
 AreBoundaries text [] = ⊤
 AreBoundaries text (at ∷ places) = IsCharBoundary text at × AreBoundaries text places
 
 -- these are the tokens, they tile the text, and each place is between two characters
-pub record IsStoredAs (text kinds starts : List ℕ) (errors : List ParseError) (ts : List Lex) : Type 0 where
+pub record IsStoredAs (text kinds starts : List ℕ) (errors : List ParseError) (ts : List LexedToken) : Type 0 where
   pub kinds_are : kinds ≡ kinds_of ts
   pub starts_are : starts ≡ starts_of 0 ts
   pub errors_are : errors ≡ errors_of 0 ts
   pub sound : IsTrue (are_sound ts)
-  pub whole : bytes ts ≡ length text
+  pub whole : total_len ts ≡ length text
   pub fits : length text < 2 ^ 32
   pub boundaries : AreBoundaries text (starts_of 0 ts)
 
 abbrev pub IsStored : List ℕ → List ℕ → List ℕ → List ParseError → Type 0
-IsStored text kinds starts errors = IsStoredAs text kinds starts errors (lexes_from kinds starts errors)
+IsStored text kinds starts errors = IsStoredAs text kinds starts errors (lexed_tokens_from kinds starts errors)
 
 -- the faults of the token at i
-abbrev pub faults_at : List Lex → ℕ → List Fault
+abbrev pub faults_at : List LexedToken → ℕ → List Fault
 faults_at [] i = []
 faults_at (t ∷ ts) zero = t.faults
 faults_at (t ∷ ts) (suc i) = faults_at ts i

@@ -2,7 +2,7 @@
 ghost use Rattle.std.specs.Prelude.{◌≡◌, ◌≤◌, [], ◌∷◌, ◌++◌, length, IsTrue, Some, None};
 ghost use Rattle.squawk_lexer.specs.Flags.{IsCut};
 ghost use Rattle.squawk_lexed.specs.Faults.{fault, row, exponent_row, faults, kind_faults, literal_faults, in_two, faults_within};
-ghost use Rattle.squawk_lexed.specs.FaultLists.{listed, list_of};
+ghost use Rattle.squawk_lexed.specs.FaultLists.{both_faults, list_of};
 
 use squawk_lexer::laws::flags_lie_within;
 use squawk_lexer::{LiteralKind, Token, TokenKind};
@@ -31,7 +31,7 @@ fn row(test: bool, number: u8, start: u32, end: u32) -> Option<Fault>
 
 /// These faults, with those that are there in front.
 fn in_order(first: Option<Fault>, second: Option<Fault>) -> [Option<Fault>; 2]
-    ensures { result ≡ in_two (listed first second) }
+    ensures { result ≡ in_two (both_faults first second) }
 {
     if first.is_none() {
         [second, None]

@@ -3,16 +3,16 @@ ghost use Rattle.std.specs.Prelude.{◌≡◌, ◌^◌, ◌<◌, ◌≤◌, ◌+
 ghost use Rattle.std.specs.Str.{chars, IsCharBoundary};
 ghost use Rattle.squawk_kinds.specs.declared.numbers.TheConstants.Number.{EOF};
 ghost use Rattle.squawk_events.specs.declared.error.FrontError.TheVariants.{OutOfMemory};
-ghost use Rattle.squawk_events.specs.Kinds.{is_trivia_kind, has_no_trivia, kept as kinds_kept};
-ghost use Rattle.squawk_lexed.specs.Woven.{kept};
+ghost use Rattle.squawk_events.specs.Kinds.{is_trivia_kind, has_no_trivia, without_trivia as kinds_kept};
+ghost use Rattle.squawk_lexed.specs.Weave.{without_trivia};
 ghost use Rattle.squawk_events.specs.Message.{message_of};
 ghost use Rattle.squawk_lexer.specs.Flags.{IsCut, AreCut};
 ghost use Rattle.squawk_lexer.specs.declared.token.Strings.TheVariants.{Standard};
 ghost use Rattle.squawk_lexed.specs.Leaf.{leaf_kind};
 ghost use Rattle.squawk_lexed.specs.Faults.{faults};
-ghost use Rattle.squawk_lexed.specs.FaultLists.{list_of, listed, IsFaultIn};
-ghost use Rattle.squawk_lexed.specs.Lexes.{lexed_of, lexed_part, AreLaid, bytes, are_sound};
-ghost use Rattle.squawk_lexed.specs.Stored.{kinds_of, starts_of, errors_of, placed, faults_at};
+ghost use Rattle.squawk_lexed.specs.FaultLists.{list_of, both_faults, IsFaultIn};
+ghost use Rattle.squawk_lexed.specs.LexedText.{lexed_text, lexed_part, EndAtBoundaries, total_len, are_sound};
+ghost use Rattle.squawk_lexed.specs.Stored.{kinds_of, starts_of, errors_of, errors_at, faults_at};
 
 use crate::fault::{Fault, faults_of};
 use crate::kind::kind_of;
@@ -76,7 +76,7 @@ impl LexError {
 /// The faults of a token, where each lies in it.
 fn fault_pair(token: Token) -> (Option<Fault>, Option<Fault>)
     requires cut { IsCut token }
-    ensures pair { listed result.0 result.1 ≡ faults token }
+    ensures pair { both_faults result.0 result.1 ≡ faults token }
     ensures first { IfSome result.0 (IsFaultIn token.len) }
     ensures second { IfSome result.1 (IsFaultIn token.len) }
 {
@@ -87,7 +87,7 @@ fn fault_pair(token: Token) -> (Option<Fault>, Option<Fault>)
 /// Appends the fault of a token that begins at a place, if there is one.
 fn push_fault(errors: &mut Vec<LexError>, at: u32, fault: Option<Fault>) -> Result<(), FrontError>
     requires lies { IfSome fault (λ f. (1 ≤ f.number) × (f.number ≤ 9) × (f.start ≤ f.end) × (at + f.end < 2 ^ 32)) }
-    ensures placed { OnOk result (errors.new.items ≡ errors.old.items ++ placed at (list_of fault)) }
+    ensures errors_at { OnOk result (errors.new.items ≡ errors.old.items ++ errors_at at (list_of fault)) }
     ensures refusal { IsOkUnless result OutOfMemory }
 {
     if let Some(fault) = fault {
@@ -104,7 +104,7 @@ fn push_fault(errors: &mut Vec<LexError>, at: u32, fault: Option<Fault>) -> Resu
 fn push_faults(errors: &mut Vec<LexError>, at: u32, token: Token) -> Result<(), FrontError>
     requires cut { IsCut token }
     requires fits { at + token.len < 2 ^ 32 }
-    ensures placed { OnOk result (errors.new.items ≡ errors.old.items ++ placed at (faults token)) }
+    ensures errors_at { OnOk result (errors.new.items ≡ errors.old.items ++ errors_at at (faults token)) }
     ensures refusal { IsOkUnless result OutOfMemory }
 {
     let (first, second) = fault_pair(token);
@@ -126,7 +126,7 @@ fn push_token(lists: &mut Lists, at: u32, token: Token, text: &str) -> Result<()
     requires fits { at + token.len < 2 ^ 32 }
     ensures kinds { OnOk result (lists.new.kinds.items ≡ lists.old.kinds.items ++ leaf_kind token.kind text.now ∷ []) }
     ensures starts { OnOk result (lists.new.starts.items ≡ lists.old.starts.items ++ at ∷ []) }
-    ensures errors { OnOk result (lists.new.errors.items ≡ lists.old.errors.items ++ placed at (faults token)) }
+    ensures errors { OnOk result (lists.new.errors.items ≡ lists.old.errors.items ++ errors_at at (faults token)) }
     ensures refusal { IsOkUnless result OutOfMemory }
 {
     lists.kinds.push(kind_of(token.kind, text))?;
@@ -145,12 +145,12 @@ pub struct LexedStr<'a> {
 }
 
 impl<'a> Model for LexedStr<'a> {
-    ghost use Rattle.squawk_lexed.specs.Lexes.{Lexed};
-    ghost use Rattle.squawk_lexed.specs.Stored.{lexes_from, IsStored};
+    ghost use Rattle.squawk_lexed.specs.LexedText.{LexedText};
+    ghost use Rattle.squawk_lexed.specs.Stored.{lexed_tokens_from, IsStored};
 
-    ghost Value = { Lexed };
+    ghost Value = { LexedText };
 
-    ghost view = { λ l. record { text = l.text.now; tokens = lexes_from l.kinds.items l.starts.items l.errors.items } };
+    ghost view = { λ l. record { text = l.text.now; tokens = lexed_tokens_from l.kinds.items l.starts.items l.errors.items } };
 
     ghost invariant = { λ l. IsStored l.text.now l.kinds.items l.starts.items l.errors.items };
 }
@@ -194,7 +194,7 @@ impl<'a> LexedStr<'a> {
         text: &'a str,
         strings: Strings,
     ) -> Result<LexedStr<'a>, FrontError>
-        ensures lexed { IfOk result (λ l. l ≡ lexed_of strings text.now) }
+        ensures lexed { IfOk result (λ l. l ≡ lexed_text strings text.now) }
         ensures too_long { IsErrOf result FrontError.TooLong ↔ (LIMIT < length text.now) }
     {
         if text.len() > LIMIT {
@@ -231,7 +231,7 @@ impl<'a> LexedStr<'a> {
     /// `TooLong` comes exactly where the text has more than 4294967295 bytes, before any memory is taken, and `OutOfMemory` where
     /// there is no memory for the tokens.
     pub fn new(alloc: Global, text: &'a str) -> Result<LexedStr<'a>, FrontError>
-        ensures lexed { IfOk result (λ l. l ≡ lexed_of Standard text.now) }
+        ensures lexed { IfOk result (λ l. l ≡ lexed_text Standard text.now) }
         ensures too_long { IsErrOf result FrontError.TooLong ↔ (LIMIT < length text.now) }
     {
         LexedStr::new_in(alloc, text, Strings::Standard)
@@ -248,7 +248,7 @@ impl<'a> LexedStr<'a> {
         requires fits { length text.now ≤ LIMIT }
         requires boundary { IsCharBoundary text.now at }
         requires cut { AreCut tokens.now }
-        requires laid { AreLaid text.now at tokens.now }
+        requires laid { EndAtBoundaries text.now at tokens.now }
         ensures lexed { IfOk result (λ l. l ≡ lexed_part text.now at tokens.now) }
         ensures refusal { IsOkUnless result OutOfMemory }
     {
@@ -292,7 +292,7 @@ impl<'a> LexedStr<'a> {
     pub fn len(&self) -> usize
         ensures count { result ≡ length self.now.tokens }
         ensures sound { IsTrue (are_sound self.now.tokens) }
-        ensures whole { bytes self.now.tokens ≡ length self.now.text }
+        ensures whole { total_len self.now.tokens ≡ length self.now.text }
         ensures fits { length self.now.text < 2 ^ 32 }
     {
         self.kinds.len()
@@ -313,7 +313,7 @@ impl<'a> LexedStr<'a> {
     /// Where a token begins, and behind the last token the text's length.
     pub fn text_start(&self, i: usize) -> usize
         requires { i ≤ length self.now.tokens }
-        ensures { result ≡ bytes (take i self.now.tokens) }
+        ensures { result ≡ total_len (take i self.now.tokens) }
     {
         self.starts[i] as usize
     }
@@ -321,8 +321,8 @@ impl<'a> LexedStr<'a> {
     /// Where a token is, in bytes.
     pub fn text_range(&self, i: usize) -> Range<usize>
         requires { i < length self.now.tokens }
-        ensures start { result.start ≡ bytes (take i self.now.tokens) }
-        ensures end { result.end ≡ bytes (take (i + 1) self.now.tokens) }
+        ensures start { result.start ≡ total_len (take i self.now.tokens) }
+        ensures end { result.end ≡ total_len (take (i + 1) self.now.tokens) }
     {
         self.starts[i] as usize..self.starts[i + 1] as usize
     }
@@ -330,7 +330,7 @@ impl<'a> LexedStr<'a> {
     /// The token's part of the text.
     pub fn text(&self, i: usize) -> &'a str
         requires { i < length self.now.tokens }
-        ensures { result.now ≡ slice_range self.now.text (bytes (take i self.now.tokens)) (bytes (take (i + 1) self.now.tokens)) }
+        ensures { result.now ≡ slice_range self.now.text (total_len (take i self.now.tokens)) (total_len (take (i + 1) self.now.tokens)) }
     {
         let range = self.text_range(i);
         &self.text[range.start..range.end]
@@ -357,7 +357,7 @@ impl<'a> LexedStr<'a> {
 
     /// The kinds that are not trivia.
     pub fn to_input(&self, alloc: Global) -> Result<Input, FrontError>
-        ensures ok { IfOk result (λ input. input ≡ kept self.now.tokens) }
+        ensures ok { IfOk result (λ input. input ≡ without_trivia self.now.tokens) }
         ensures no_trivia { IfOk result (λ input. IsTrue (has_no_trivia input)) }
         ensures refusal { IsOkUnless result OutOfMemory }
     {

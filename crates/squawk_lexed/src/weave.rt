@@ -2,9 +2,9 @@
 ghost use Rattle.std.specs.Prelude.{◌≡◌, ◌^◌, ◌<◌, ◌≤◌, ◌+◌, [], ◌∷◌, ◌++◌, length, OnOk, OnErr, IfOk, IsOkUnless, IsTrue, drop};
 ghost use Rattle.squawk_events.specs.Lawful.{is_balanced, token_kinds};
 ghost use Rattle.squawk_events.specs.declared.error.FrontError.TheVariants.{OutOfMemory};
-ghost use Rattle.squawk_lexed.specs.Woven.{kept, begins_with, front_steps, front_end, behind_front, step_woven, step_end, step_left, is_served, are_served, woven, woven_from, left_from, left_over, is_empty};
-ghost use Rattle.squawk_lexed.specs.Lexes.{bytes};
-ghost use Rattle.squawk_lexed.specs.Fronts.{AppendsFront};
+ghost use Rattle.squawk_lexed.specs.Weave.{kinds_without_trivia, begins_with, leading_trivia, leading_trivia_end, after_leading_trivia, weave_step, offset_after_step, tokens_after_step, has_token_for, have_tokens_for, weave, weave_from, remaining_from, remaining_tokens, is_empty};
+ghost use Rattle.squawk_lexed.specs.LexedText.{total_len};
+ghost use Rattle.squawk_lexed.specs.Prefixes.{AppendsPrefix};
 ghost use Rattle.squawk_events.specs.declared.steps.Step.TheVariants.{Enter};
 
 use crate::lexed::{LexedStr, is_trivia};
@@ -25,13 +25,13 @@ fn give_front<K: StepSink>(
     sink: &mut K,
 ) -> Result<Place, FrontError>
     requires within { from.index ≤ length lexed.now.tokens }
-    requires small { from.at + bytes (drop from.index lexed.now.tokens) < 2 ^ 32 }
-    ensures ok { OnOk result (K.steps sink.new ≡ K.steps sink.old ++ front_steps from.at (drop from.index lexed.now.tokens)) }
-    ensures left { IfOk result (λ to. drop to.index lexed.now.tokens ≡ behind_front (drop from.index lexed.now.tokens)) }
-    ensures at { IfOk result (λ to. to.at ≡ front_end from.at (drop from.index lexed.now.tokens)) }
-    ensures same_end { IfOk result (λ to. to.at + bytes (drop to.index lexed.now.tokens) ≡ from.at + bytes (drop from.index lexed.now.tokens)) }
+    requires small { from.at + total_len (drop from.index lexed.now.tokens) < 2 ^ 32 }
+    ensures ok { OnOk result (K.steps sink.new ≡ K.steps sink.old ++ leading_trivia from.at (drop from.index lexed.now.tokens)) }
+    ensures left { IfOk result (λ to. drop to.index lexed.now.tokens ≡ after_leading_trivia (drop from.index lexed.now.tokens)) }
+    ensures at { IfOk result (λ to. to.at ≡ leading_trivia_end from.at (drop from.index lexed.now.tokens)) }
+    ensures same_end { IfOk result (λ to. to.at + total_len (drop to.index lexed.now.tokens) ≡ from.at + total_len (drop from.index lexed.now.tokens)) }
     ensures within { IfOk result (λ to. to.index ≤ length lexed.now.tokens) }
-    ensures front { OnErr result (AppendsFront (K.steps sink.old) (K.steps sink.new) (front_steps from.at (drop from.index lexed.now.tokens))) }
+    ensures front { OnErr result (AppendsPrefix (K.steps sink.old) (K.steps sink.new) (leading_trivia from.at (drop from.index lexed.now.tokens))) }
     ensures errors { K.errors sink.new ≡ K.errors sink.old }
     ensures refusal { IsOkUnless result OutOfMemory }
 {
@@ -59,14 +59,14 @@ fn give_step<K: StepSink>(
     sink: &mut K,
 ) -> Result<Place, FrontError>
     requires within { from.index ≤ length lexed.now.tokens }
-    requires small { from.at + bytes (drop from.index lexed.now.tokens) < 2 ^ 32 }
-    requires served { IsTrue (is_served (drop from.index lexed.now.tokens) step) }
-    ensures ok { OnOk result (K.steps sink.new ≡ K.steps sink.old ++ step_woven last from.at (drop from.index lexed.now.tokens) step) }
-    ensures left { IfOk result (λ to. drop to.index lexed.now.tokens ≡ step_left last (drop from.index lexed.now.tokens) step) }
-    ensures at { IfOk result (λ to. to.at ≡ step_end last from.at (drop from.index lexed.now.tokens) step) }
-    ensures same_end { IfOk result (λ to. to.at + bytes (drop to.index lexed.now.tokens) ≡ from.at + bytes (drop from.index lexed.now.tokens)) }
+    requires small { from.at + total_len (drop from.index lexed.now.tokens) < 2 ^ 32 }
+    requires served { IsTrue (has_token_for (drop from.index lexed.now.tokens) step) }
+    ensures ok { OnOk result (K.steps sink.new ≡ K.steps sink.old ++ weave_step last from.at (drop from.index lexed.now.tokens) step) }
+    ensures left { IfOk result (λ to. drop to.index lexed.now.tokens ≡ tokens_after_step last (drop from.index lexed.now.tokens) step) }
+    ensures at { IfOk result (λ to. to.at ≡ offset_after_step last from.at (drop from.index lexed.now.tokens) step) }
+    ensures same_end { IfOk result (λ to. to.at + total_len (drop to.index lexed.now.tokens) ≡ from.at + total_len (drop from.index lexed.now.tokens)) }
     ensures within { IfOk result (λ to. to.index ≤ length lexed.now.tokens) }
-    ensures front { OnErr result (AppendsFront (K.steps sink.old) (K.steps sink.new) (step_woven last from.at (drop from.index lexed.now.tokens) step)) }
+    ensures front { OnErr result (AppendsPrefix (K.steps sink.old) (K.steps sink.new) (weave_step last from.at (drop from.index lexed.now.tokens) step)) }
     ensures errors { K.errors sink.new ≡ K.errors sink.old }
     ensures refusal { IsOkUnless result OutOfMemory }
 {
@@ -114,10 +114,10 @@ fn give_rest<K: StepSink>(
     rest: &[Step],
     sink: &mut K,
 ) -> Result<bool, FrontError>
-    requires served { IsTrue (are_served lexed.now.tokens rest.now) }
-    ensures ok { OnOk result (K.steps sink.new ≡ K.steps sink.old ++ woven_from 0 lexed.now.tokens rest.now) }
-    ensures all { IfOk result (λ all. all ≡ is_empty (left_from lexed.now.tokens rest.now)) }
-    ensures front { OnErr result (AppendsFront (K.steps sink.old) (K.steps sink.new) (woven_from 0 lexed.now.tokens rest.now)) }
+    requires served { IsTrue (have_tokens_for lexed.now.tokens rest.now) }
+    ensures ok { OnOk result (K.steps sink.new ≡ K.steps sink.old ++ weave_from 0 lexed.now.tokens rest.now) }
+    ensures all { IfOk result (λ all. all ≡ is_empty (remaining_from lexed.now.tokens rest.now)) }
+    ensures front { OnErr result (AppendsPrefix (K.steps sink.old) (K.steps sink.new) (weave_from 0 lexed.now.tokens rest.now)) }
     ensures errors { K.errors sink.new ≡ K.errors sink.old }
     ensures refusal { IsOkUnless result OutOfMemory }
 {
@@ -149,10 +149,10 @@ impl<'a> LexedStr<'a> {
         sink: &mut K,
     ) -> Result<bool, FrontError>
         requires balanced { IsTrue (is_balanced output.now) }
-        requires tokens { IsTrue (begins_with (kept self.now.tokens) (token_kinds output.now)) }
-        ensures ok { OnOk result (K.steps sink.new ≡ K.steps sink.old ++ woven self.now.tokens output.now) }
-        ensures all { IfOk result (λ all. all ≡ is_empty (left_over self.now.tokens output.now)) }
-        ensures front { OnErr result (AppendsFront (K.steps sink.old) (K.steps sink.new) (woven self.now.tokens output.now)) }
+        requires tokens { IsTrue (begins_with (kinds_without_trivia self.now.tokens) (token_kinds output.now)) }
+        ensures ok { OnOk result (K.steps sink.new ≡ K.steps sink.old ++ weave self.now.tokens output.now) }
+        ensures all { IfOk result (λ all. all ≡ is_empty (remaining_tokens self.now.tokens output.now)) }
+        ensures front { OnErr result (AppendsPrefix (K.steps sink.old) (K.steps sink.new) (weave self.now.tokens output.now)) }
         ensures errors { K.errors sink.new ≡ K.errors sink.old }
         ensures refusal { IsOkUnless result OutOfMemory }
     {

@@ -8,11 +8,11 @@ use Rattle.std.specs.Char.{len_utf8}
 use Rattle.std.specs.Str.{chars, IsCharBoundary}
 use Rattle.squawk_lexer.specs.declared.token.Token.{Token}
 use Rattle.squawk_lexer.specs.declared.token.Strings.{Strings}
-use Rattle.squawk_lexer.specs.Text.{bytes}
+use Rattle.squawk_lexer.specs.Text.{utf8_len}
 use Rattle.squawk_lexer.specs.Token.{lexeme_at, token_at}
 use Rattle.squawk_lexer.specs.Cut.{tokens_from, tokens}
-use Rattle.squawk_lexer.specs.Laws.{place}
-use Rattle.squawk_lexer.specs.LookAhead.{Agrees, TextsLookAhead, TextsProgress, TextsRestart, RestartsAt, PartsAt}
+use Rattle.squawk_lexer.specs.Laws.{chars_of_tokens}
+use Rattle.squawk_lexer.specs.LookAhead.{Agrees, TextsLookAhead, TextsProgress, TextsRestart, RestartsAt, SplitsAt}
 use Rattle.squawk_lexer.proofs.Chars.{length-bytes, some_chars}
 use Rattle.squawk_lexer.proofs.TokenLaws.{token_positive}
 use Rattle.squawk_lexer.proofs.CutLaws.{tokens_first, cut_behind}
@@ -24,7 +24,7 @@ use Rattle.squawk_lexer.proofs.StatementLaws.{statements_stand_alone}
 -- ---- look-ahead
 
 -- as many bytes are as many characters
-same_place : (u : List ℕ) (m n : ℕ) → m ≤ length u → n ≤ length u → bytes (take m u) ≡ bytes (take n u) → m ≡ n
+same_place : (u : List ℕ) (m n : ℕ) → m ≤ length u → n ≤ length u → utf8_len (take m u) ≡ utf8_len (take n u) → m ≡ n
 same_place [] m n h k e = omega arith
 same_place (c ∷ cs) zero zero h k e = refl
 same_place (c ∷ cs) zero (suc n) h k e = absurd (omega (arith, e, sum_by-cons len_utf8 c (take n cs), len_utf8_bounds c))
@@ -33,10 +33,10 @@ same_place (c ∷ cs) (suc m) (suc n) h k e =
     ap suc (same_place cs m n (omega arith) (omega arith) (omega (arith, e, sum_by-cons len_utf8 c (take m cs), sum_by-cons len_utf8 c (take n cs))))
 
 -- where the first token has the bytes of `front`, and two characters follow, any other text with these has it too
-of_parts : (strings : Strings) (start : Bool) (front two rest other : List ℕ) → (token_at strings start (chars (front ++ (two ++ rest)))).len ≡ length front
+of_parts : (strings : Strings) (at_start : Bool) (front two rest other : List ℕ) → (token_at strings at_start (chars (front ++ (two ++ rest)))).len ≡ length front
     → IsUtf8 front → IsUtf8 two → 2 ≤ length (chars two)
-    → token_at strings start (chars (front ++ (two ++ other))) ≡ token_at strings start (chars (front ++ (two ++ rest)))
-of_parts strings start front two rest other len utf8 utf8_two some = tokens_look_ahead strings start u v agrees
+    → token_at strings at_start (chars (front ++ (two ++ other))) ≡ token_at strings at_start (chars (front ++ (two ++ rest)))
+of_parts strings at_start front two rest other len utf8 utf8_two some = tokens_look_ahead strings at_start u v agrees
   where
     u : List ℕ
     u = chars (front ++ (two ++ rest))
@@ -54,19 +54,19 @@ of_parts strings start front two rest other len utf8 utf8_two some = tokens_look
     long : length u ≡ length (chars front) + length (chars two) + length (chars rest)
     long = ap length (split rest) ∙ length-append known (chars rest) ∙ ap (λ n. n + length (chars rest)) (length-append (chars front) (chars two))
 
-    front_bytes : bytes (take (length (chars front)) u) ≡ length front
+    front_bytes : utf8_len (take (length (chars front)) u) ≡ length front
     front_bytes =
         let n = length (chars front) in
         let taken : take n u ≡ chars front =
         ap (take n) (split rest) ∙ take-append-le n known (chars rest) (omega (arith, length-append (chars front) (chars two))) ∙ take-append_seam (chars front) (chars two) in
-        ap bytes taken ∙ sym (length-bytes front (is_utf8-from_IsUtf8 front utf8))
+        ap utf8_len taken ∙ sym (length-bytes front (is_utf8-from_IsUtf8 front utf8))
 
-    end : (lexeme_at strings start u).end ≡ length (chars front)
-    end = same_place u _ _ (tokens_within strings start u (omega (arith, long))) (omega (arith, long)) (len ∙ sym front_bytes)
+    end : (lexeme_at strings at_start u).end ≡ length (chars front)
+    end = same_place u _ _ (tokens_within strings at_start u (omega (arith, long))) (omega (arith, long)) (len ∙ sym front_bytes)
 
-    agrees : Agrees ((lexeme_at strings start u).end + 2) u v
+    agrees : Agrees ((lexeme_at strings at_start u).end + 2) u v
     agrees =
-        let n = (lexeme_at strings start u).end + 2 in
+        let n = (lexeme_at strings at_start u).end + 2 in
         let less : n ≤ length known = omega (arith, end, length-append (chars front) (chars two)) in
         record {
           within = omega (arith, end, long);
@@ -74,34 +74,34 @@ of_parts strings start front two rest other len utf8 utf8_two some = tokens_look
         }
 
 pub texts_look_ahead : TextsLookAhead
-texts_look_ahead strings start text front two rest other e len utf8 utf8_two some =
-    let same = ap (λ w. token_at strings start (chars w)) e in
-    of_parts strings start front two rest other (ap (λ (t : Token). t.len) (sym same) ∙ sym len) utf8 utf8_two some ∙ sym same
+texts_look_ahead strings at_start text front two rest other e len utf8 utf8_two some =
+    let same = ap (λ w. token_at strings at_start (chars w)) e in
+    of_parts strings at_start front two rest other (ap (λ (t : Token). t.len) (sym same) ∙ sym len) utf8 utf8_two some ∙ sym same
 
 -- ---- progress
 
 pub texts_progress : TextsProgress
-texts_progress strings start text utf8 some =
-    (token_positive strings start (chars text) (some_chars text utf8 some), (cut_behind text (lexeme_at strings start (chars text)).end utf8).boundary)
+texts_progress strings at_start text utf8 some =
+    (token_positive strings at_start (chars text) (some_chars text utf8 some), (cut_behind text (lexeme_at strings at_start (chars text)).end utf8).boundary)
 
 -- ---- restart
 
 pub texts_restart : TextsRestart
-texts_restart strings start text utf8 some =
-    let n = (lexeme_at strings start (chars text)).end in
-    tokens_first strings start (chars text) (some_chars text utf8 some)
-    ∙ ap (λ w. token_at strings start (chars text) ∷ tokens_from strings 0 false w) (sym (cut_behind text n utf8).rest)
+texts_restart strings at_start text utf8 some =
+    let n = (lexeme_at strings at_start (chars text)).end in
+    tokens_first strings at_start (chars text) (some_chars text utf8 some)
+    ∙ ap (λ w. token_at strings at_start (chars text) ∷ tokens_from strings 0 false w) (sym (cut_behind text n utf8).rest)
 
 pub restarts_at : (strings : Strings) (text : List ℕ) (at : ℕ) → IsUtf8 text → RestartsAt strings text at
 restarts_at strings text at utf8 n some e =
-    let p = place strings true n (chars text) in
-    let here : at ≡ bytes (take p (chars text)) = e ∙ sym (places_add_up strings true n (chars text)) in
+    let p = chars_of_tokens strings true n (chars text) in
+    let here : at ≡ utf8_len (take p (chars text)) = e ∙ sym (places_add_up strings true n (chars text)) in
     tokens_restart strings true n (chars text) some
     ∙ ap (tokens_from strings 0 false) (sym (ap (λ m. chars (drop m text)) here ∙ (cut_behind text p utf8).rest))
 
 -- ---- statements
 
-pub parts_at : (strings : Strings) (text : List ℕ) (at : ℕ) → IsUtf8 text → IsCharBoundary text at → PartsAt strings text at
+pub parts_at : (strings : Strings) (text : List ℕ) (at : ℕ) → IsUtf8 text → IsCharBoundary text at → SplitsAt strings text at
 parts_at strings text at utf8 boundary e =
     let both : chars text ≡ chars (take at text) ++ chars (drop at text) =
     ap chars (sym (take-append-drop at text)) ∙ chars-append (take at text) (drop at text) (IsUtf8-take text at utf8 boundary) in

@@ -6,13 +6,13 @@ use Rattle.std.proofs.lemmas.Bool.Decides.{nat_tests}
 use Rattle.std.specs.List.{prefix_len, starts_with}
 use Rattle.std.specs.Cmp.Lexicographic.{pointwise}
 use Rattle.squawk_lexer.specs.declared.token.LiteralKind.TheVariants.{DollarQuotedString}
-use Rattle.squawk_lexer.specs.Kind.{Lexeme, literal}
-use Rattle.squawk_lexer.specs.Classes.{is_digit, is_id_start, is_id_cont, is_tag_cont}
-use Rattle.squawk_lexer.specs.Runs.{run, junk}
-use Rattle.squawk_lexer.specs.Quoted.{quoted_len, end_of, quoted}
-use Rattle.squawk_lexer.specs.Comment.{comment_len, opens, closes, comment_end}
+use Rattle.squawk_lexer.specs.Kind.{Lexeme, literal_until}
+use Rattle.squawk_lexer.specs.Classes.{is_digit, is_ident_start, is_ident_cont, is_tag_cont}
+use Rattle.squawk_lexer.specs.Runs.{run_end, junk_end}
+use Rattle.squawk_lexer.specs.Quoted.{quoted_len, end_or_text_end, quoted_end}
+use Rattle.squawk_lexer.specs.Comment.{comment_len, opens_comment, closes_comment, comment_end}
 use Rattle.squawk_lexer.specs.Numbers.{parameter}
-use Rattle.squawk_lexer.specs.Dollar.{tag_end, opens_dollar, delimiter, find_end, closing, dollar_string, dollar}
+use Rattle.squawk_lexer.specs.Dollar.{tag_end, is_dollar_quote_start, delimiter, find_end, delimiter_end, dollar_string, dollar}
 use Rattle.squawk_lexer.proofs.TokenLaws.{junk_on}
 use Rattle.squawk_lexer.proofs.DollarLaws as dollars
 use Rattle.squawk_lexer.proofs.Steps.{drop_read, within_read, junk_past}
@@ -76,22 +76,22 @@ quoted_looks escapes q t (x ∷ y ∷ xs) c d r s f h =
 comment_far : (inner c : ℕ) (cs : List ℕ) → 1 ≤ unwrap_or (comment_len inner (c ∷ cs)) (length (c ∷ cs))
 comment_far inner c [] = omega arith
 comment_far zero c (d ∷ cs) =
-    either_far (opens c d) _ _ _ 1 (omega (arith, far (comment_len 1 cs) 2 (length cs) (length (c ∷ d ∷ cs)) (omega arith)))
-    (either_far (closes c d) (Some 2) _ _ 1 (omega arith) (far (comment_len 0 (d ∷ cs)) 1 (length (d ∷ cs)) (length (c ∷ d ∷ cs)) (omega arith)))
+    either_far (opens_comment c d) _ _ _ 1 (omega (arith, far (comment_len 1 cs) 2 (length cs) (length (c ∷ d ∷ cs)) (omega arith)))
+    (either_far (closes_comment c d) (Some 2) _ _ 1 (omega arith) (far (comment_len 0 (d ∷ cs)) 1 (length (d ∷ cs)) (length (c ∷ d ∷ cs)) (omega arith)))
 comment_far (suc n) c (d ∷ cs) =
-    either_far (opens c d) _ _ _ 1 (omega (arith, far (comment_len (suc (suc n)) cs) 2 (length cs) (length (c ∷ d ∷ cs)) (omega arith)))
-    (either_far (closes c d) _ _ _ 1 (omega (arith, far (comment_len n cs) 2 (length cs) (length (c ∷ d ∷ cs)) (omega arith))) (far (comment_len (suc n) (d ∷ cs)) 1 (length (d ∷ cs)) (length (c ∷ d ∷ cs)) (omega arith)))
+    either_far (opens_comment c d) _ _ _ 1 (omega (arith, far (comment_len (suc (suc n)) cs) 2 (length cs) (length (c ∷ d ∷ cs)) (omega arith)))
+    (either_far (closes_comment c d) _ _ _ 1 (omega (arith, far (comment_len n cs) 2 (length cs) (length (c ∷ d ∷ cs)) (omega arith))) (far (comment_len (suc n) (d ∷ cs)) 1 (length (d ∷ cs)) (length (c ∷ d ∷ cs)) (omega arith)))
 
 -- and at least two of two
 comment_farther : (inner x c : ℕ) (cs : List ℕ) → 2 ≤ unwrap_or (comment_len inner (x ∷ c ∷ cs)) (length (x ∷ c ∷ cs))
 comment_farther zero x c cs =
     let total = length (x ∷ c ∷ cs) in
-    either_far (opens x c) _ _ _ 2 (far (comment_len 1 cs) 2 (length cs) total (omega arith))
-    (either_far (closes x c) (Some 2) _ _ 2 (omega arith) (farther (comment_len 0 (c ∷ cs)) 1 (length (c ∷ cs)) total 1 (omega arith) (comment_far 0 c cs)))
+    either_far (opens_comment x c) _ _ _ 2 (far (comment_len 1 cs) 2 (length cs) total (omega arith))
+    (either_far (closes_comment x c) (Some 2) _ _ 2 (omega arith) (farther (comment_len 0 (c ∷ cs)) 1 (length (c ∷ cs)) total 1 (omega arith) (comment_far 0 c cs)))
 comment_farther (suc n) x c cs =
     let total = length (x ∷ c ∷ cs) in
-    either_far (opens x c) _ _ _ 2 (far (comment_len (suc (suc n)) cs) 2 (length cs) total (omega arith))
-    (either_far (closes x c) _ _ _ 2 (far (comment_len n cs) 2 (length cs) total (omega arith)) (farther (comment_len (suc n) (c ∷ cs)) 1 (length (c ∷ cs)) total 1 (omega arith) (comment_far (suc n) c cs)))
+    either_far (opens_comment x c) _ _ _ 2 (far (comment_len (suc (suc n)) cs) 2 (length cs) total (omega arith))
+    (either_far (closes_comment x c) _ _ _ 2 (far (comment_len n cs) 2 (length cs) total (omega arith)) (farther (comment_len (suc n) (c ∷ cs)) 1 (length (c ∷ cs)) total 1 (omega arith) (comment_far (suc n) c cs)))
 
 comment_looks : (inner : ℕ) (xs : List ℕ) (c d : ℕ) (r s : List ℕ) → unwrap_or (comment_len inner (xs ++ c ∷ r)) (length (xs ++ c ∷ r)) ≤ length xs → comment_len inner (xs ++ d ∷ s) ≡ comment_len inner (xs ++ c ∷ r)
 comment_looks inner [] c d r s h = absurd (omega (arith, comment_far inner c r))
@@ -99,38 +99,38 @@ comment_looks inner (x ∷ []) c d r s h = absurd (omega (arith, comment_farther
 comment_looks zero (x ∷ y ∷ xs) c d r s h =
     let m = λ (o : Option ℕ). unwrap_or o (length (x ∷ y ∷ xs ++ c ∷ r)) in
     let n = length (x ∷ y ∷ xs) in
-    branch m (opens x y) _ _ _ _ n
+    branch m (opens_comment x y) _ _ _ _ n
     (λ t k. later (comment_len 1 (xs ++ c ∷ r)) (comment_len 1 (xs ++ d ∷ s)) 2 (length (xs ++ c ∷ r)) (length (x ∷ y ∷ xs ++ c ∷ r)) (length xs) (omega arith) (comment_looks 1 xs c d r s) (omega arith))
-    (λ t. branch m (closes x y) (Some 2) _ (Some 2) _ n (λ t k. refl)
+    (λ t. branch m (closes_comment x y) (Some 2) _ (Some 2) _ n (λ t k. refl)
     (λ t k. later (comment_len 0 (y ∷ xs ++ c ∷ r)) (comment_len 0 (y ∷ xs ++ d ∷ s)) 1 (length (y ∷ xs ++ c ∷ r)) (length (x ∷ y ∷ xs ++ c ∷ r)) (length (y ∷ xs)) (omega arith) (comment_looks 0 (y ∷ xs) c d r s) (omega arith))) h
 comment_looks (suc i) (x ∷ y ∷ xs) c d r s h =
     let m = λ (o : Option ℕ). unwrap_or o (length (x ∷ y ∷ xs ++ c ∷ r)) in
     let n = length (x ∷ y ∷ xs) in
-    branch m (opens x y) _ _ _ _ n
+    branch m (opens_comment x y) _ _ _ _ n
     (λ t k. later (comment_len (suc (suc i)) (xs ++ c ∷ r)) (comment_len (suc (suc i)) (xs ++ d ∷ s)) 2 (length (xs ++ c ∷ r)) (length (x ∷ y ∷ xs ++ c ∷ r)) (length xs) (omega arith) (comment_looks (suc (suc i)) xs c d r s) (omega arith))
-    (λ t. branch m (closes x y) _ _ _ _ n
+    (λ t. branch m (closes_comment x y) _ _ _ _ n
     (λ t k. later (comment_len i (xs ++ c ∷ r)) (comment_len i (xs ++ d ∷ s)) 2 (length (xs ++ c ∷ r)) (length (x ∷ y ∷ xs ++ c ∷ r)) (length xs) (omega arith) (comment_looks i xs c d r s) (omega arith))
     (λ t k. later (comment_len (suc i) (y ∷ xs ++ c ∷ r)) (comment_len (suc i) (y ∷ xs ++ d ∷ s)) 1 (length (y ∷ xs ++ c ∷ r)) (length (x ∷ y ∷ xs ++ c ∷ r)) (length (y ∷ xs)) (omega arith) (comment_looks (suc i) (y ∷ xs) c d r s) (omega arith))) h
 
 -- ---- from lists to places
 
 -- what is found from a place on, and where it ends: one that ends before the text does is found
-pub found_same : {told : (ℕ → Bool) → Type 0} {pairs : (ℕ → Bool) → (ℕ → Bool) → Type 0} (g : List ℕ → Option ℕ) → Looks told pairs g (λ v. unwrap_or (g v) (length v)) → (k : ℕ) (u v : List ℕ) (i : ℕ) → Alike told pairs k u v → end_of u i (g (drop i u)) ≤ k
-    → (g (drop i v) ≡ g (drop i u)) × (end_of v i (g (drop i v)) ≡ end_of u i (g (drop i u)))
+pub found_same : {told : (ℕ → Bool) → Type 0} {pairs : (ℕ → Bool) → (ℕ → Bool) → Type 0} (g : List ℕ → Option ℕ) → Looks told pairs g (λ v. unwrap_or (g v) (length v)) → (k : ℕ) (u v : List ℕ) (i : ℕ) → Alike told pairs k u v → end_or_text_end u i (g (drop i u)) ≤ k
+    → (g (drop i v) ≡ g (drop i u)) × (end_or_text_end v i (g (drop i v)) ≡ end_or_text_end u i (g (drop i u)))
 found_same g looks k u v i a h = by (seen g (λ w. unwrap_or (g w) (length w)) looks k u v i a h)
   where
     within : k < length u
     within = a.left
 
-    end : (o : Option ℕ) → end_of u i o ≤ k → end_of v i o ≡ end_of u i o
+    end : (o : Option ℕ) → end_or_text_end u i o ≤ k → end_or_text_end v i o ≡ end_or_text_end u i o
     end None h = absurd (omega (arith, length-drop i u))
     end (Some n) h = refl
 
-    by : g (drop i v) ≡ g (drop i u) → (g (drop i v) ≡ g (drop i u)) × (end_of v i (g (drop i v)) ≡ end_of u i (g (drop i u)))
-    by e = (e, ap (end_of v i) e ∙ end (g (drop i u)) h)
+    by : g (drop i v) ≡ g (drop i u) → (g (drop i v) ≡ g (drop i u)) × (end_or_text_end v i (g (drop i v)) ≡ end_or_text_end u i (g (drop i u)))
+    by e = (e, ap (end_or_text_end v i) e ∙ end (g (drop i u)) h)
 
-pub quoted_same : {told : (ℕ → Bool) → Type 0} {pairs : (ℕ → Bool) → (ℕ → Bool) → Type 0} (escapes : Bool) (q : ℕ) → told (λ c. eqb c q) → (k : ℕ) (u v : List ℕ) (i : ℕ) → Alike told pairs k u v → quoted escapes q u i ≤ k
-    → (quoted_len escapes q (drop i v) ≡ quoted_len escapes q (drop i u)) × (quoted escapes q v i ≡ quoted escapes q u i)
+pub quoted_same : {told : (ℕ → Bool) → Type 0} {pairs : (ℕ → Bool) → (ℕ → Bool) → Type 0} (escapes : Bool) (q : ℕ) → told (λ c. eqb c q) → (k : ℕ) (u v : List ℕ) (i : ℕ) → Alike told pairs k u v → quoted_end escapes q u i ≤ k
+    → (quoted_len escapes q (drop i v) ≡ quoted_len escapes q (drop i u)) × (quoted_end escapes q v i ≡ quoted_end escapes q u i)
 quoted_same escapes q t k u v i a h = found_same (quoted_len escapes q) (quoted_looks escapes q t) k u v i a h
 
 pub comment_same : {told : (ℕ → Bool) → Type 0} {pairs : (ℕ → Bool) → (ℕ → Bool) → Type 0} (inner k : ℕ) (u v : List ℕ) (i : ℕ) → Alike told pairs k u v → comment_end inner u i ≤ k
@@ -173,33 +173,33 @@ fewer p q only (c ∷ cs) = by (p c) (q c) refl refl (fewer p q only cs)
     by false d e f h = omega arith
 
 -- a tag ends in what would be junk without the `$` behind it
-tag_in_junk : (u : List ℕ) → tag_end u ≤ junk u (run is_digit u 1)
-tag_in_junk u = by (is_id_start (get_or u 1 0)) refl
+tag_in_junk : (u : List ℕ) → tag_end u ≤ junk_end u (run_end is_digit u 1)
+tag_in_junk u = by (is_ident_start (get_or u 1 0)) refl
   where
-    tag_cont : (c : ℕ) → is_tag_cont c ≡ true → is_id_cont c ≡ true
+    tag_cont : (c : ℕ) → is_tag_cont c ≡ true → is_ident_cont c ≡ true
     tag_cont c t = (and_parts _ _ t).0
 
-    no_digit : is_id_start (get_or u 1 0) ≡ true → run is_digit u 1 ≡ 1
+    no_digit : is_ident_start (get_or u 1 0) ≡ true → run_end is_digit u 1 ≡ 1
     no_digit t =
         let some : 0 < get_or u 1 0 = grind (arith, nat_tests) in
         let digit : is_digit (get_or u 1 0) ≡ false = grind (arith, nat_tests) in
         rw (drop_read u 1 (within_read u 1 some), digit) refl
 
-    by : (b : Bool) → is_id_start (get_or u 1 0) ≡ b → cond b (run is_tag_cont u 1) 1 ≤ junk u (run is_digit u 1)
+    by : (b : Bool) → is_ident_start (get_or u 1 0) ≡ b → cond b (run_end is_tag_cont u 1) 1 ≤ junk_end u (run_end is_digit u 1)
     by true t =
-        let all : junk u 1 ≡ run is_id_cont u 1 = (junk_past u 1 t).0 in
-        let more : prefix_len is_tag_cont (drop 1 u) ≤ prefix_len is_id_cont (drop 1 u) = fewer is_tag_cont is_id_cont tag_cont (drop 1 u) in
+        let all : junk_end u 1 ≡ run_end is_ident_cont u 1 = (junk_past u 1 t).0 in
+        let more : prefix_len is_tag_cont (drop 1 u) ≤ prefix_len is_ident_cont (drop 1 u) = fewer is_tag_cont is_ident_cont tag_cont (drop 1 u) in
         rw (no_digit t, all) (omega arith)
-    by false t = omega (arith, junk_on u (run is_digit u 1))
+    by false t = omega (arith, junk_on u (run_end is_digit u 1))
 
 -- what follows the tag is tested there
 tag_same : {told : (ℕ → Bool) → Type 0} {pairs : (ℕ → Bool) → (ℕ → Bool) → Type 0} → Asks told pairs → (k : ℕ) (u v : List ℕ) → Alike told pairs k u v → 1 ≤ k → tag_end u ≤ k → tag_end v ≡ tag_end u
 tag_same w k u v a some h =
-    pick (λ n. n) (is_id_start (get_or u 1 0)) (is_id_start (get_or v 1 0)) (run is_tag_cont u 1) 1 (run is_tag_cont v 1) 1 k (test is_id_start w.id_start k u v 1 a some)
+    pick (λ n. n) (is_ident_start (get_or u 1 0)) (is_ident_start (get_or v 1 0)) (run_end is_tag_cont u 1) 1 (run_end is_tag_cont v 1) 1 k (test is_ident_start w.id_start k u v 1 a some)
     (λ t e. run_same is_tag_cont w.tag_cont k u v 1 a e) (λ t e. refl) h
 
 tag_in : (u : List ℕ) → tag_end u ≤ (dollar u).end
-tag_in u = by (opens_dollar u)
+tag_in u = by (is_dollar_quote_start u)
   where
     by : (b : Bool) → tag_end u ≤ (cond b (dollar_string u) (parameter u)).end
     by true = omega arith
@@ -211,14 +211,14 @@ string_same k u v a e h =
     let d = delimiter u in
     let same : delimiter v ≡ d = ap (λ n. take (n + 1) v) e ∙ take_same k u v i a (omega arith) in
     let (found, end) = found_same (find_end d) (λ xs c e r s f. find_looks d xs c e r s) k u v i a h in
-    let closes : closing v ≡ closing u = ap (λ n. find_end (delimiter v) (drop (n + 1) v)) e ∙ ap (λ w. find_end w (drop i v)) same ∙ found in
-    let stops : end_of v (tag_end v + 1) (closing v) ≡ end_of u i (closing u) = ap (λ n. end_of v (n + 1) (closing v)) e ∙ ap (end_of v i) (closes ∙ sym found) ∙ end in
-    ap (λ o. literal (DollarQuotedString (is_some o)) (end_of v (tag_end v + 1) (closing v))) closes ∙ ap (literal (DollarQuotedString (is_some (closing u)))) stops
+    let closes_comment : delimiter_end v ≡ delimiter_end u = ap (λ n. find_end (delimiter v) (drop (n + 1) v)) e ∙ ap (λ w. find_end w (drop i v)) same ∙ found in
+    let stops : end_or_text_end v (tag_end v + 1) (delimiter_end v) ≡ end_or_text_end u i (delimiter_end u) = ap (λ n. end_or_text_end v (n + 1) (delimiter_end v)) e ∙ ap (end_or_text_end v i) (closes_comment ∙ sym found) ∙ end in
+    ap (λ o. literal_until (DollarQuotedString (is_some o)) (end_or_text_end v (tag_end v + 1) (delimiter_end v))) closes_comment ∙ ap (literal_until (DollarQuotedString (is_some (delimiter_end u)))) stops
 
 pub dollar_same : {told : (ℕ → Bool) → Type 0} {pairs : (ℕ → Bool) → (ℕ → Bool) → Type 0} → Asks told pairs → (k : ℕ) (u v : List ℕ) → Alike told pairs k u v → 1 ≤ k → (dollar u).end ≤ k → dollar v ≡ dollar u
 dollar_same w k u v a some h =
     let within : tag_end u ≤ k = omega (arith, tag_in u) in
     let e : tag_end v ≡ tag_end u = tag_same w k u v a some within in
-    let test : opens_dollar v ≡ opens_dollar u = ap (λ n. eqb (get_or v n 0) 36) e ∙ test (λ c. eqb c 36) w.dollar k u v (tag_end u) a within in
-    pick (λ (x : Lexeme). x.end) (opens_dollar u) (opens_dollar v) (dollar_string u) (parameter u) (dollar_string v) (parameter v) k test
+    let test : is_dollar_quote_start v ≡ is_dollar_quote_start u = ap (λ n. eqb (get_or v n 0) 36) e ∙ test (λ c. eqb c 36) w.dollar k u v (tag_end u) a within in
+    pick (λ (x : Lexeme). x.end) (is_dollar_quote_start u) (is_dollar_quote_start v) (dollar_string u) (parameter u) (dollar_string v) (parameter v) k test
     (λ t j. string_same k u v a e j) (λ t j. parameter_same w k u v a j) h

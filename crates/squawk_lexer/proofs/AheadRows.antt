@@ -5,54 +5,54 @@ use Rattle.squawk_lexer.specs.declared.token.Base.TheVariants.{Decimal}
 use Rattle.squawk_lexer.specs.declared.token.Strings.TheVariants.{Standard}
 use Rattle.squawk_lexer.specs.declared.token.TokenKind.TheVariants.{Ident, PsqlCommand}
 use Rattle.std.specs.Prelude.{None, Some}
-use Rattle.squawk_lexer.specs.Kind.{lexeme, literal}
+use Rattle.squawk_lexer.specs.Kind.{lexeme_until, literal_until}
 use Rattle.squawk_lexer.specs.Classes.{byte_order_mark}
 use Rattle.squawk_lexer.specs.Symbols.{symbol}
-use Rattle.squawk_lexer.specs.Token.{start, opening, lexeme_at}
+use Rattle.squawk_lexer.specs.Token.{token_form, prefix_of, lexeme_at}
 use Rattle.squawk_lexer.specs.Cut.{tokens}
 use Rattle.squawk_lexer.specs.LookAhead.{EndsWithSemi}
 
 -- `1` before `..` and before `.5`
-before_range : lexeme_at Standard true (codes "1..") ≡ literal (Int Decimal false 1) 1
-unfolding start opening symbol
+before_range : lexeme_at Standard true (codes "1..") ≡ literal_until (Int Decimal false 1) 1
+unfolding token_form prefix_of symbol
 before_range = refl
 
-with_fraction : lexeme_at Standard true (codes "1.5") ≡ literal (Numeric None 3) 3
-unfolding start opening symbol
+with_fraction : lexeme_at Standard true (codes "1.5") ≡ literal_until (Numeric None 3) 3
+unfolding token_form prefix_of symbol
 with_fraction = refl
 
 -- `u` before `&` without a quote, and with one
-before_and : lexeme_at Standard true (codes "u&a") ≡ lexeme Ident 1
-unfolding start opening symbol
+before_and : lexeme_at Standard true (codes "u&a") ≡ lexeme_until Ident 1
+unfolding token_form prefix_of symbol
 before_and = refl
 
-with_quote : lexeme_at Standard true (codes "u&'") ≡ literal (UnicodeEscStr false) 3
-unfolding start opening symbol
+with_quote : lexeme_at Standard true (codes "u&'") ≡ literal_until (UnicodeEscStr false) 3
+unfolding token_form prefix_of symbol
 with_quote = refl
 
 -- `1e` before a sign without a digit, and with one
-before_sign : lexeme_at Standard true (codes "1e+a") ≡ literal (Numeric (Some 1) 2) 2
-unfolding start opening symbol
+before_sign : lexeme_at Standard true (codes "1e+a") ≡ literal_until (Numeric (Some 1) 2) 2
+unfolding token_form prefix_of symbol
 before_sign = refl
 
-with_exponent : lexeme_at Standard true (codes "1e+5") ≡ literal (Numeric None 4) 4
-unfolding start opening symbol
+with_exponent : lexeme_at Standard true (codes "1e+5") ≡ literal_until (Numeric None 4) 4
+unfolding token_form prefix_of symbol
 with_exponent = refl
 
 -- a statement, a pair of psql, and a command that takes the `;`
 statement : EndsWithSemi (tokens Standard (codes "a;"))
-unfolding start opening symbol
+unfolding token_form prefix_of symbol
 statement = refl
 
 pair : EndsWithSemi (tokens Standard (codes "\\g x\\;"))
-unfolding start opening symbol
+unfolding token_form prefix_of symbol
 pair = refl
 
 command : tokens Standard (codes "\\echo x;") ≡ record { kind = PsqlCommand false; len = 8 } ∷ []
-unfolding start opening symbol
+unfolding token_form prefix_of symbol
 command = refl
 
 -- behind a `;`, U+FEFF is a letter
 mark_behind : length (tokens Standard (codes ";" ++ byte_order_mark ∷ codes "x")) ≡ 2
-unfolding start opening symbol
+unfolding token_form prefix_of symbol
 mark_behind = refl

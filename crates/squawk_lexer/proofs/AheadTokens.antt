@@ -7,15 +7,15 @@ use Rattle.squawk_lexer.specs.declared.token.LiteralKind.{LiteralKind}
 use Rattle.squawk_lexer.specs.declared.token.LiteralKind.TheVariants.{Str, NationalStr, BitStr, ByteStr, UnicodeEscStr, EscStr}
 use Rattle.squawk_lexer.specs.declared.token.TokenKind.TheVariants as kinds
 use Rattle.squawk_lexer.specs.declared.token.Strings.{Strings}
-use Rattle.squawk_lexer.specs.declared.lexer.Start.{Start}
-use Rattle.squawk_lexer.specs.declared.lexer.Start.TheVariants.{White, LineComment, BlockComment, String, QuotedIdent, Word, Dollar, Number, DotDot, Fraction, Psql, Symbol}
-use Rattle.squawk_lexer.specs.declared.word.Opening.{Opening}
-use Rattle.squawk_lexer.specs.declared.word.Opening.TheVariants.{National, Bit, Byte, Escape, UnicodeString, UnicodeIdent, Plain}
-use Rattle.squawk_lexer.specs.Kind.{Lexeme, lexeme}
-use Rattle.squawk_lexer.specs.Text.{bytes}
-use Rattle.squawk_lexer.specs.Classes.{is_white, is_id_cont, is_not_line_end, apostrophe, quotation_mark, byte_order_mark}
+use Rattle.squawk_lexer.specs.declared.lexer.TokenForm.{TokenForm}
+use Rattle.squawk_lexer.specs.declared.lexer.TokenForm.TheVariants.{Whitespace, LineComment, BlockComment, String, QuotedIdent, Word, Dollar, Number, DotDot, Fraction, Psql, Symbol}
+use Rattle.squawk_lexer.specs.declared.word.StringPrefix.{StringPrefix}
+use Rattle.squawk_lexer.specs.declared.word.StringPrefix.TheVariants.{National, Bit, Byte, Escape, UnicodeString, UnicodeIdent, Plain}
+use Rattle.squawk_lexer.specs.Kind.{Lexeme, lexeme_until}
+use Rattle.squawk_lexer.specs.Text.{utf8_len}
+use Rattle.squawk_lexer.specs.Classes.{is_whitespace, is_ident_cont, is_not_line_end, apostrophe, quotation_mark, byte_order_mark}
 use Rattle.squawk_lexer.specs.Symbols.{symbol}
-use Rattle.squawk_lexer.specs.Token.{has_escapes, string, quoted_ident, is_letter, start, opening, opened, begun, lexeme_of, lexeme_at, token_at}
+use Rattle.squawk_lexer.specs.Token.{has_escapes, string, quoted_ident, is_letter, token_form, prefix_of, lexeme_of_prefix, lexeme_of_form, lexeme_of, lexeme_at, token_at}
 use Rattle.squawk_lexer.specs.LookAhead.{Agrees, LexemesLookAhead, TokensLookAhead}
 use Rattle.squawk_lexer.proofs.TokenLaws.{lexeme_at_some}
 use Rattle.squawk_lexer.proofs.Ahead.{pick, agrees_right, agrees_less, agrees_read, after, Alike, read, take_same, test, pair}
@@ -36,7 +36,7 @@ quoted_ident_same w uescape k u v i a h =
     rw (ends, found) refl
 
 -- what the first three characters open, by two tests of the second one and two of the second and the third
-abbrev opening_by : ℕ → Bool → Bool → Bool → Opening
+abbrev opening_by : ℕ → Bool → Bool → Bool → StringPrefix
 opening_by c quote string ident =
     cond (is_letter 110 c && quote) National
     (cond (is_letter 98 c && quote) Bit
@@ -45,11 +45,11 @@ opening_by c quote string ident =
     (cond (is_letter 117 c && string) UnicodeString
     (cond (is_letter 117 c && ident) UnicodeIdent Plain)))))
 
-opening_is : (c d e : ℕ) → opening c d e ≡ opening_by c (eqb d 39) (eqb d 38 && eqb e 39) (eqb d 38 && eqb e 34)
-unfolding opening
+opening_is : (c d e : ℕ) → prefix_of c d e ≡ opening_by c (eqb d 39) (eqb d 38 && eqb e 39) (eqb d 38 && eqb e 34)
+unfolding prefix_of
 opening_is c d e = rw (and_assoc (is_letter 117 c) (eqb d 38) (eqb e 39), and_assoc (is_letter 117 c) (eqb d 38) (eqb e 34)) refl
 
-opening_same : {told : (ℕ → Bool) → Type 0} {pairs : (ℕ → Bool) → (ℕ → Bool) → Type 0} → Asks told pairs → (k : ℕ) (u v : List ℕ) → Alike told pairs k u v → 1 ≤ k → opening (get_or v 0 0) (get_or v 1 0) (get_or v 2 0) ≡ opening (get_or u 0 0) (get_or u 1 0) (get_or u 2 0)
+opening_same : {told : (ℕ → Bool) → Type 0} {pairs : (ℕ → Bool) → (ℕ → Bool) → Type 0} → Asks told pairs → (k : ℕ) (u v : List ℕ) → Alike told pairs k u v → 1 ≤ k → prefix_of (get_or v 0 0) (get_or v 1 0) (get_or v 2 0) ≡ prefix_of (get_or u 0 0) (get_or u 1 0) (get_or u 2 0)
 opening_same w k u v a some =
     let first : get_or v 0 0 ≡ get_or u 0 0 = read k u v 0 a (omega arith) in
     let quote = test (λ c. eqb c 39) w.apostrophe k u v 1 a some in
@@ -62,20 +62,20 @@ opening_same w k u v a some =
     ∙ ap (opening_by (get_or u 0 0) (eqb (get_or u 1 0) 39) (eqb (get_or u 1 0) 38 && eqb (get_or u 2 0) 39)) ident
     ∙ sym (opening_is (get_or u 0 0) (get_or u 1 0) (get_or u 2 0))
 
-opened_same : {told : (ℕ → Bool) → Type 0} {pairs : (ℕ → Bool) → (ℕ → Bool) → Type 0} → Asks told pairs → (s : Opening) (k : ℕ) (u v : List ℕ) → Alike told pairs k u v → (opened s u).end ≤ k → opened s v ≡ opened s u
+opened_same : {told : (ℕ → Bool) → Type 0} {pairs : (ℕ → Bool) → (ℕ → Bool) → Type 0} → Asks told pairs → (s : StringPrefix) (k : ℕ) (u v : List ℕ) → Alike told pairs k u v → (lexeme_of_prefix s u).end ≤ k → lexeme_of_prefix s v ≡ lexeme_of_prefix s u
 opened_same w National k u v a h = string_same w NationalStr false k u v 2 a h
 opened_same w Bit k u v a h = string_same w BitStr false k u v 2 a h
 opened_same w Byte k u v a h = string_same w ByteStr false k u v 2 a h
 opened_same w Escape k u v a h = string_same w EscStr true k u v 2 a h
 opened_same w UnicodeString k u v a h = string_same w UnicodeEscStr false k u v 3 a h
 opened_same w UnicodeIdent k u v a h = quoted_ident_same w true k u v 3 a h
-opened_same w Plain k u v a h = ap (lexeme kinds.Ident) (run_same is_id_cont w.id_cont k u v 1 a h)
+opened_same w Plain k u v a h = ap (lexeme_until kinds.Ident) (run_same is_ident_cont w.id_cont k u v 1 a h)
 
 -- ---- every row
 
 -- the tests that a row does on what follows its token
-abbrev pub AsksOf : ((ℕ → Bool) → Type 0) → ((ℕ → Bool) → (ℕ → Bool) → Type 0) → Start → Type 0
-AsksOf told pairs White = told is_white
+abbrev pub AsksOf : ((ℕ → Bool) → Type 0) → ((ℕ → Bool) → (ℕ → Bool) → Type 0) → TokenForm → Type 0
+AsksOf told pairs Whitespace = told is_whitespace
 AsksOf told pairs LineComment = told is_not_line_end
 AsksOf told pairs BlockComment = ⊤
 AsksOf told pairs Psql = AsksPsql told
@@ -83,34 +83,34 @@ AsksOf told pairs DotDot = ⊤
 AsksOf told pairs Symbol = ⊤
 AsksOf told pairs _ = Asks told pairs
 
-pub begun_same : {told : (ℕ → Bool) → Type 0} {pairs : (ℕ → Bool) → (ℕ → Bool) → Type 0} (strings : Strings) (s : Start) → AsksOf told pairs s → (k : ℕ) (u v : List ℕ) → Alike told pairs k u v → 1 ≤ k → (begun strings s u).end ≤ k → begun strings s v ≡ begun strings s u
-begun_same strings White w k u v a some h = ap (lexeme kinds.Whitespace) (run_same is_white w k u v 0 a h)
-begun_same strings LineComment w k u v a some h = ap (lexeme kinds.LineComment) (run_same is_not_line_end w k u v 2 a h)
+pub begun_same : {told : (ℕ → Bool) → Type 0} {pairs : (ℕ → Bool) → (ℕ → Bool) → Type 0} (strings : Strings) (s : TokenForm) → AsksOf told pairs s → (k : ℕ) (u v : List ℕ) → Alike told pairs k u v → 1 ≤ k → (lexeme_of_form strings s u).end ≤ k → lexeme_of_form strings s v ≡ lexeme_of_form strings s u
+begun_same strings Whitespace w k u v a some h = ap (lexeme_until kinds.Whitespace) (run_same is_whitespace w k u v 0 a h)
+begun_same strings LineComment w k u v a some h = ap (lexeme_until kinds.LineComment) (run_same is_not_line_end w k u v 2 a h)
 begun_same strings BlockComment w k u v a some h =
     let (found, ends) = comment_same 0 k u v 2 a h in
     rw (ends, found) refl
 begun_same strings String w k u v a some h = string_same w Str (has_escapes strings) k u v 1 a h
 begun_same strings QuotedIdent w k u v a some h = quoted_ident_same w false k u v 1 a h
 begun_same strings Word w k u v a some h =
-    ap (λ s. opened s v) (opening_same w k u v a some) ∙ opened_same w (opening (get_or u 0 0) (get_or u 1 0) (get_or u 2 0)) k u v a h
+    ap (λ s. lexeme_of_prefix s v) (opening_same w k u v a some) ∙ opened_same w (prefix_of (get_or u 0 0) (get_or u 1 0) (get_or u 2 0)) k u v a h
 begun_same strings Dollar w k u v a some h = dollar_same w k u v a some h
 begun_same strings Number w k u v a some h = number_same w k u v a h
 begun_same strings DotDot w k u v a some h = refl
 begun_same strings Fraction w k u v a some h = fractional_same w k u v 1 a h
 begun_same strings Psql w k u v a some h = psql_same w k u v a h
-begun_same strings Symbol w k u v a some h = ap (λ c. lexeme (symbol c) 1) (read k u v 0 a (omega arith))
+begun_same strings Symbol w k u v a some h = ap (λ c. lexeme_until (symbol c) 1) (read k u v 0 a (omega arith))
 
 -- the row that a text begins with
-abbrev pub row : List ℕ → Start
-row u = start (get_or u 0 0) (get_or u 1 0)
+abbrev pub row : List ℕ → TokenForm
+row u = token_form (get_or u 0 0) (get_or u 1 0)
 
 -- a token is the same in texts that are alike up to its end
 pub lexeme_same : {told : (ℕ → Bool) → Type 0} {pairs : (ℕ → Bool) → (ℕ → Bool) → Type 0} (strings : Strings) (s : Bool) (k : ℕ) (u v : List ℕ) → Alike told pairs k u v → row v ≡ row u → AsksOf told pairs (row u) → (lexeme_at strings s u).end ≡ k
     → lexeme_at strings s v ≡ lexeme_at strings s u
 lexeme_same strings s k u v a rows w e =
-    pick (λ (x : Lexeme). x.end) _ _ (lexeme kinds.Whitespace 1) (lexeme_of strings u) (lexeme kinds.Whitespace 1) (lexeme_of strings v) k
+    pick (λ (x : Lexeme). x.end) _ _ (lexeme_until kinds.Whitespace 1) (lexeme_of strings u) (lexeme_until kinds.Whitespace 1) (lexeme_of strings v) k
     (ap (λ c. s && eqb c byte_order_mark) first) (λ t h. refl)
-    (λ t h. ap (λ x. begun strings x v) rows ∙ begun_same strings (row u) w k u v a some h) (omega (arith, e))
+    (λ t h. ap (λ x. lexeme_of_form strings x v) rows ∙ begun_same strings (row u) w k u v a some h) (omega (arith, e))
   where
     within : k < length u
     within = a.left
@@ -122,11 +122,11 @@ lexeme_same strings s k u v a rows w e =
     first = read k u v 0 a some
 
 abbrev pub token_from : Lexeme → List ℕ → Token
-token_from x u = record { kind = x.kind; len = bytes (take x.end u) }
+token_from x u = record { kind = x.kind; len = utf8_len (take x.end u) }
 
 -- and its bytes are the same
 pub token_of : {told : (ℕ → Bool) → Type 0} {pairs : (ℕ → Bool) → (ℕ → Bool) → Type 0} (strings : Strings) (s : Bool) (k : ℕ) (u v : List ℕ) → Alike told pairs k u v → (lexeme_at strings s u).end ≡ k → lexeme_at strings s v ≡ lexeme_at strings s u → token_at strings s v ≡ token_at strings s u
-token_of strings s k u v a e same = ap (λ x. token_from x v) same ∙ ap (λ w. record { kind = (lexeme_at strings s u).kind; len = bytes w }) (take_same k u v (lexeme_at strings s u).end a (omega (arith, e)))
+token_of strings s k u v a e same = ap (λ x. token_from x v) same ∙ ap (λ w. record { kind = (lexeme_at strings s u).kind; len = utf8_len w }) (take_same k u v (lexeme_at strings s u).end a (omega (arith, e)))
 
 -- ---- texts whose next character is the same: every test says the same of it
 
@@ -157,8 +157,8 @@ any = record {
   and_ident = refl;
 }
 
-asks_any : (s : Start) → AsksOf Any PastSemi s
-asks_any White = tt
+asks_any : (s : TokenForm) → AsksOf Any PastSemi s
+asks_any Whitespace = tt
 asks_any LineComment = tt
 asks_any BlockComment = tt
 asks_any Psql = record { line_end = tt; not_line_end = tt; blank = tt; command_word = tt; ends = tt; other = λ x e. tt }
@@ -196,7 +196,7 @@ pub lexeme_next : (strings : Strings) (s : Bool) (k : ℕ) (u v : List ℕ) → 
 lexeme_next strings s k u v a more e =
     let within : k + 1 ≤ length u = a.within in
     let some : 1 ≤ k = omega (arith, lexeme_at_some strings s u (omega arith), e) in
-    let rows : row v ≡ row u = ap (λ c. start c (get_or v 1 0)) (agrees_read (k + 1) u v 0 a (omega arith)) ∙ ap (start (get_or u 0 0)) (agrees_read (k + 1) u v 1 a (omega arith)) in
+    let rows : row v ≡ row u = ap (λ c. token_form c (get_or v 1 0)) (agrees_read (k + 1) u v 0 a (omega arith)) ∙ ap (token_form (get_or u 0 0)) (agrees_read (k + 1) u v 1 a (omega arith)) in
     lexeme_same strings s k u v (alike_next k u v a more) rows (asks_any (row u)) e
 
 -- ---- the laws

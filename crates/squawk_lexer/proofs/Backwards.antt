@@ -8,7 +8,7 @@ use Rattle.std.specs.Option.{MatchOption}
 use Rattle.std.specs.Str.{chars, encode_utf8_all, IsCharBoundary}
 use Rattle.std.specs.Char.{encode_utf8}
 use Rattle.std.specs.declared.str.Chars.{Chars}
-use Rattle.squawk_lexer.specs.Bytes.{lead}
+use Rattle.squawk_lexer.specs.Bytes.{first_byte}
 use Rattle.squawk_lexer.proofs.Chars.{none_left}
 use Rattle.squawk_lexer.proofs.ByteRuns.{some_bytes}
 use Rattle.squawk_lexer.proofs.ByteReads.{lead_first}
@@ -25,8 +25,8 @@ is_small : (c : ℕ) → ltb c 128 ≡ true → c < 128
 is_small c t = grind (arith, nat_tests)
 
 -- no character begins with a byte that goes on
-lead_big : (c : ℕ) → 128 ≤ lead c → 192 ≤ lead c
-unfolding lead encode_utf8
+lead_big : (c : ℕ) → 128 ≤ first_byte c → 192 ≤ first_byte c
+unfolding first_byte encode_utf8
 lead_big c big =
     pick (ltb c 128) (ltb c 2048) (ltb c 65536) c (192 + c / 64) (224 + c / 4096) (240 + c / 262144) _ _ _ (is_small c) (omega arith) (omega arith) (omega arith) big
 
@@ -34,7 +34,7 @@ last_boundary : (bs r : List ℕ) (c : ℕ) → bs ≡ r ++ encode_utf8 c → Is
 last_boundary bs r c e =
     let all : length bs ≡ length r + length (encode_utf8 c) = ap length e ∙ length-append r (encode_utf8 c) in
     let none : length r - length r ≡ 0 = omega arith in
-    let read : get_or bs (length r) 0 ≡ lead c =
+    let read : get_or bs (length r) 0 ≡ first_byte c =
     ap (λ x. get_or x (length r) 0) e ∙ get_or-append_right r (encode_utf8 c) (length r) 0 (omega arith) ∙ rw none (sym (ap (λ x. get_or x 0 0) (append-nil (encode_utf8 c))) ∙ lead_first c []) in
     (omega arith, λ _ h. rw read (lead_big c (rw read at h)))
 

@@ -6,9 +6,9 @@ use Rattle.std.proofs.lemmas.Bool.{cases_eq}
 use Rattle.std.proofs.lemmas.Bool.Decides.{nat_tests}
 use Rattle.squawk_lexer.specs.declared.scan.TheConstants.{ID_CONT}
 use Rattle.squawk_lexer.specs.declared.classes.Class.{Class}
-use Rattle.squawk_lexer.specs.declared.classes.Class.TheVariants.{White, Blank, IdCont, Digit, NotLineEnd, TagCont, CommandWord}
-use Rattle.squawk_lexer.specs.Classes.{class_test, is_id_cont}
-use Rattle.squawk_lexer.specs.Bytes.{HasIdCont}
+use Rattle.squawk_lexer.specs.declared.classes.Class.TheVariants.{Whitespace, Blank, IdentCont, Digit, NotLineEnd, TagCont, CommandChar}
+use Rattle.squawk_lexer.specs.Classes.{class_test, is_ident_cont}
+use Rattle.squawk_lexer.specs.Bytes.{HasIdentCont}
 use Rattle.squawk_lexer.proofs.ByteRuns.{Flat}
 
 -- ---- the table
@@ -32,23 +32,23 @@ agree_at f g (suc n) h b lt =
     elim (cases_eq b n) [ inl same ↦ rw same both.0 | inr other ↦ agree_at f g n both.1 b (omega arith) ]
 
 from_table : (table : List ℕ) (b : ℕ) → b < 256
-    → agree_below (λ k. not (eqb (get_or table k 0) 44)) is_id_cont 256 ≡ true
-    → not (eqb (get_or table b 0) 44) ≡ is_id_cont b
+    → agree_below (λ k. not (eqb (get_or table k 0) 44)) is_ident_cont 256 ≡ true
+    → not (eqb (get_or table b 0) 44) ≡ is_ident_cont b
 from_table table b lt h = agree_at _ _ 256 h b lt
 
-pub HasIdCont-ID_CONT : HasIdCont ID_CONT
+pub HasIdCont-ID_CONT : HasIdentCont ID_CONT
 unfolding agree_below
 HasIdCont-ID_CONT = record { len = refl; each = λ b lt. from_table ID_CONT b lt refl }
 
 -- ---- flat classes
 
-flat_white : Flat (class_test White)
+flat_white : Flat (class_test Whitespace)
 flat_white b c p q = grind (arith, nat_tests)
 
 flat_blank : Flat (class_test Blank)
 flat_blank b c p q = grind (arith, nat_tests)
 
-flat_id_cont : Flat (class_test IdCont)
+flat_id_cont : Flat (class_test IdentCont)
 flat_id_cont b c p q = grind (arith, nat_tests)
 
 flat_digit : Flat (class_test Digit)
@@ -60,14 +60,14 @@ flat_line b c p q = grind (arith, nat_tests)
 flat_tag : Flat (class_test TagCont)
 flat_tag b c p q = grind (arith, nat_tests)
 
-flat_word : Flat (class_test CommandWord)
+flat_word : Flat (class_test CommandChar)
 flat_word b c p q = grind (arith, nat_tests)
 
 pub flat_class : (class : Class) → Flat (class_test class)
-flat_class White = flat_white
+flat_class Whitespace = flat_white
 flat_class Blank = flat_blank
-flat_class IdCont = flat_id_cont
+flat_class IdentCont = flat_id_cont
 flat_class Digit = flat_digit
 flat_class NotLineEnd = flat_line
 flat_class TagCont = flat_tag
-flat_class CommandWord = flat_word
+flat_class CommandChar = flat_word

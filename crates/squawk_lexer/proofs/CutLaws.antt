@@ -8,7 +8,7 @@ use Rattle.std.proofs.Math.Utf8.{scalar, scalars}
 use Rattle.std.specs.Str.{chars, encode_utf8_all, IsCharBoundary}
 use Rattle.squawk_lexer.specs.declared.token.Token.{Token}
 use Rattle.squawk_lexer.specs.declared.token.Strings.{Strings}
-use Rattle.squawk_lexer.specs.Text.{bytes}
+use Rattle.squawk_lexer.specs.Text.{utf8_len}
 use Rattle.squawk_lexer.specs.Token.{lexeme_at, token_at}
 use Rattle.squawk_lexer.specs.Cut.{tokens_from, Tiles}
 use Rattle.squawk_lexer.proofs.Chars.{length-encodes, length-bytes, bytes_none}
@@ -57,23 +57,23 @@ scalars_drop (suc n) (c ∷ cs) e = scalars_drop n cs (second (scalar c) (scalar
 
 -- a text, cut behind its first n characters
 pub record IsCut (bs : List ℕ) (n : ℕ) : Type 0 where
-  pub utf8 : IsUtf8 (drop (bytes (take n (chars bs))) bs)
-  pub rest : chars (drop (bytes (take n (chars bs))) bs) ≡ drop n (chars bs)
-  pub boundary : IsCharBoundary bs (bytes (take n (chars bs)))
+  pub utf8 : IsUtf8 (drop (utf8_len (take n (chars bs))) bs)
+  pub rest : chars (drop (utf8_len (take n (chars bs))) bs) ≡ drop n (chars bs)
+  pub boundary : IsCharBoundary bs (utf8_len (take n (chars bs)))
 
 pub cut_behind : (bs : List ℕ) (n : ℕ) → IsUtf8 bs → IsCut bs n
 cut_behind bs n utf8 =
     let front = take n (chars bs) in
     let back = drop n (chars bs) in
     let both : bs ≡ encode_utf8_all front ++ encode_utf8_all back = sym (encodes-chars bs utf8) ∙ ap encode_utf8_all (sym (take-append-drop n (chars bs))) ∙ encodes-append front back in
-    let len : length (encode_utf8_all front) ≡ bytes front = length-encodes front in
+    let len : length (encode_utf8_all front) ≡ utf8_len front = length-encodes front in
     let back_utf8 : IsUtf8 (encode_utf8_all back) = (back, (scalars_drop n (chars bs) (scalars-chars bs utf8), refl)) in
-    let same : drop (bytes front) bs ≡ encode_utf8_all back =
+    let same : drop (utf8_len front) bs ≡ encode_utf8_all back =
     ap (λ m. drop m bs) (sym len) ∙ ap (drop (length (encode_utf8_all front))) both ∙ drop-append_seam (encode_utf8_all front) (encode_utf8_all back) in
-    let rest_utf8 : IsUtf8 (drop (bytes front) bs) = subst IsUtf8 (sym same) back_utf8 in
+    let rest_utf8 : IsUtf8 (drop (utf8_len front) bs) = subst IsUtf8 (sym same) back_utf8 in
     record {
       utf8 = rest_utf8;
-      rest = sym (chars_from_encodes back (drop (bytes front) bs) rest_utf8 (sym same));
+      rest = sym (chars_from_encodes back (drop (utf8_len front) bs) rest_utf8 (sym same));
       boundary = subst (IsCharBoundary bs) len (IsCharBoundary-at_seam bs (encode_utf8_all front) (encode_utf8_all back) both back_utf8);
     }
 
@@ -98,7 +98,7 @@ token_then strings s text at utf8 some = rw (behind_token strings s text at utf8
 tiles_end : (strings : Strings) (s : Bool) (text : List ℕ) (at : ℕ) → at ≤ length text → IsUtf8 (drop at text)
     → length (chars (drop at text)) ≡ 0 → Tiles text at (tokens_from strings 0 s (chars (drop at text)))
 tiles_end strings s text at within utf8 none =
-    let bytes_none : bytes (chars (drop at text)) ≡ 0 = bytes_none (chars (drop at text)) none in
+    let bytes_none : utf8_len (chars (drop at text)) ≡ 0 = bytes_none (chars (drop at text)) none in
     let len = length-bytes (drop at text) (is_utf8-from_IsUtf8 (drop at text) utf8) in
     rw (tokens_none strings s (chars (drop at text)) none) (omega (arith, len, length-drop at text, within))
 

@@ -6,8 +6,8 @@ use Rattle.std.proofs.lemmas.List.Sums.{sum_by-cons}
 use Rattle.std.proofs.lemmas.Str.{encode_ascii, encodes-chars, IsUtf8-from_is_utf8, len_utf8_ascii}
 use Rattle.std.specs.Str.{chars, encode_utf8_all}
 use Rattle.std.specs.Char.{encode_utf8, len_utf8}
-use Rattle.squawk_lexer.specs.Text.{bytes}
-use Rattle.squawk_lexer.specs.Bytes.{lead}
+use Rattle.squawk_lexer.specs.Text.{utf8_len}
+use Rattle.squawk_lexer.specs.Bytes.{first_byte}
 use Rattle.squawk_lexer.specs.Classes.{is_digit, is_hex_digit}
 use Rattle.squawk_lexer.specs.Runs.{digits_len}
 use Rattle.squawk_lexer.specs.CursorModel.{IsRest, chars_before}
@@ -27,12 +27,12 @@ low_hex c h = grind (arith, nat_tests)
 next_same : (digit : ℕ → Bool) → Low digit → (cs : List ℕ) → digit (get_or (encode_utf8_all cs) 0 0) ≡ digit (get_or cs 0 0)
 next_same digit low cs = by (cases_lt (get_or cs 0 0) 128)
   where
-    read : get_or (encode_utf8_all cs) 0 0 ≡ lead (get_or cs 0 0)
+    read : get_or (encode_utf8_all cs) 0 0 ≡ first_byte (get_or cs 0 0)
     read = read_ahead 0 cs (λ j h. absurd (omega arith))
 
     by : (get_or cs 0 0 < 128) ⊎ (128 ≤ get_or cs 0 0) → digit (get_or (encode_utf8_all cs) 0 0) ≡ digit (get_or cs 0 0)
     by (inl small) = ap digit (read ∙ lead_ascii (get_or cs 0 0) small)
-    by (inr big) = ap digit read ∙ low (lead (get_or cs 0 0)) (lead_high (get_or cs 0 0) big) ∙ sym (low (get_or cs 0 0) big)
+    by (inr big) = ap digit read ∙ low (first_byte (get_or cs 0 0)) (lead_high (get_or cs 0 0) big) ∙ sym (low (get_or cs 0 0) big)
 
 none_first : (digit : ℕ → Bool) → Low digit → (bs : List ℕ) → 128 ≤ get_or bs 0 0 → digits_len digit bs ≡ 0
 none_first digit low [] h = refl
@@ -49,16 +49,16 @@ within digit (c ∷ cs) = each (digit c || (eqb c 95 && digit (get_or cs 0 0))) 
     each false h = omega arith
 
 -- as many bytes as characters, and each takes one
-digit_bytes : (digit : ℕ → Bool) → Low digit → (cs : List ℕ) → (digits_len digit (encode_utf8_all cs) ≡ digits_len digit cs) × (bytes (take (digits_len digit cs) cs) ≡ digits_len digit cs)
+digit_bytes : (digit : ℕ → Bool) → Low digit → (cs : List ℕ) → (digits_len digit (encode_utf8_all cs) ≡ digits_len digit cs) × (utf8_len (take (digits_len digit cs) cs) ≡ digits_len digit cs)
 digit_bytes digit low [] = (refl, refl)
 digit_bytes digit low (c ∷ cs) = by (cases_lt c 128) (digit_bytes digit low cs)
   where
-    by : (c < 128) ⊎ (128 ≤ c) → (digits_len digit (encode_utf8_all cs) ≡ digits_len digit cs) × (bytes (take (digits_len digit cs) cs) ≡ digits_len digit cs)
-        → (digits_len digit (encode_utf8_all (c ∷ cs)) ≡ digits_len digit (c ∷ cs)) × (bytes (take (digits_len digit (c ∷ cs)) (c ∷ cs)) ≡ digits_len digit (c ∷ cs))
+    by : (c < 128) ⊎ (128 ≤ c) → (digits_len digit (encode_utf8_all cs) ≡ digits_len digit cs) × (utf8_len (take (digits_len digit cs) cs) ≡ digits_len digit cs)
+        → (digits_len digit (encode_utf8_all (c ∷ cs)) ≡ digits_len digit (c ∷ cs)) × (utf8_len (take (digits_len digit (c ∷ cs)) (c ∷ cs)) ≡ digits_len digit (c ∷ cs))
     by (inl small) more =
         rw (encode_ascii c small, next_same digit low cs, more.0) (refl, each (digit c || (eqb c 95 && digit (get_or cs 0 0))) more.1)
       where
-        each : (b : Bool) → bytes (take (digits_len digit cs) cs) ≡ digits_len digit cs → bytes (take (cond b (1 + digits_len digit cs) 0) (c ∷ cs)) ≡ cond b (1 + digits_len digit cs) 0
+        each : (b : Bool) → utf8_len (take (digits_len digit cs) cs) ≡ digits_len digit cs → utf8_len (take (cond b (1 + digits_len digit cs) 0) (c ∷ cs)) ≡ cond b (1 + digits_len digit cs) 0
         each true m =
             let next : 1 + digits_len digit cs ≡ suc (digits_len digit cs) = omega arith in
             rw next (omega (arith, m, sum_by-cons len_utf8 c (take (digits_len digit cs) cs), len_utf8_ascii c small))
@@ -75,7 +75,7 @@ passed_digits digit low token rest bs n r len same =
     let cs = chars rest in
     let rest_is : rest ≡ encode_utf8_all cs = sym (encodes-chars rest (IsUtf8-from_is_utf8 rest r.rest_utf8)) in
     let d = digit_bytes digit low cs in
-    let count : bytes (take (digits_len digit cs) cs) ≡ n = d.1 ∙ sym d.0 ∙ ap (digits_len digit) (sym rest_is) ∙ ap (digits_len digit) (sym same) ∙ sym len in
+    let count : utf8_len (take (digits_len digit cs) cs) ≡ n = d.1 ∙ sym d.0 ∙ ap (digits_len digit) (sym rest_is) ∙ ap (digits_len digit) (sym same) ∙ sym len in
     rw (← count, ← r.is) (skip token rest (digits_len digit cs) r (within digit cs))
 
 -- and some were passed exactly where there are some

@@ -2,14 +2,14 @@
 use Rattle.std.proofs.Common.{◌≡◌, ℕ, zero, suc, ◌+◌, ◌-◌, ◌<◌, ◌≤◌, Bool, true, false, List, [], ◌∷◌, length, drop, Option, Some, None, nat_eq, refl, arith}
 use Rattle.std.specs.List.{starts_with}
 use Rattle.squawk_lexer.specs.Dollar.{find_end}
-use Rattle.squawk_lexer.specs.Laws.{IsFirst}
+use Rattle.squawk_lexer.specs.Laws.{IsFirstOccurrence}
 
-pub found : (d v : List ℕ) (n : ℕ) → find_end d v ≡ Some n → (length d ≤ n) × IsFirst d v (n - length d)
+pub found : (d v : List ℕ) (n : ℕ) → find_end d v ≡ Some n → (length d ≤ n) × IsFirstOccurrence d v (n - length d)
 found d [] n e = absurd (cc)
 found d (c ∷ v) n e = by (starts_with nat_eq (c ∷ v) d) refl (find_end d v) refl (λ m h. found d v m h)
   where
     by : (b : Bool) → starts_with nat_eq (c ∷ v) d ≡ b → (o : Option ℕ) → find_end d v ≡ o
-        → ((m : ℕ) → find_end d v ≡ Some m → (length d ≤ m) × IsFirst d v (m - length d)) → (length d ≤ n) × IsFirst d (c ∷ v) (n - length d)
+        → ((m : ℕ) → find_end d v ≡ Some m → (length d ≤ m) × IsFirstOccurrence d v (m - length d)) → (length d ≤ n) × IsFirstOccurrence d (c ∷ v) (n - length d)
     by true t o f more =
         let here = rw t at e in
         let n_is : length d ≡ n = cc in

@@ -1,13 +1,13 @@
 -- Worked rows of what a `$` begins, computed by its definition.
 use Rattle.std.proofs.Common.{◌≡◌, ℕ, Bool, true, false, refl, codes}
-use Rattle.squawk_lexer.specs.Kind.{Lexeme, lexeme, literal}
+use Rattle.squawk_lexer.specs.Kind.{Lexeme, lexeme_until, literal_until}
 use Rattle.squawk_lexer.specs.declared.token.TokenKind.TheVariants.{PositionalParam}
 use Rattle.squawk_lexer.specs.declared.token.LiteralKind.TheVariants.{DollarQuotedString}
 use Rattle.squawk_lexer.specs.Dollar.{dollar}
 
 -- a dollar string, whether it is terminated, and its end
 string : Bool → ℕ → Lexeme
-string terminated end = literal (DollarQuotedString terminated) end
+string terminated end = literal_until (DollarQuotedString terminated) end
 
 two_delimiters : dollar (codes "$$$$") ≡ string true 4
 unfolding string
@@ -34,14 +34,14 @@ longer_tag : dollar (codes "$a$ $ab$ $a $a$ x") ≡ string true 15
 unfolding string
 longer_tag = refl
 
-digit_behind : dollar (codes "$1$") ≡ lexeme (PositionalParam 2) 2
+digit_behind : dollar (codes "$1$") ≡ lexeme_until (PositionalParam 2) 2
 digit_behind = refl
 
-junk_behind : dollar (codes "$x;") ≡ lexeme (PositionalParam 1) 2
+junk_behind : dollar (codes "$x;") ≡ lexeme_until (PositionalParam 1) 2
 junk_behind = refl
 
-lone : dollar (codes "$") ≡ lexeme (PositionalParam 1) 1
+lone : dollar (codes "$") ≡ lexeme_until (PositionalParam 1) 1
 lone = refl
 
-digits_and_junk : dollar (codes "$12a$b c") ≡ lexeme (PositionalParam 3) 6
+digits_and_junk : dollar (codes "$12a$b c") ≡ lexeme_until (PositionalParam 3) 6
 digits_and_junk = refl

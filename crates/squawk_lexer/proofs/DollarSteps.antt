@@ -3,12 +3,12 @@ use Rattle.std.proofs.Common.{◌≡◌, ℕ, suc, ◌+◌, Bool, true, false, �
 use Rattle.std.specs.List.{prefix_len}
 use Rattle.std.proofs.lemmas.Bool.Decides.{nat_tests}
 use Rattle.std.proofs.lemmas.Bool.{cases_eq}
-use Rattle.squawk_lexer.specs.Runs.{run, junk}
-use Rattle.squawk_lexer.specs.Text.{bytes}
-use Rattle.squawk_lexer.specs.Classes.{is_id_start, is_id_cont, is_digit, is_tag_cont, is_not_dollar}
-use Rattle.squawk_lexer.specs.Dollar.{tag_end, opens_dollar, dollar, dollar_string}
+use Rattle.squawk_lexer.specs.Runs.{run_end, junk_end}
+use Rattle.squawk_lexer.specs.Text.{utf8_len}
+use Rattle.squawk_lexer.specs.Classes.{is_ident_start, is_ident_cont, is_digit, is_tag_cont, is_not_dollar}
+use Rattle.squawk_lexer.specs.Dollar.{tag_end, is_dollar_quote_start, dollar, dollar_string}
 use Rattle.squawk_lexer.specs.Numbers.{parameter}
-use Rattle.squawk_lexer.specs.Kind.{lexeme}
+use Rattle.squawk_lexer.specs.Kind.{lexeme_until}
 use Rattle.squawk_lexer.specs.declared.token.TokenKind.TheVariants.{PositionalParam}
 use Rattle.squawk_lexer.proofs.Steps.{drop_some, drop_none, drop_read, drop_past, within_some, within_read, behind_some, behind_none, behind_within, behind_on, mapped, ne-eqb, behind_read}
 
@@ -28,47 +28,47 @@ pub ruleset delimiter_steps = (delimiter_first)
 -- ---- a parameter
 
 -- a tag that no `$` follows is the longest run of id-cont
-tag_is_run : (v : List ℕ) → (get_or v (prefix_len is_tag_cont v) 0 ≡ 36 → ⊥) → prefix_len is_id_cont v ≡ prefix_len is_tag_cont v
+tag_is_run : (v : List ℕ) → (get_or v (prefix_len is_tag_cont v) 0 ≡ 36 → ⊥) → prefix_len is_ident_cont v ≡ prefix_len is_tag_cont v
 tag_is_run [] n = refl
 tag_is_run (c ∷ v) n = by (cases_eq c 36) (λ k. tag_is_run v k)
   where
-    by : (c ≡ 36) ⊎ (c ≡ 36 → ⊥) → ((get_or v (prefix_len is_tag_cont v) 0 ≡ 36 → ⊥) → prefix_len is_id_cont v ≡ prefix_len is_tag_cont v)
-        → prefix_len is_id_cont (c ∷ v) ≡ prefix_len is_tag_cont (c ∷ v)
+    by : (c ≡ 36) ⊎ (c ≡ 36 → ⊥) → ((get_or v (prefix_len is_tag_cont v) 0 ≡ 36 → ⊥) → prefix_len is_ident_cont v ≡ prefix_len is_tag_cont v)
+        → prefix_len is_ident_cont (c ∷ v) ≡ prefix_len is_tag_cont (c ∷ v)
     by (inl e) more = absurd ((rw e at n) refl)
-    by (inr ne) more = each (is_id_cont c) (is_not_dollar c) (rw (ne-eqb c 36 ne) refl) n
+    by (inr ne) more = each (is_ident_cont c) (is_not_dollar c) (rw (ne-eqb c 36 ne) refl) n
       where
         each : (b t : Bool) → t ≡ true → (get_or (c ∷ v) (cond (b && t) (1 + prefix_len is_tag_cont v) 0) 0 ≡ 36 → ⊥)
-            → cond b (1 + prefix_len is_id_cont v) 0 ≡ cond (b && t) (1 + prefix_len is_tag_cont v) 0
+            → cond b (1 + prefix_len is_ident_cont v) 0 ≡ cond (b && t) (1 + prefix_len is_tag_cont v) 0
         each true true e m =
             let next : 1 + prefix_len is_tag_cont v ≡ suc (prefix_len is_tag_cont v) = omega arith in
             ap (λ k. 1 + k) (more (rw next at m))
         each true false e m = absurd (cc)
         each false t e m = refl
 
-no_digit : (c : ℕ) → is_id_start c ≡ true → is_digit c ≡ false
+no_digit : (c : ℕ) → is_ident_start c ≡ true → is_digit c ≡ false
 no_digit c e = grind (arith, nat_tests)
 
-pub opens : (u : List ℕ) (i : ℕ) → i ≡ tag_end u → get_or u i 0 ≡ 36 → (opens_dollar u ≡ true) × (dollar u ≡ dollar_string u)
-opens u i e here = let test : opens_dollar u ≡ true = rw (← e) (eq-eqb _ _ here) in (test, rw test refl)
+pub opens : (u : List ℕ) (i : ℕ) → i ≡ tag_end u → get_or u i 0 ≡ 36 → (is_dollar_quote_start u ≡ true) × (dollar u ≡ dollar_string u)
+opens u i e here = let test : is_dollar_quote_start u ≡ true = rw (← e) (eq-eqb _ _ here) in (test, rw test refl)
 
 opens_not : (u : List ℕ) (i : ℕ) → i ≡ tag_end u → (get_or u i 0 ≡ 36 → ⊥) → dollar u ≡ parameter u
-opens_not u i e other = let test : opens_dollar u ≡ false = rw (← e) (ne-eqb _ 36 other) in rw test refl
+opens_not u i e other = let test : is_dollar_quote_start u ≡ false = rw (← e) (ne-eqb _ 36 other) in rw test refl
 
-pub no_tag : (u : List ℕ) (i : ℕ) → is_id_start (get_or u 1 0) ≡ false → i ≡ tag_end u → (get_or u i 0 ≡ 36 → ⊥) → (dollar u ≡ parameter u) × (i ≡ 1)
+pub no_tag : (u : List ℕ) (i : ℕ) → is_ident_start (get_or u 1 0) ≡ false → i ≡ tag_end u → (get_or u i 0 ≡ 36 → ⊥) → (dollar u ≡ parameter u) × (i ≡ 1)
 no_tag u i none e other = (opens_not u i e other, e ∙ rw none refl)
 
-pub junk_tag : (u : List ℕ) (i : ℕ) → get_or u 0 0 ≡ 36 → is_id_start (get_or u 1 0) ≡ true → i ≡ tag_end u → (get_or u i 0 ≡ 36 → ⊥) → lexeme (PositionalParam 1) i ≡ dollar u
+pub junk_tag : (u : List ℕ) (i : ℕ) → get_or u 0 0 ≡ 36 → is_ident_start (get_or u 1 0) ≡ true → i ≡ tag_end u → (get_or u i 0 ≡ 36 → ⊥) → lexeme_until (PositionalParam 1) i ≡ dollar u
 junk_tag [] i first tag e other = absurd (omega arith)
 junk_tag (c ∷ []) i first tag e other = absurd (grind (arith, nat_tests))
 junk_tag (c ∷ x ∷ v) i first tag e other =
     let u = c ∷ x ∷ v in
     let i_is : i ≡ 1 + prefix_len is_tag_cont (x ∷ v) = e ∙ ap (λ b. cond b (1 + prefix_len is_tag_cont (x ∷ v)) 1) tag in
     let next : i ≡ suc (prefix_len is_tag_cont (x ∷ v)) = omega arith in
-    let run_is : prefix_len is_id_cont (x ∷ v) ≡ prefix_len is_tag_cont (x ∷ v) = tag_is_run (x ∷ v) (rw next at other) in
-    let digits : run is_digit u 1 ≡ 1 = ap (λ b. 1 + cond b (1 + prefix_len is_digit v) 0) (no_digit x tag) in
-    let one : bytes (take 1 u) ≡ 1 = ap (λ y. bytes (take 1 (y ∷ x ∷ v))) first in
-    let end : junk u 1 ≡ i = ap (λ b. cond b (1 + prefix_len is_id_cont (x ∷ v)) 1) tag ∙ omega arith in
-    let param_is : parameter u ≡ lexeme (PositionalParam 1) i = ap (λ k. lexeme (PositionalParam (bytes (take k u))) (junk u k)) digits ∙ rw (one, end) refl in
+    let run_is : prefix_len is_ident_cont (x ∷ v) ≡ prefix_len is_tag_cont (x ∷ v) = tag_is_run (x ∷ v) (rw next at other) in
+    let digits : run_end is_digit u 1 ≡ 1 = ap (λ b. 1 + cond b (1 + prefix_len is_digit v) 0) (no_digit x tag) in
+    let one : utf8_len (take 1 u) ≡ 1 = ap (λ y. utf8_len (take 1 (y ∷ x ∷ v))) first in
+    let end : junk_end u 1 ≡ i = ap (λ b. cond b (1 + prefix_len is_ident_cont (x ∷ v)) 1) tag ∙ omega arith in
+    let param_is : parameter u ≡ lexeme_until (PositionalParam 1) i = ap (λ k. lexeme_until (PositionalParam (utf8_len (take k u))) (junk_end u k)) digits ∙ rw (one, end) refl in
     sym (opens_not u i e other ∙ param_is)
 
 pub ruleset dollar_steps = (opens, no_tag, junk_tag, behind_read, nat_tests)

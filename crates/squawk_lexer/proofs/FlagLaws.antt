@@ -9,20 +9,20 @@ use Rattle.squawk_lexer.specs.declared.token.Strings.{Strings}
 use Rattle.squawk_lexer.specs.declared.token.Base.TheVariants.{Binary, Octal, Decimal, Hexadecimal}
 use Rattle.squawk_lexer.specs.declared.token.TokenKind.{TokenKind}
 use Rattle.squawk_lexer.specs.declared.token.TokenKind.TheVariants as kinds
-use Rattle.squawk_lexer.specs.declared.lexer.Start.{Start}
-use Rattle.squawk_lexer.specs.declared.lexer.Start.TheVariants.{White, LineComment, BlockComment, String, QuotedIdent, Word, Dollar, Number, DotDot, Fraction, Psql, Symbol}
-use Rattle.squawk_lexer.specs.declared.word.Opening.{Opening}
-use Rattle.squawk_lexer.specs.declared.word.Opening.TheVariants.{National, Bit, Byte, Escape, UnicodeString, UnicodeIdent, Plain}
-use Rattle.squawk_lexer.specs.Text.{bytes}
+use Rattle.squawk_lexer.specs.declared.lexer.TokenForm.{TokenForm}
+use Rattle.squawk_lexer.specs.declared.lexer.TokenForm.TheVariants.{Whitespace, LineComment, BlockComment, String, QuotedIdent, Word, Dollar, Number, DotDot, Fraction, Psql, Symbol}
+use Rattle.squawk_lexer.specs.declared.word.StringPrefix.{StringPrefix}
+use Rattle.squawk_lexer.specs.declared.word.StringPrefix.TheVariants.{National, Bit, Byte, Escape, UnicodeString, UnicodeIdent, Plain}
+use Rattle.squawk_lexer.specs.Text.{utf8_len}
 use Rattle.squawk_lexer.specs.Classes.{is_digit, byte_order_mark}
-use Rattle.squawk_lexer.specs.Runs.{run, junk, digits, hex, exponent, is_exponent_letter, fraction_digits}
-use Rattle.squawk_lexer.specs.Kind.{Lexeme, lexeme}
+use Rattle.squawk_lexer.specs.Runs.{run_end, junk_end, digits_end, hex_digits_end, exponent_end, is_exponent_letter, fraction_end}
+use Rattle.squawk_lexer.specs.Kind.{Lexeme, lexeme_until}
 use Rattle.squawk_lexer.specs.Numbers.{number, decimal_from, fractional, with_exponent, numeric, int, based_int, parameter}
-use Rattle.squawk_lexer.specs.Dollar.{opens_dollar, dollar_string, dollar}
+use Rattle.squawk_lexer.specs.Dollar.{is_dollar_quote_start, dollar_string, dollar}
 use Rattle.squawk_lexer.specs.PsqlWords.{is_among, query_ending_words}
-use Rattle.squawk_lexer.specs.Psql.{psql, word, command_end}
+use Rattle.squawk_lexer.specs.Psql.{psql, command_word, command_end}
 use Rattle.squawk_lexer.specs.Symbols.{symbol}
-use Rattle.squawk_lexer.specs.Token.{start, opening, begun, opened, lexeme_of, lexeme_at}
+use Rattle.squawk_lexer.specs.Token.{token_form, prefix_of, lexeme_of_form, lexeme_of_prefix, lexeme_of, lexeme_at}
 use Rattle.squawk_lexer.specs.Cut.{tokens_from}
 use Rattle.squawk_lexer.specs.Flags.{JunkWithin, FlagsWithin, FlagsLieWithin, AreCut, TokensAreCut}
 use Rattle.squawk_lexer.proofs.Steps.{letter_within}
@@ -30,14 +30,14 @@ use Rattle.squawk_lexer.proofs.TokenLaws.{junk_on, exponent_on, fraction_on, tok
 
 -- ---- more characters have more bytes
 
-bytes_less : (n m : ℕ) (u : List ℕ) → n < m → n < length u → bytes (take n u) < bytes (take m u)
+bytes_less : (n m : ℕ) (u : List ℕ) → n < m → n < length u → utf8_len (take n u) < utf8_len (take m u)
 bytes_less n m [] p h = absurd (omega arith)
 bytes_less n zero (c ∷ cs) p h = absurd (omega arith)
 bytes_less zero (suc m) (c ∷ cs) p h = omega (arith, sum_by-cons len_utf8 c (take m cs), len_utf8_bounds c)
 bytes_less (suc n) (suc m) (c ∷ cs) p h =
     omega (arith, sum_by-cons len_utf8 c (take n cs), sum_by-cons len_utf8 c (take m cs), bytes_less n m cs (omega arith) (omega arith))
 
-bytes_le : (n m : ℕ) (u : List ℕ) → n ≤ m → bytes (take n u) ≤ bytes (take m u)
+bytes_le : (n m : ℕ) (u : List ℕ) → n ≤ m → utf8_len (take n u) ≤ utf8_len (take m u)
 bytes_le zero m u p = omega arith
 bytes_le (suc n) zero u p = absurd (omega arith)
 bytes_le (suc n) (suc m) [] p = omega arith
@@ -45,15 +45,15 @@ bytes_le (suc n) (suc m) (c ∷ cs) p =
     omega (arith, sum_by-cons len_utf8 c (take n cs), sum_by-cons len_utf8 c (take m cs), bytes_le n m cs (omega arith))
 
 -- junk that begins behind a character begins behind a byte, and ends no earlier
-junk_within : (u : List ℕ) (n : ℕ) → 1 ≤ length u → 1 ≤ n → JunkWithin (bytes (take n u)) (bytes (take (junk u n) u))
+junk_within : (u : List ℕ) (n : ℕ) → 1 ≤ length u → 1 ≤ n → JunkWithin (utf8_len (take n u)) (utf8_len (take (junk_end u n) u))
 junk_within u n h p =
-    (omega (arith, bytes_less 0 n u (omega arith) (omega arith)), bytes_le n (junk u n) u (junk_on u n))
+    (omega (arith, bytes_less 0 n u (omega arith) (omega arith)), bytes_le n (junk_end u n) u (junk_on u n))
 
 -- ---- numbers
 
 -- the flags of a lexeme at the front of a text
 abbrev Flagged : List ℕ → Lexeme → Type 0
-Flagged u x = FlagsWithin x.kind (bytes (take x.end u))
+Flagged u x = FlagsWithin x.kind (utf8_len (take x.end u))
 
 either_flags : (u : List ℕ) (b : Bool) (x y : Lexeme) → (b ≡ true → Flagged u x) → Flagged u y → Flagged u (cond b x y)
 either_flags u true x y p q = p refl
@@ -61,17 +61,17 @@ either_flags u false x y p q = q
 
 -- where an exponent without digits may begin
 exponent_flags : (b : Bool) (u : List ℕ) (i n : ℕ) → 1 ≤ length u → i < length u → i < n
-    → Flagged u (numeric (cond b (Some (bytes (take i u))) None) u n)
+    → Flagged u (numeric (cond b (Some (utf8_len (take i u))) None) u n)
 exponent_flags true u i n h within p = (bytes_less i n u p within, junk_within u n h (omega arith))
 exponent_flags false u i n h within p = (tt, junk_within u n h (omega arith))
 
 with_exponent_flags : (u : List ℕ) (i : ℕ) → 1 ≤ length u → i < length u → Flagged u (with_exponent u i)
 with_exponent_flags u i h within =
-    exponent_flags (eqb (exponent u i) (i + 1)) u i (exponent u i) h within (omega (arith, exponent_on u i))
+    exponent_flags (eqb (exponent_end u i) (i + 1)) u i (exponent_end u i) h within (omega (arith, exponent_on u i))
 
 fractional_flags : (u : List ℕ) (i : ℕ) → 1 ≤ length u → 1 ≤ i → Flagged u (fractional u i)
 fractional_flags u i h p =
-    let n = fraction_digits u i in
+    let n = fraction_end u i in
     either_flags u (is_exponent_letter (get_or u n 0)) (with_exponent u n) (numeric None u n)
     (λ t. with_exponent_flags u n h (letter_within u n t)) (tt, junk_within u n h (omega (arith, fraction_on u i)))
 
@@ -88,16 +88,16 @@ begins u small capital = eqb (get_or u 0 0) 48 && (eqb (get_or u 1 0) small || e
 
 number_flags : (u : List ℕ) → 1 ≤ length u → Flagged u (number u)
 number_flags u h =
-    let decimal = decimal_from u (digits u 1) in
-    let hexadecimal = cond (begins u 120 88) (based_int Hexadecimal u (hex u 2)) decimal in
-    let octal = cond (begins u 111 79) (based_int Octal u (digits u 2)) hexadecimal in
-    either_flags u (begins u 98 66) (based_int Binary u (digits u 2)) octal (λ t. junk_within u (digits u 2) h (omega arith))
-    (either_flags u (begins u 111 79) (based_int Octal u (digits u 2)) hexadecimal (λ t. junk_within u (digits u 2) h (omega arith))
-    (either_flags u (begins u 120 88) (based_int Hexadecimal u (hex u 2)) decimal (λ t. junk_within u (hex u 2) h (omega arith))
-    (decimal_flags u (digits u 1) h (omega arith))))
+    let decimal = decimal_from u (digits_end u 1) in
+    let hexadecimal = cond (begins u 120 88) (based_int Hexadecimal u (hex_digits_end u 2)) decimal in
+    let octal = cond (begins u 111 79) (based_int Octal u (digits_end u 2)) hexadecimal in
+    either_flags u (begins u 98 66) (based_int Binary u (digits_end u 2)) octal (λ t. junk_within u (digits_end u 2) h (omega arith))
+    (either_flags u (begins u 111 79) (based_int Octal u (digits_end u 2)) hexadecimal (λ t. junk_within u (digits_end u 2) h (omega arith))
+    (either_flags u (begins u 120 88) (based_int Hexadecimal u (hex_digits_end u 2)) decimal (λ t. junk_within u (hex_digits_end u 2) h (omega arith))
+    (decimal_flags u (digits_end u 1) h (omega arith))))
 
 dollar_flags : (u : List ℕ) → 1 ≤ length u → Flagged u (dollar u)
-dollar_flags u h = either_flags u (opens_dollar u) (dollar_string u) (parameter u) (λ t. tt) (junk_within u (run is_digit u 1) h (omega arith))
+dollar_flags u h = either_flags u (is_dollar_quote_start u) (dollar_string u) (parameter u) (λ t. tt) (junk_within u (run_end is_digit u 1) h (omega arith))
 
 -- ---- kinds without places
 
@@ -150,7 +150,7 @@ no_places kinds.CloseParen n e = tt
 no_places kinds.OpenParen n e = tt
 no_places kinds.Comma n e = tt
 
-opened_flags : (s : Opening) (u : List ℕ) → Flagged u (opened s u)
+opened_flags : (s : StringPrefix) (u : List ℕ) → Flagged u (lexeme_of_prefix s u)
 opened_flags National u = tt
 opened_flags Bit u = tt
 opened_flags Byte u = tt
@@ -161,19 +161,19 @@ opened_flags Plain u = tt
 
 psql_flags : (u : List ℕ) → Flagged u (psql u)
 psql_flags u =
-    either_flags u (eqb (get_or u 1 0) 92) (lexeme (kinds.PsqlCommand false) 2) _ (λ t. tt)
-    (either_flags u (eqb (get_or u 1 0) 59) (lexeme kinds.Semi 2) _ (λ t. tt)
-    (either_flags u (eqb (get_or u 1 0) 58) (lexeme kinds.Colon 2) (lexeme (kinds.PsqlCommand (is_among query_ending_words (word u))) (command_end u)) (λ t. tt) tt))
+    either_flags u (eqb (get_or u 1 0) 92) (lexeme_until (kinds.PsqlCommand false) 2) _ (λ t. tt)
+    (either_flags u (eqb (get_or u 1 0) 59) (lexeme_until kinds.Semi 2) _ (λ t. tt)
+    (either_flags u (eqb (get_or u 1 0) 58) (lexeme_until kinds.Colon 2) (lexeme_until (kinds.PsqlCommand (is_among query_ending_words (command_word u))) (command_end u)) (λ t. tt) tt))
 
 -- ---- every row
 
-begun_flags : (strings : Strings) (s : Start) (u : List ℕ) → 1 ≤ length u → Flagged u (begun strings s u)
-begun_flags strings White u h = tt
+begun_flags : (strings : Strings) (s : TokenForm) (u : List ℕ) → 1 ≤ length u → Flagged u (lexeme_of_form strings s u)
+begun_flags strings Whitespace u h = tt
 begun_flags strings LineComment u h = tt
 begun_flags strings BlockComment u h = tt
 begun_flags strings String u h = tt
 begun_flags strings QuotedIdent u h = tt
-begun_flags strings Word u h = opened_flags (opening (get_or u 0 0) (get_or u 1 0) (get_or u 2 0)) u
+begun_flags strings Word u h = opened_flags (prefix_of (get_or u 0 0) (get_or u 1 0) (get_or u 2 0)) u
 begun_flags strings Dollar u h = dollar_flags u h
 begun_flags strings Number u h = number_flags u h
 begun_flags strings DotDot u h = tt
@@ -184,8 +184,8 @@ begun_flags strings Symbol u h = no_places (symbol (get_or u 0 0)) _ (symbol_pla
 pub flags_lie_within : FlagsLieWithin
 flags_lie_within strings s u h = (
   token_positive strings s u h,
-  either_flags u (s && eqb (get_or u 0 0) byte_order_mark) (lexeme kinds.Whitespace 1) (lexeme_of strings u)
-      (λ t. tt) (begun_flags strings (start (get_or u 0 0) (get_or u 1 0)) u h),
+  either_flags u (s && eqb (get_or u 0 0) byte_order_mark) (lexeme_until kinds.Whitespace 1) (lexeme_of strings u)
+      (λ t. tt) (begun_flags strings (token_form (get_or u 0 0) (get_or u 1 0)) u h),
 )
 
 -- ---- each token of a text is the first of the text that begins with it
@@ -193,7 +193,7 @@ flags_lie_within strings s u h = (
 cut_from : (strings : Strings) (inside : ℕ) (s : Bool) (u : List ℕ) → AreCut (tokens_from strings inside s u)
 cut_from strings inside s [] = tt
 cut_from strings zero s (c ∷ cs) =
-    (record { strings = strings; start = s; text = c ∷ cs; some = omega arith; same = refl }, cut_from strings ((lexeme_at strings s (c ∷ cs)).end - 1) false cs)
+    (record { strings = strings; at_start = s; text = c ∷ cs; some = omega arith; same = refl }, cut_from strings ((lexeme_at strings s (c ∷ cs)).end - 1) false cs)
 cut_from strings (suc inside) s (c ∷ cs) = cut_from strings inside s cs
 
 pub tokens_are_cut : TokensAreCut

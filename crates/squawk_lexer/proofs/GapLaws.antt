@@ -9,16 +9,16 @@ use Rattle.std.proofs.lemmas.List.Sums.{prefix_len_stops}
 use Rattle.std.proofs.Math.Seq.{take-append_seam, get_or-append_seam}
 use Rattle.squawk_lexer.specs.declared.token.Strings.{Strings}
 use Rattle.squawk_lexer.specs.declared.token.TokenKind.TheVariants as kinds
-use Rattle.squawk_lexer.specs.declared.lexer.Start.{Start}
-use Rattle.squawk_lexer.specs.declared.lexer.Start.TheVariants.{White, LineComment, BlockComment, String, QuotedIdent, Word, Dollar, Number, DotDot, Fraction, Psql, Symbol}
-use Rattle.squawk_lexer.specs.Kind.{Lexeme, lexeme}
-use Rattle.squawk_lexer.specs.Classes.{is_white, is_line_end, is_not_line_end, is_blank, is_digit, is_id_start, byte_order_mark}
-use Rattle.squawk_lexer.specs.Runs.{run, line}
+use Rattle.squawk_lexer.specs.declared.lexer.TokenForm.{TokenForm}
+use Rattle.squawk_lexer.specs.declared.lexer.TokenForm.TheVariants.{Whitespace, LineComment, BlockComment, String, QuotedIdent, Word, Dollar, Number, DotDot, Fraction, Psql, Symbol}
+use Rattle.squawk_lexer.specs.Kind.{Lexeme, lexeme_until}
+use Rattle.squawk_lexer.specs.Classes.{is_whitespace, is_line_end, is_not_line_end, is_blank, is_digit, is_ident_start, byte_order_mark}
+use Rattle.squawk_lexer.specs.Runs.{run_end, line_end}
 use Rattle.squawk_lexer.specs.PsqlWords.{is_among, query_ending_words, pipe_words, option_words, takes_line}
-use Rattle.squawk_lexer.specs.PsqlParts.{ends_arguments, part_rest, args_len, args}
-use Rattle.squawk_lexer.specs.Psql.{psql, word, word_end, output_start, output_end, command_end}
+use Rattle.squawk_lexer.specs.PsqlParts.{ends_arguments, part_rest, arguments_len, arguments_end}
+use Rattle.squawk_lexer.specs.Psql.{psql, command_word, word_end, output_start, output_end, command_end}
 use Rattle.squawk_lexer.specs.Symbols.{symbol}
-use Rattle.squawk_lexer.specs.Token.{start, opening, begun, lexeme_of, lexeme_at}
+use Rattle.squawk_lexer.specs.Token.{token_form, prefix_of, lexeme_of_form, lexeme_of, lexeme_at}
 use Rattle.squawk_lexer.specs.Cut.{is_trivia, form_of}
 use Rattle.squawk_lexer.specs.LookAhead.{Agrees}
 use Rattle.squawk_lexer.specs.Gaps.{begins_gap, GapsAreSeen, IsGap, TokensStay, TokensStayBefore}
@@ -34,16 +34,16 @@ use Rattle.squawk_lexer.proofs.AheadTokens.{AsksOf, Any, row, begun_same, lexeme
 
 -- white, `-` (45) or `/` (47)
 abbrev is_gap_start : ℕ → Bool
-is_gap_start c = is_white c || (eqb c 45 || eqb c 47)
+is_gap_start c = is_whitespace c || (eqb c 45 || eqb c 47)
 
 gap_start : (u : List ℕ) → begins_gap u ≡ true → is_gap_start (get_or u 0 0) ≡ true
 gap_start u t = grind (arith, nat_tests)
 
-gap_white : (g : ℕ) → IsGap g → is_white g ≡ true
+gap_white : (g : ℕ) → IsGap g → is_whitespace g ≡ true
 gap_white g (inl e) = rw e refl
 gap_white g (inr e) = rw e refl
 
-white_start : (g : ℕ) → is_white g ≡ true → is_gap_start g ≡ true
+white_start : (g : ℕ) → is_whitespace g ≡ true → is_gap_start g ≡ true
 white_start g t = rw t refl
 
 -- the test says the same of all such characters
@@ -52,9 +52,9 @@ Calm p = (c : ℕ) → is_gap_start c ≡ true → p c ≡ p 10
 
 -- white, `--` or `/*` (42)
 abbrev is_gap : ℕ → ℕ → Bool
-is_gap c e = is_white c || ((eqb c 45 && eqb e 45) || (eqb c 47 && eqb e 42))
+is_gap c e = is_whitespace c || ((eqb c 45 && eqb e 45) || (eqb c 47 && eqb e 42))
 
-white_gap : (g e : ℕ) → is_white g ≡ true → is_gap g e ≡ true
+white_gap : (g e : ℕ) → is_whitespace g ≡ true → is_gap g e ≡ true
 white_gap g e t = rw t refl
 
 -- the test of two characters passes at no gap
@@ -93,8 +93,8 @@ asks_second = record {
   and_ident = λ c t. grind (arith, nat_tests);
 }
 
-asks_of_second : (s : Start) → AsksOf Any Second s
-asks_of_second White = tt
+asks_of_second : (s : TokenForm) → AsksOf Any Second s
+asks_of_second Whitespace = tt
 asks_of_second LineComment = tt
 asks_of_second BlockComment = tt
 asks_of_second Psql = record { line_end = tt; not_line_end = tt; blank = tt; command_word = tt; ends = tt; other = λ x e. tt }
@@ -186,7 +186,7 @@ tokens_stay_before strings s u g rest t gap = lexeme_same strings s k u v a rows
     some = lexeme_at_some strings s u (omega (arith, within))
 
     rows : row v ≡ row u
-    rows = ap (λ c. start c (get_or v 1 0)) (agrees_read (k + 1) u v 0 agrees (omega arith)) ∙ ap (start (get_or u 0 0)) (agrees_read (k + 1) u v 1 agrees (omega (arith, some)))
+    rows = ap (λ c. token_form c (get_or v 1 0)) (agrees_read (k + 1) u v 0 agrees (omega arith)) ∙ ap (token_form (get_or u 0 0)) (agrees_read (k + 1) u v 1 agrees (omega (arith, some)))
 
 -- ---- directly behind
 
@@ -211,14 +211,14 @@ asks_calm = record {
 }
 
 -- a row whose tokens are no gaps
-abbrev NoGap : Start → Type 0
-NoGap White = ⊥
+abbrev NoGap : TokenForm → Type 0
+NoGap Whitespace = ⊥
 NoGap LineComment = ⊥
 NoGap BlockComment = ⊥
 NoGap _ = ⊤
 
-no_gap : (strings : Strings) (s : Start) (u : List ℕ) → is_trivia (form_of (begun strings s u).kind) ≡ false → NoGap s
-no_gap strings White u t = absurd (false≢true (sym t))
+no_gap : (strings : Strings) (s : TokenForm) (u : List ℕ) → is_trivia (form_of (lexeme_of_form strings s u).kind) ≡ false → NoGap s
+no_gap strings Whitespace u t = absurd (false≢true (sym t))
 no_gap strings LineComment u t = absurd (false≢true (sym t))
 no_gap strings BlockComment u t = absurd (false≢true (sym t))
 no_gap strings String u t = tt
@@ -232,46 +232,46 @@ no_gap strings Psql u t = tt
 no_gap strings Symbol u t = tt
 
 -- the row by the first character, and by four tests of the first two
-abbrev row_by : ℕ → Bool → Bool → Bool → Bool → Start
-row_by c line block dots point =
-    cond (is_white c) White
-    (cond line LineComment
+abbrev row_by : ℕ → Bool → Bool → Bool → Bool → TokenForm
+row_by c line_end block dots point =
+    cond (is_whitespace c) Whitespace
+    (cond line_end LineComment
     (cond block BlockComment
     (cond (eqb c 39) String
     (cond (eqb c 34) QuotedIdent
-    (cond (is_id_start c) Word
+    (cond (is_ident_start c) Word
     (cond (eqb c 36) Dollar
     (cond (is_digit c) Number
     (cond dots DotDot
     (cond point Fraction
     (cond (eqb c 92) Psql Symbol))))))))))
 
-row_is : (c d : ℕ) → start c d ≡ row_by c (eqb c 45 && eqb d 45) (eqb c 47 && eqb d 42) (eqb c 46 && eqb d 46) (eqb c 46 && is_digit d)
-unfolding start
+row_is : (c d : ℕ) → token_form c d ≡ row_by c (eqb c 45 && eqb d 45) (eqb c 47 && eqb d 42) (eqb c 46 && eqb d 46) (eqb c 46 && is_digit d)
+unfolding token_form
 row_is c d = refl
 
-line_row : (c d : ℕ) → (eqb c 45 && eqb d 45) ≡ true → start c d ≡ LineComment
-unfolding start
+line_row : (c d : ℕ) → (eqb c 45 && eqb d 45) ≡ true → token_form c d ≡ LineComment
+unfolding token_form
 line_row c d t =
-    let white : is_white c ≡ false = grind (arith, nat_tests) in
+    let white : is_whitespace c ≡ false = grind (arith, nat_tests) in
     rw (white, t) refl
 
 -- where a gap begins at the second character, and none at the first, the first alone decides the row
-row_before : (c d : ℕ) → is_gap_start d ≡ true → NoGap (start c d) → start c d ≡ row_by c false false false false
+row_before : (c d : ℕ) → is_gap_start d ≡ true → NoGap (token_form c d) → token_form c d ≡ row_by c false false false false
 row_before c d t n =
-    let line : (eqb c 45 && eqb d 45) ≡ false = elim (cases_Bool (eqb c 45 && eqb d 45)) [ inl is ↦ absurd (subst NoGap (line_row c d is) n) | inr not ↦ not ] in
+    let line_end : (eqb c 45 && eqb d 45) ≡ false = elim (cases_Bool (eqb c 45 && eqb d 45)) [ inl is ↦ absurd (subst NoGap (line_row c d is) n) | inr not ↦ not ] in
     let block : (eqb c 47 && eqb d 42) ≡ false = grind (arith, nat_tests) in
     let dots : (eqb c 46 && eqb d 46) ≡ false = grind (arith, nat_tests) in
     let point : (eqb c 46 && is_digit d) ≡ false = grind (arith, nat_tests) in
-    row_is c d ∙ rw (line, block, dots, point) refl
+    row_is c d ∙ rw (line_end, block, dots, point) refl
 
-row_white : (c g : ℕ) → is_white g ≡ true → start c g ≡ row_by c false false false false
+row_white : (c g : ℕ) → is_whitespace g ≡ true → token_form c g ≡ row_by c false false false false
 row_white c g t =
-    let line : (eqb c 45 && eqb g 45) ≡ false = grind (arith, nat_tests) in
+    let line_end : (eqb c 45 && eqb g 45) ≡ false = grind (arith, nat_tests) in
     let block : (eqb c 47 && eqb g 42) ≡ false = grind (arith, nat_tests) in
     let dots : (eqb c 46 && eqb g 46) ≡ false = grind (arith, nat_tests) in
     let point : (eqb c 46 && is_digit g) ≡ false = grind (arith, nat_tests) in
-    row_is c g ∙ rw (line, block, dots, point) refl
+    row_is c g ∙ rw (line_end, block, dots, point) refl
 
 -- a command ends with the text, or before LF, CR or a backslash
 abbrev Stops : List ℕ → ℕ → Type 0
@@ -281,38 +281,38 @@ either_stops : (b : Bool) (u : List ℕ) (x y : ℕ) → Stops u x → Stops u y
 either_stops true u x y p q = p
 either_stops false u x y p q = q
 
-line_stops : (u : List ℕ) (i : ℕ) → Stops u (line u i)
+line_stops : (u : List ℕ) (i : ℕ) → Stops u (line_end u i)
 line_stops u i h =
     let n = prefix_len is_not_line_end (drop i u) in
     let end : is_not_line_end (get_or (drop i u) n 0) ≡ false = prefix_len_stops is_not_line_end (drop i u) 0 (omega (arith, length-drop i u)) in
-    let here : is_not_line_end (get_or u (line u i) 0) ≡ false = sym (ap is_not_line_end (get_or-drop i u n 0)) ∙ end in
+    let here : is_not_line_end (get_or u (line_end u i) 0) ≡ false = sym (ap is_not_line_end (get_or-drop i u n 0)) ∙ end in
     grind (arith, nat_tests)
 
 one_on : (c : ℕ) (cs : List ℕ) (n : ℕ) → ends_arguments (get_or (c ∷ cs) (1 + n) 0) ≡ ends_arguments (get_or cs n 0)
 one_on c cs n = ap (λ m. ends_arguments (get_or (c ∷ cs) m 0)) (let e : 1 + n ≡ suc n = omega arith in e)
 
-parts_stop : (inside : ℕ) (v : List ℕ) → Stops v (args_len inside v)
+parts_stop : (inside : ℕ) (v : List ℕ) → Stops v (arguments_len inside v)
 parts_stop inside [] h = absurd (omega arith)
 parts_stop zero (c ∷ cs) h = by (ends_arguments c) refl (parts_stop (part_rest c cs) cs) h
   where
     n : ℕ
-    n = args_len (part_rest c cs) cs
+    n = arguments_len (part_rest c cs) cs
 
     by : (b : Bool) → ends_arguments c ≡ b → Stops cs n → cond b 0 (1 + n) < length (c ∷ cs) → ends_arguments (get_or (c ∷ cs) (cond b 0 (1 + n)) 0) ≡ true
     by true t more h = t
     by false t more h = one_on c cs n ∙ more (omega arith)
-parts_stop (suc i) (c ∷ cs) h = one_on c cs (args_len i cs) ∙ parts_stop i cs (omega arith)
+parts_stop (suc i) (c ∷ cs) h = one_on c cs (arguments_len i cs) ∙ parts_stop i cs (omega arith)
 
-args_stop : (u : List ℕ) (i : ℕ) → Stops u (args u i)
-args_stop u i h = sym (ap ends_arguments (get_or-drop i u (args_len 0 (drop i u)) 0)) ∙ parts_stop 0 (drop i u) (omega (arith, length-drop i u))
+args_stop : (u : List ℕ) (i : ℕ) → Stops u (arguments_end u i)
+args_stop u i h = sym (ap ends_arguments (get_or-drop i u (arguments_len 0 (drop i u)) 0)) ∙ parts_stop 0 (drop i u) (omega (arith, length-drop i u))
 
 command_stops : (u : List ℕ) → Stops u (command_end u)
 command_stops u =
     let w = word_end u in
-    let p = output_start (is_among option_words (word u)) u (run is_blank u w) in
-    either_stops (takes_line (word u)) u (line u w) _ (line_stops u w)
-    (either_stops (is_among pipe_words (word u)) u (output_end u p) (args u w)
-    (either_stops (eqb (get_or u p 0) 124) u (line u p) (args u p) (line_stops u p) (args_stop u p)) (args_stop u w))
+    let p = output_start (is_among option_words (command_word u)) u (run_end is_blank u w) in
+    either_stops (takes_line (command_word u)) u (line_end u w) _ (line_stops u w)
+    (either_stops (is_among pipe_words (command_word u)) u (output_end u p) (arguments_end u w)
+    (either_stops (eqb (get_or u p 0) 124) u (line_end u p) (arguments_end u p) (line_stops u p) (args_stop u p)) (args_stop u w))
 
 -- the test says the same of LF and CR
 abbrev OfLineEnds : (ℕ → Bool) → Type 0
@@ -364,8 +364,8 @@ pair_stays u v false false false e f h g on t crlf =
     let is : (psql u).end ≡ command_end u = rw (e, f, h) refl in
     let first : is_gap_start (get_or u (psql u).end 0) ≡ true = gap_at (psql u).end u t in
     let stops : ends_arguments (get_or u (psql u).end 0) ≡ true = subst (Stops u) (sym is) (command_stops u) on.within in
-    let line : is_line_end (get_or u (psql u).end 0) ≡ true = grind (arith, nat_tests) in
-    command_stays u v (subst (λ n. IsOn (psql u).end n u v) (crlf line) on) line
+    let line_end : is_line_end (get_or u (psql u).end 0) ≡ true = grind (arith, nat_tests) in
+    command_stays u v (subst (λ n. IsOn (psql u).end n u v) (crlf line_end) on) line_end
 
 pub tokens_stay : TokensStay
 tokens_stay strings s u g rest t gap white crlf = by (s && eqb (get_or u 0 0) byte_order_mark) refl
@@ -395,7 +395,7 @@ tokens_stay strings s u g rest t gap white crlf = by (s && eqb (get_or u 0 0) by
       same = on.same;
       follows = record {
         one = λ p x. ap p on.at ∙ x g (white_start g (gap_white g white)) ∙ sym (x (get_or u k 0) start_at);
-        two = λ p q x. x (get_or v k 0) _ (white_gap (get_or v k 0) _ (ap is_white on.at ∙ gap_white g white)) ∙ sym (x (get_or u k 0) _ (gap_pair k u gap));
+        two = λ p q x. x (get_or v k 0) _ (white_gap (get_or v k 0) _ (ap is_whitespace on.at ∙ gap_white g white)) ∙ sym (x (get_or u k 0) _ (gap_pair k u gap));
       };
     }
 
@@ -403,15 +403,15 @@ tokens_stay strings s u g rest t gap white crlf = by (s && eqb (get_or u 0 0) by
     rows n = near (cases_lt 1 k)
       where
         near : (1 < k) ⊎ (k ≤ 1) → row v ≡ row u
-        near (inl more) = ap (λ c. start c (get_or v 1 0)) first ∙ ap (start (get_or u 0 0)) (on_read k g u v 1 on more)
+        near (inl more) = ap (λ c. token_form c (get_or v 1 0)) first ∙ ap (token_form (get_or u 0 0)) (on_read k g u v 1 on more)
         near (inr less) =
             let one : k ≡ 1 = omega (arith, some) in
             let here : is_gap_start (get_or u 1 0) ≡ true = sym (ap (λ n. is_gap_start (get_or u n 0)) one) ∙ start_at in
-            let there : is_white (get_or v 1 0) ≡ true = sym (ap (λ n. is_white (get_or v n 0)) one) ∙ ap is_white on.at ∙ gap_white g white in
-            ap (λ c. start c (get_or v 1 0)) first ∙ row_white (get_or u 0 0) (get_or v 1 0) there ∙ sym (row_before (get_or u 0 0) (get_or u 1 0) here n)
+            let there : is_whitespace (get_or v 1 0) ≡ true = sym (ap (λ n. is_whitespace (get_or v n 0)) one) ∙ ap is_whitespace on.at ∙ gap_white g white in
+            ap (λ c. token_form c (get_or v 1 0)) first ∙ row_white (get_or u 0 0) (get_or v 1 0) there ∙ sym (row_before (get_or u 0 0) (get_or u 1 0) here n)
 
-    of_row : (r : Start) → NoGap r → (begun strings r u).end ≡ k → begun strings r v ≡ begun strings r u
-    of_row White n e = absurd n
+    of_row : (r : TokenForm) → NoGap r → (lexeme_of_form strings r u).end ≡ k → lexeme_of_form strings r v ≡ lexeme_of_form strings r u
+    of_row Whitespace n e = absurd n
     of_row LineComment n e = absurd n
     of_row BlockComment n e = absurd n
     of_row Psql n e = pair_stays u v _ _ _ refl refl refl g (subst (λ m. IsOn m g u v) (sym e) on) (ap (λ m. begins_gap (drop m u)) e ∙ gap) (λ x. crlf (sym (ap (λ m. is_line_end (get_or u m 0)) e) ∙ x))
@@ -433,7 +433,7 @@ tokens_stay strings s u g rest t gap white crlf = by (s && eqb (get_or u 0 0) by
         let test : (s && eqb (get_or v 0 0) byte_order_mark) ≡ false = ap (λ c. s && eqb c byte_order_mark) first ∙ e in
         let there : lexeme_at strings s v ≡ lexeme_of strings v = rw test refl in
         let n : NoGap (row u) = no_gap strings (row u) u (sym (ap (λ (x : Lexeme). is_trivia (form_of x.kind)) is) ∙ t) in
-        there ∙ ap (λ r. begun strings r v) (rows n) ∙ of_row (row u) n (sym (ap (λ (x : Lexeme). x.end) is)) ∙ sym is
+        there ∙ ap (λ r. lexeme_of_form strings r v) (rows n) ∙ of_row (row u) n (sym (ap (λ (x : Lexeme). x.end) is)) ∙ sym is
 
 -- ---- what begins a gap
 
@@ -447,17 +447,17 @@ either_plain false x y p q = q
 
 psql_plain : (u : List ℕ) → is_trivia (form_of (psql u).kind) ≡ false
 psql_plain u =
-    either_plain (eqb (get_or u 1 0) 92) (lexeme (kinds.PsqlCommand false) 2) _ refl
-    (either_plain (eqb (get_or u 1 0) 59) (lexeme kinds.Semi 2) _ refl
-    (either_plain (eqb (get_or u 1 0) 58) (lexeme kinds.Colon 2) (lexeme (kinds.PsqlCommand (is_among query_ending_words (word u))) (command_end u)) refl (command_plain (is_among query_ending_words (word u)))))
+    either_plain (eqb (get_or u 1 0) 92) (lexeme_until (kinds.PsqlCommand false) 2) _ refl
+    (either_plain (eqb (get_or u 1 0) 59) (lexeme_until kinds.Semi 2) _ refl
+    (either_plain (eqb (get_or u 1 0) 58) (lexeme_until kinds.Colon 2) (lexeme_until (kinds.PsqlCommand (is_among query_ending_words (command_word u))) (command_end u)) refl (command_plain (is_among query_ending_words (command_word u)))))
 
-begun_plain : (strings : Strings) (s : Start) (u : List ℕ) → NoGap s → is_trivia (form_of (begun strings s u).kind) ≡ false
-begun_plain strings White u n = absurd n
+begun_plain : (strings : Strings) (s : TokenForm) (u : List ℕ) → NoGap s → is_trivia (form_of (lexeme_of_form strings s u).kind) ≡ false
+begun_plain strings Whitespace u n = absurd n
 begun_plain strings LineComment u n = absurd n
 begun_plain strings BlockComment u n = absurd n
 begun_plain strings String u n = refl
 begun_plain strings QuotedIdent u n = refl
-begun_plain strings Word u n = (opened_other (opening (get_or u 0 0) (get_or u 1 0) (get_or u 2 0)) u).plain
+begun_plain strings Word u n = (opened_other (prefix_of (get_or u 0 0) (get_or u 1 0) (get_or u 2 0)) u).plain
 begun_plain strings Dollar u n = (dollar_other u).plain
 begun_plain strings Number u n = (number_other u).plain
 begun_plain strings DotDot u n = refl
@@ -472,10 +472,10 @@ or_second : (a b : Bool) → b ≡ true → (a || b) ≡ true
 or_second true b e = refl
 or_second false b e = e
 
-no_gap_row : (c d : ℕ) (s : Start) → s ≡ start c d → is_gap c d ≡ false → NoGap s
-no_gap_row c d White e t = let fits : is_white c ≡ true = row_fits White c d e in absurd (false≢true (sym t ∙ rw fits refl))
-no_gap_row c d LineComment e t = let fits : (eqb c 45 && eqb d 45) ≡ true = row_fits LineComment c d e in absurd (false≢true (sym t ∙ or_second (is_white c) _ (or_first _ (eqb c 47 && eqb d 42) fits)))
-no_gap_row c d BlockComment e t = let fits : (eqb c 47 && eqb d 42) ≡ true = row_fits BlockComment c d e in absurd (false≢true (sym t ∙ or_second (is_white c) _ (or_second (eqb c 45 && eqb d 45) _ fits)))
+no_gap_row : (c d : ℕ) (s : TokenForm) → s ≡ token_form c d → is_gap c d ≡ false → NoGap s
+no_gap_row c d Whitespace e t = let fits : is_whitespace c ≡ true = row_fits Whitespace c d e in absurd (false≢true (sym t ∙ rw fits refl))
+no_gap_row c d LineComment e t = let fits : (eqb c 45 && eqb d 45) ≡ true = row_fits LineComment c d e in absurd (false≢true (sym t ∙ or_second (is_whitespace c) _ (or_first _ (eqb c 47 && eqb d 42) fits)))
+no_gap_row c d BlockComment e t = let fits : (eqb c 47 && eqb d 42) ≡ true = row_fits BlockComment c d e in absurd (false≢true (sym t ∙ or_second (is_whitespace c) _ (or_second (eqb c 45 && eqb d 45) _ fits)))
 no_gap_row c d String e t = tt
 no_gap_row c d QuotedIdent e t = tt
 no_gap_row c d Word e t = tt
@@ -488,7 +488,7 @@ no_gap_row c d Symbol e t = tt
 
 -- a row whose tokens are gaps
 gap_row : (strings : Strings) (u : List ℕ) → begins_gap u ≡ true → is_trivia (form_of (lexeme_of strings u).kind) ≡ true
-gap_row strings u t = by (is_white c) (eqb c 45 && eqb d 45) (eqb c 47 && eqb d 42) refl refl refl
+gap_row strings u t = by (is_whitespace c) (eqb c 45 && eqb d 45) (eqb c 47 && eqb d 42) refl refl refl
   where
     c : ℕ
     c = get_or u 0 0
@@ -496,11 +496,11 @@ gap_row strings u t = by (is_white c) (eqb c 45 && eqb d 45) (eqb c 47 && eqb d 
     d : ℕ
     d = get_or u 1 0
 
-    kind : (s : Start) → row u ≡ s → is_trivia (form_of (begun strings s u).kind) ≡ true → is_trivia (form_of (lexeme_of strings u).kind) ≡ true
-    kind s e t = ap (λ r. is_trivia (form_of (begun strings r u).kind)) e ∙ t
+    kind : (s : TokenForm) → row u ≡ s → is_trivia (form_of (lexeme_of_form strings s u).kind) ≡ true → is_trivia (form_of (lexeme_of strings u).kind) ≡ true
+    kind s e t = ap (λ r. is_trivia (form_of (lexeme_of_form strings r u).kind)) e ∙ t
 
-    by : (x y z : Bool) → is_white c ≡ x → (eqb c 45 && eqb d 45) ≡ y → (eqb c 47 && eqb d 42) ≡ z → is_trivia (form_of (lexeme_of strings u).kind) ≡ true
-    by true y z e f g = kind White (row_is c d ∙ rw e refl) refl
+    by : (x y z : Bool) → is_whitespace c ≡ x → (eqb c 45 && eqb d 45) ≡ y → (eqb c 47 && eqb d 42) ≡ z → is_trivia (form_of (lexeme_of strings u).kind) ≡ true
+    by true y z e f g = kind Whitespace (row_is c d ∙ rw e refl) refl
     by false true z e f g = kind LineComment (row_is c d ∙ rw (e, f) refl) refl
     by false false true e f g = kind BlockComment (row_is c d ∙ rw (e, f, g) refl) refl
     by false false false e f g = absurd (false≢true (sym (rw (e, f, g) refl) ∙ t))

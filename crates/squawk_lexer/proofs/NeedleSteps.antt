@@ -11,9 +11,9 @@ use Rattle.std.specs.List.{starts_with}
 use Rattle.std.specs.Str.{chars, encode_utf8_all}
 use Rattle.std.specs.Char.{encode_utf8, len_utf8}
 use Rattle.memchr.specs.Find.{OccursAt, FindsNeedle}
-use Rattle.squawk_lexer.specs.Text.{bytes}
+use Rattle.squawk_lexer.specs.Text.{utf8_len}
 use Rattle.squawk_lexer.specs.Dollar.{find_end}
-use Rattle.squawk_lexer.specs.Laws.{IsFirst}
+use Rattle.squawk_lexer.specs.Laws.{IsFirstOccurrence}
 use Rattle.squawk_lexer.proofs.Chars.{length-encodes, length-bytes}
 use Rattle.squawk_lexer.specs.CursorModel.{IsRest, chars_before}
 use Rattle.squawk_lexer.proofs.ByteRuns.{some_bytes, IsSkip, skip}
@@ -35,18 +35,18 @@ parted d v k e =
     ap encode_utf8_all (sym (take-append-drop k v)) ∙ encodes-append (take k v) (drop k v)
     ∙ ap (λ x. encode_utf8_all (take k v) ++ x) (ap encode_utf8_all (begins d (drop k v) e) ∙ encodes-append d (drop (length d) (drop k v)))
 
-occurs : (d v : List ℕ) (k : ℕ) → starts_with nat_eq (drop k v) d ≡ true → OccursAt (encode_utf8_all v) (encode_utf8_all d) (bytes (take k v))
+occurs : (d v : List ℕ) (k : ℕ) → starts_with nat_eq (drop k v) d ≡ true → OccursAt (encode_utf8_all v) (encode_utf8_all d) (utf8_len (take k v))
 occurs d v k e =
     let front = encode_utf8_all (take k v) in
     let back = encode_utf8_all d ++ encode_utf8_all (drop (length d) (drop k v)) in
     let seam : encode_utf8_all v ≡ front ++ back = parted d v k e in
-    let n : length front ≡ bytes (take k v) = length-encodes (take k v) in
+    let n : length front ≡ utf8_len (take k v) = length-encodes (take k v) in
     let all : length (encode_utf8_all v) ≡ length front + length back = ap length seam ∙ length-append front back in
     let rest : length back ≡ length (encode_utf8_all d) + length (encode_utf8_all (drop (length d) (drop k v))) = length-append (encode_utf8_all d) _ in
-    let after : drop (bytes (take k v)) (encode_utf8_all v) ≡ back = rw (← n) (ap (drop (length front)) seam ∙ drop-append_seam front back) in
+    let after : drop (utf8_len (take k v)) (encode_utf8_all v) ≡ back = rw (← n) (ap (drop (length front)) seam ∙ drop-append_seam front back) in
     record {
       fits = omega arith;
-      reads = at_reads 0 (encode_utf8_all v) (encode_utf8_all d) (bytes (take k v)) (encode_utf8_all (drop (length d) (drop k v))) after;
+      reads = at_reads 0 (encode_utf8_all v) (encode_utf8_all d) (utf8_len (take k v)) (encode_utf8_all (drop (length d) (drop k v))) after;
     }
 
 -- ---- from bytes to characters
@@ -67,7 +67,7 @@ front_chars (c ∷ d) (x ∷ v) bs e =
 
 -- d stands behind the first k characters of v, which take b bytes
 pub record IsThere (d v : List ℕ) (b k : ℕ) : Type 0 where
-  pub is : b ≡ bytes (take k v)
+  pub is : b ≡ utf8_len (take k v)
   pub within : k < length v
   pub stands : starts_with nat_eq (drop k v) d ≡ true
 
@@ -118,31 +118,31 @@ there t (c ∷ cs) b o = by (cases_eq b 0) (cases_lt b (length (encode_utf8 c)))
 
 -- ---- the first place
 
-find_is : (d v : List ℕ) (k : ℕ) → IsFirst d v k → k < length v → find_end d v ≡ Some (k + length d)
+find_is : (d v : List ℕ) (k : ℕ) → IsFirstOccurrence d v k → k < length v → find_end d v ≡ Some (k + length d)
 find_is d [] k f h = absurd (omega arith)
 find_is d (c ∷ v) zero f h = rw (f.stands) (ap Some (omega arith))
 find_is d (c ∷ v) (suc k) f h =
     let before : starts_with nat_eq (c ∷ v) d ≡ false = f.first 0 (omega arith) in
-    let rest : IsFirst d v k = record { stands = f.stands; first = λ j below. f.first (suc j) (omega arith) } in
+    let rest : IsFirstOccurrence d v k = record { stands = f.stands; first = λ j below. f.first (suc j) (omega arith) } in
     rw (before, find_is d v k rest (omega arith)) (ap Some (omega arith))
 
 find_none : (d v : List ℕ) → ((k : ℕ) → k < length v → starts_with nat_eq (drop k v) d ≡ false) → find_end d v ≡ None
 find_none d [] nowhere = refl
 find_none d (c ∷ v) nowhere = rw (nowhere 0 (omega arith), find_none d v (λ k h. nowhere (suc k) (omega arith))) refl
 
-pub fewer_bytes : (v : List ℕ) (j k : ℕ) → j < k → k ≤ length v → bytes (take j v) < bytes (take k v)
+pub fewer_bytes : (v : List ℕ) (j k : ℕ) → j < k → k ≤ length v → utf8_len (take j v) < utf8_len (take k v)
 fewer_bytes v j zero h w = absurd (omega arith)
 fewer_bytes [] j (suc k) h w = absurd (omega arith)
 fewer_bytes (c ∷ v) zero (suc k) h w = omega (arith, sum_by-cons len_utf8 c (take k v), (len_utf8_bounds c).0)
 fewer_bytes (c ∷ v) (suc j) (suc k) h w = omega (arith, sum_by-cons len_utf8 c (take k v), sum_by-cons len_utf8 c (take j v), fewer_bytes v j k (omega arith) (omega arith))
 
-bytes_within : (v : List ℕ) (k : ℕ) → bytes (take k v) ≤ length (encode_utf8_all v)
+bytes_within : (v : List ℕ) (k : ℕ) → utf8_len (take k v) ≤ length (encode_utf8_all v)
 bytes_within v k =
     let all : length (encode_utf8_all v) ≡ length (encode_utf8_all (take k v)) + length (encode_utf8_all (drop k v)) =
     ap length (ap encode_utf8_all (sym (take-append-drop k v)) ∙ encodes-append (take k v) (drop k v)) ∙ length-append (encode_utf8_all (take k v)) (encode_utf8_all (drop k v)) in
     omega (arith, all, length-encodes (take k v))
 
-not_there : (d v : List ℕ) (k : ℕ) → (OccursAt (encode_utf8_all v) (encode_utf8_all d) (bytes (take k v)) → ⊥) → starts_with nat_eq (drop k v) d ≡ false
+not_there : (d v : List ℕ) (k : ℕ) → (OccursAt (encode_utf8_all v) (encode_utf8_all d) (utf8_len (take k v)) → ⊥) → starts_with nat_eq (drop k v) d ≡ false
 not_there d v k absent = by (cases_Bool (starts_with nat_eq (drop k v) d))
   where
     by : (starts_with nat_eq (drop k v) d ≡ true) ⊎ (starts_with nat_eq (drop k v) d ≡ false) → starts_with nat_eq (drop k v) d ≡ false
@@ -151,16 +151,16 @@ not_there d v k absent = by (cases_Bool (starts_with nat_eq (drop k v) d))
 
 -- a search of the bytes finds nothing
 pub needle_none : (t v : List ℕ) → FindsNeedle (encode_utf8_all v) (encode_utf8_all (36 ∷ t)) 0 None → find_end (36 ∷ t) v ≡ None
-needle_none t v nowhere = find_none (36 ∷ t) v (λ k h. not_there (36 ∷ t) v k (nowhere (bytes (take k v)) (omega arith) (omega (arith, bytes_within v k))))
+needle_none t v nowhere = find_none (36 ∷ t) v (λ k h. not_there (36 ∷ t) v k (nowhere (utf8_len (take k v)) (omega arith) (omega (arith, bytes_within v k))))
 
 -- it finds a place: so many characters come up to the end of the delimiter there
 pub needle_some : (t v : List ℕ) (b : ℕ) → FindsNeedle (encode_utf8_all v) (encode_utf8_all (36 ∷ t)) 0 (Some b)
-    → (n : ℕ) × (find_end (36 ∷ t) v ≡ Some n) × (n ≤ length v) × (bytes (take n v) ≡ b + length (encode_utf8_all (36 ∷ t)))
+    → (n : ℕ) × (find_end (36 ∷ t) v ≡ Some n) × (n ≤ length v) × (utf8_len (take n v) ≡ b + length (encode_utf8_all (36 ∷ t)))
 needle_some t v b (first, here) =
     let (k, r) = there t v b here in
     let d = 36 ∷ t in
     let before : (j : ℕ) → j < k → starts_with nat_eq (drop j v) (36 ∷ t) ≡ false =
-    λ j below. not_there (36 ∷ t) v j (first.before (bytes (take j v)) (omega arith) (let fewer = fewer_bytes v j k below (omega (arith, r.within)) in omega (arith, r.is))) in
+    λ j below. not_there (36 ∷ t) v j (first.before (utf8_len (take j v)) (omega arith) (let fewer = fewer_bytes v j k below (omega (arith, r.within)) in omega (arith, r.is))) in
     let found : find_end (36 ∷ t) v ≡ Some (k + length d) = find_is (36 ∷ t) v k (record { stands = r.stands; first = before }) r.within in
     let rest = drop (length d) (drop k v) in
     let goes : drop k v ≡ d ++ rest = begins d (drop k v) r.stands in
@@ -169,7 +169,7 @@ needle_some t v b (first, here) =
     let front : length (take k v ++ d) ≡ k + length d = length-append (take k v) d ∙ omega arith in
     let all : length v ≡ length (take k v ++ d) + length rest = ap length whole ∙ length-append (take k v ++ d) rest in
     let taken : take (k + length d) v ≡ take k v ++ d = ap (take (k + length d)) whole ∙ take_at (take k v ++ d) rest (k + length d) front in
-    let sum : bytes (take (k + length d) v) ≡ bytes (take k v) + bytes d = ap bytes taken ∙ sum_by-append len_utf8 (take k v) d in
+    let sum : utf8_len (take (k + length d) v) ≡ utf8_len (take k v) + utf8_len d = ap utf8_len taken ∙ sum_by-append len_utf8 (take k v) d in
     (k + length d, found, omega arith, omega (arith, sum, r.is, length-encodes d))
 
 -- ---- the same with the premises that the code has
@@ -195,7 +195,7 @@ through_some token rest needle hay pin b r utf8 first same alike finds =
     let rest_is : rest ≡ encode_utf8_all (chars rest) = sym (encodes-chars rest (IsUtf8-from_is_utf8 rest r.rest_utf8)) in
     let search : FindsNeedle (encode_utf8_all (chars rest)) (encode_utf8_all (36 ∷ t)) 0 (Some b) = subst (λ x. FindsNeedle x (encode_utf8_all (36 ∷ t)) 0 (Some b)) (same ∙ rest_is) (subst (λ x. FindsNeedle hay x 0 (Some b)) (alike ∙ bytes_are) finds) in
     let (n, found, within, behind) = needle_some t (chars rest) b search in
-    let len : bytes (take n (chars rest)) ≡ b + length needle = behind ∙ ap (λ x. b + length x) (sym bytes_are) in
+    let len : utf8_len (take n (chars rest)) ≡ b + length needle = behind ∙ ap (λ x. b + length x) (sym bytes_are) in
     let s = skip token rest n r within in
     (n, record { found = rw (is, ← r.is) found; behind = rw (← len) s })
 
@@ -211,7 +211,7 @@ through_none token rest needle hay pin r utf8 first same alike finds =
 pub skip_all : (token rest : List ℕ) → IsRest token rest → IsSkip token rest (length rest) (chars_before token rest + length (drop (chars_before token rest) (chars token)))
 skip_all token rest r =
     let utf8 = IsUtf8-from_is_utf8 rest r.rest_utf8 in
-    let all : bytes (take (length (chars rest)) (chars rest)) ≡ length rest = ap bytes (take_all (chars rest)) ∙ sym (length-bytes rest r.rest_utf8) in
+    let all : utf8_len (take (length (chars rest)) (chars rest)) ≡ length rest = ap utf8_len (take_all (chars rest)) ∙ sym (length-bytes rest r.rest_utf8) in
     let s = skip token rest (length (chars rest)) r (omega arith) in
     rw (← all, ← r.is) s
   where

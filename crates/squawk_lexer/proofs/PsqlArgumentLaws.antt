@@ -5,8 +5,8 @@ use Rattle.std.proofs.lemmas.List.{length-drop, get_or-drop}
 use Rattle.std.proofs.lemmas.List.Sums.{prefix_len-le-length}
 use Rattle.std.proofs.lemmas.Bool.Decides.{nat_tests}
 use Rattle.squawk_lexer.specs.Classes.{is_blank, is_line_end, is_not_line_end}
-use Rattle.squawk_lexer.specs.PsqlParts.{is_quote, is_pair, close_len, ends_arguments, part_rest, args_len, mark_behind, is_parenthesis, marked_len}
-use Rattle.squawk_lexer.specs.PsqlArguments.{begins_pair, IsPieces, NoPiece, OnePiece, PairPiece, QuotesCloseFirst, OpenQuotesStayOpen, IsParts, NoPart, OnePart, IsLongest, ArgumentsAreLongest, ArgumentsAreOne, ends_argument, argument_len, ArgumentIsLongest, ArgumentIsOne, mark_from, first_marked, MarkedIsFirst}
+use Rattle.squawk_lexer.specs.PsqlParts.{is_quote, is_escape_pair, close_len, ends_arguments, part_rest, arguments_len, mark_after, is_parenthesis, marked_len}
+use Rattle.squawk_lexer.specs.PsqlArguments.{begins_pair, IsPieces, NoPiece, OnePiece, PairPiece, QuotesCloseFirst, OpenQuotesStayOpen, IsParts, NoPart, OnePart, IsLongest, ArgumentsAreLongest, ArgumentsAreUnique, ends_argument, argument_len, ArgumentIsLongest, ArgumentIsUnique, mark_from, first_marked, MarkedIsFirst}
 use Rattle.squawk_lexer.proofs.Steps.{within_some}
 
 -- ---- quotes
@@ -26,10 +26,10 @@ one_piece : (q c : ℕ) (cs : List ℕ) (o : Option ℕ) → is_line_end c ≡ f
 one_piece q c cs None t s p more = rw t (OnePiece c cs (prefix_len is_not_line_end cs) t s p more)
 one_piece q c cs (Some n) t s p (m, e, pieces, last) = (1 + m, omega (arith, e), OnePiece c cs m t s p pieces, let next : 1 + m ≡ suc m = omega arith in rw next last)
 
-pub pair_plain : (q c d : ℕ) → is_pair q c d ≡ true → is_line_end d ≡ false
+pub pair_plain : (q c d : ℕ) → is_escape_pair q c d ≡ true → is_line_end d ≡ false
 pair_plain q c d p = grind (arith, nat_tests)
 
-pair_piece : (q c d : ℕ) (cs : List ℕ) (o : Option ℕ) → is_line_end c ≡ false → is_pair q c d ≡ true → Closes q cs o → Closes q (c ∷ d ∷ cs) (option_map (λ n. n + 2) o)
+pair_piece : (q c d : ℕ) (cs : List ℕ) (o : Option ℕ) → is_line_end c ≡ false → is_escape_pair q c d ≡ true → Closes q cs o → Closes q (c ∷ d ∷ cs) (option_map (λ n. n + 2) o)
 pair_piece q c d cs None t p more =
     let all : 1 + (1 + prefix_len is_not_line_end cs) ≡ 2 + prefix_len is_not_line_end cs = omega arith in
     rw (t, pair_plain q c d p, all) (PairPiece c d cs (prefix_len is_not_line_end cs) p more)
@@ -43,9 +43,9 @@ closes q (c ∷ []) = by (eqb c q) (is_line_end c) refl refl
     by true l s t = is_close q c [] s
     by false true s t = no_piece q c [] t
     by false false s t = one_piece q c [] None t s refl (NoPiece [])
-closes q (c ∷ d ∷ cs) = by (is_line_end c) (eqb c q) (is_pair q c d) refl refl refl (closes q cs) (closes q (d ∷ cs))
+closes q (c ∷ d ∷ cs) = by (is_line_end c) (eqb c q) (is_escape_pair q c d) refl refl refl (closes q cs) (closes q (d ∷ cs))
   where
-    by : (l b p : Bool) → is_line_end c ≡ l → eqb c q ≡ b → is_pair q c d ≡ p → Closes q cs (close_len q cs) → Closes q (d ∷ cs) (close_len q (d ∷ cs))
+    by : (l b p : Bool) → is_line_end c ≡ l → eqb c q ≡ b → is_escape_pair q c d ≡ p → Closes q cs (close_len q cs) → Closes q (d ∷ cs) (close_len q (d ∷ cs))
         → Closes q (c ∷ d ∷ cs) (cond l None (cond b (Some 1) (cond p (option_map (λ n. n + 2) (close_len q cs)) (option_map (λ n. n + 1) (close_len q (d ∷ cs))))))
     by true b p t s r two one = no_piece q c (d ∷ cs) t
     by false true p t s r two one = is_close q c (d ∷ cs) s
@@ -125,7 +125,7 @@ only ends cs n (OnePart c rest m t more) stops =
     rw t (omega (arith, only ends (drop r rest) m more stops', parts_inside ends r rest (rest_in c rest)))
 
 -- the arguments together, and one of them, are such
-args_parts : (k : ℕ) (cs : List ℕ) → args_len k cs ≡ parts_len ends_arguments k cs
+args_parts : (k : ℕ) (cs : List ℕ) → arguments_len k cs ≡ parts_len ends_arguments k cs
 args_parts k [] = refl
 args_parts zero (c ∷ cs) = ap (λ n. cond (ends_arguments c) 0 (1 + n)) (args_parts (part_rest c cs) cs)
 args_parts (suc k) (c ∷ cs) = ap (λ n. 1 + n) (args_parts k cs)
@@ -136,15 +136,15 @@ argument_parts zero (c ∷ cs) = ap (λ n. cond (ends_argument c) 0 (1 + n)) (ar
 argument_parts (suc k) (c ∷ cs) = ap (λ n. 1 + n) (argument_parts k cs)
 
 pub arguments_are_longest : ArgumentsAreLongest
-arguments_are_longest cs = longest ends_arguments 0 cs (args_len 0 cs) (omega arith) (sym (args_parts 0 cs) ∙ omega arith)
+arguments_are_longest cs = longest ends_arguments 0 cs (arguments_len 0 cs) (omega arith) (sym (args_parts 0 cs) ∙ omega arith)
 
 pub argument_is_longest : ArgumentIsLongest
 argument_is_longest cs = longest ends_argument 0 cs (argument_len 0 cs) (omega arith) (sym (argument_parts 0 cs) ∙ omega arith)
 
-pub arguments_are_one : ArgumentsAreOne
+pub arguments_are_one : ArgumentsAreUnique
 arguments_are_one cs n h = only ends_arguments cs n h.parts h.stops ∙ sym (args_parts 0 cs)
 
-pub argument_is_one : ArgumentIsOne
+pub argument_is_one : ArgumentIsUnique
 argument_is_one cs n h = only ends_argument cs n h.parts h.stops ∙ sym (argument_parts 0 cs)
 
 -- ---- the first argument whose mark is `)`
@@ -174,7 +174,7 @@ within c cs (more, first) zero mark = by (ends_arguments c) (is_blank c) refl re
     by false true e f = rw (e, f, first) (rw (e, f) refl)
     by false false e f =
         let r = part_rest c cs in
-        let m = mark_behind mark c cs in
+        let m = mark_after mark c cs in
         rw (e, f) (ap (option_map (λ n. n + 1)) (more r m) ∙ further (is_parenthesis (mark_from r m cs)) (argument_len r cs) c cs)
 within c cs (more, first) (suc n) mark = ap (option_map (λ n. n + 1)) (more n mark) ∙ further (is_parenthesis (mark_from n mark cs)) (argument_len n cs) c cs
 
@@ -186,7 +186,7 @@ start c cs (more, first) = by (ends_arguments c) (is_blank c) refl refl
     by false true e f = rw (e, f, first) refl
     by false false e f =
         let r = part_rest c cs in
-        let m = mark_behind None c cs in
+        let m = mark_after None c cs in
         let n = argument_len r cs in
         rw (e, f) (ap (option_map (λ n. n + 1)) (more r m) ∙ begun (is_parenthesis (mark_from r m cs)) n (first_marked n cs))
 

@@ -6,8 +6,8 @@ use Rattle.std.specs.List.{list_all, prefix_len}
 use Rattle.std.proofs.lemmas.Bool.Decides.{nat_tests}
 use Rattle.std.proofs.lemmas.Str.{encodes-chars, encodes-IsAscii, chars-IsAscii, encode_ascii, chars_past_char, IsCharBoundary-after_ascii}
 use Rattle.squawk_lexer.specs.PsqlWords.{is_among}
-use Rattle.squawk_lexer.specs.Classes.{is_command_word}
-use Rattle.squawk_lexer.specs.Psql.{word, word_end}
+use Rattle.squawk_lexer.specs.Classes.{is_command_char}
+use Rattle.squawk_lexer.specs.Psql.{command_word, word_end}
 
 -- ---- ASCII
 
@@ -101,9 +101,9 @@ tail bs c cs utf8 e ascii =
     let first : get_or bs 0 0 ≡ c = ap (λ x. get_or x 0 0) bytes_are in
     (omega arith, IsCharBoundary-after_ascii bs 0 utf8 (omega arith) (omega arith), ap (λ x. chars (drop 1 x)) bytes_are ∙ rest)
 
-pub word_tail : (u bs : List ℕ) → IsUtf8 bs → get_or u 0 0 ≡ 92 → chars bs ≡ take (word_end u) u → (1 ≤ length bs) × IsCharBoundary bs 1 × (chars (drop 1 bs) ≡ word u)
+pub word_tail : (u bs : List ℕ) → IsUtf8 bs → get_or u 0 0 ≡ 92 → chars bs ≡ take (word_end u) u → (1 ≤ length bs) × IsCharBoundary bs 1 × (chars (drop 1 bs) ≡ command_word u)
 word_tail [] bs utf8 first e = absurd (omega arith)
 word_tail (c ∷ v) bs utf8 first e =
-    let next : 1 + prefix_len is_command_word v ≡ suc (prefix_len is_command_word v) = omega arith in
-    let t = tail bs c (take (prefix_len is_command_word v) v) utf8 (rw next at e) (omega arith) in
+    let next : 1 + prefix_len is_command_char v ≡ suc (prefix_len is_command_char v) = omega arith in
+    let t = tail bs c (take (prefix_len is_command_char v) v) utf8 (rw next at e) (omega arith) in
     rw next t

@@ -3,7 +3,7 @@ use Rattle.std.proofs.Common.{◌≡◌, ◌≢◌, ℕ, suc, ◌+◌, Bool, tru
 use Rattle.std.proofs.lemmas.Bool.Decides.{nat_tests}
 use Rattle.squawk_lexer.specs.Classes.{backslash}
 use Rattle.squawk_lexer.specs.Quoted.{quoted_len}
-use Rattle.squawk_lexer.specs.QuotedLaws.{IsItems, NoItem, TwoQuotes, Escaped, OneItem, QuotedEndsFirst, QuotedEndsOnce}
+use Rattle.squawk_lexer.specs.QuotedLaws.{IsItems, NoItem, TwoQuotes, Escaped, OneItem, QuotedEndsFirst, QuotedEndIsUnique}
 
 abbrev Ends : Bool → ℕ → List ℕ → Option ℕ → Type 0
 Ends e q cs None = Unit {0}
@@ -91,7 +91,7 @@ behind_two c d rest i k e = ap (slice_get (c ∷ d ∷ rest)) e
 behind_one : (c : ℕ) (rest : List ℕ) (i k : ℕ) → i ≡ suc k → slice_get (c ∷ rest) i ≡ slice_get rest k
 behind_one c rest i k e = ap (slice_get (c ∷ rest)) e
 
-pub quoted_ends_once : QuotedEndsOnce
+pub quoted_ends_once : QuotedEndIsUnique
 quoted_ends_once e q cs m (NoItem rest) h n = here e q rest h n
 quoted_ends_once e q cs m (TwoQuotes c d rest k t s items) h n =
     let more = quoted_ends_once e q rest k items (sym (behind_two c d rest (2 + k) k (omega arith)) ∙ h) (λ g. n (behind_two c d rest (2 + k + 1) (k + 1) (omega arith) ∙ g)) in

@@ -2,21 +2,21 @@
 use Rattle.std.proofs.Common.{◌≡◌, ℕ, ◌<◌, true, List, length, get_or, refl, sym, subst, ◌∙◌, Bool, false, ◌&&◌, cond, eqb, eqb-true, arith}
 use Rattle.std.proofs.lemmas.Bool.Decides.{nat_tests}
 use Rattle.squawk_lexer.specs.declared.token.Strings.{Strings}
-use Rattle.squawk_lexer.specs.declared.lexer.Start.{Start}
-use Rattle.squawk_lexer.specs.declared.lexer.Start.TheVariants.{White, LineComment, BlockComment, String, QuotedIdent, Word, Dollar, Number, DotDot, Fraction, Psql, Symbol}
-use Rattle.squawk_lexer.specs.Place.{behind}
-use Rattle.squawk_lexer.specs.Classes.{is_white, is_id_start, is_digit}
-use Rattle.squawk_lexer.specs.Token.{start, begun, lexeme_of}
+use Rattle.squawk_lexer.specs.declared.lexer.TokenForm.{TokenForm}
+use Rattle.squawk_lexer.specs.declared.lexer.TokenForm.TheVariants.{Whitespace, LineComment, BlockComment, String, QuotedIdent, Word, Dollar, Number, DotDot, Fraction, Psql, Symbol}
+use Rattle.squawk_lexer.specs.Position.{position_after}
+use Rattle.squawk_lexer.specs.Classes.{is_whitespace, is_ident_start, is_digit}
+use Rattle.squawk_lexer.specs.Token.{token_form, lexeme_of_form, lexeme_of}
 use Rattle.squawk_lexer.proofs.Steps.{behind_read, behind_within}
 
 -- the test of each row
-abbrev pub row_test : Start → ℕ → ℕ → Bool
-row_test White c d = is_white c
+abbrev pub row_test : TokenForm → ℕ → ℕ → Bool
+row_test Whitespace c d = is_whitespace c
 row_test LineComment c d = eqb c 45 && eqb d 45
 row_test BlockComment c d = eqb c 47 && eqb d 42
 row_test String c d = eqb c 39
 row_test QuotedIdent c d = eqb c 34
-row_test Word c d = is_id_start c
+row_test Word c d = is_ident_start c
 row_test Dollar c d = eqb c 36
 row_test Number c d = is_digit c
 row_test DotDot c d = eqb c 46 && eqb d 46
@@ -25,8 +25,8 @@ row_test Psql c d = eqb c 92
 row_test Symbol c d = true
 
 -- of one test for each row, that of a row
-abbrev pick : Start → Bool → Bool → Bool → Bool → Bool → Bool → Bool → Bool → Bool → Bool → Bool → Bool
-pick White w l b s q i x n p f y = w
+abbrev pick : TokenForm → Bool → Bool → Bool → Bool → Bool → Bool → Bool → Bool → Bool → Bool → Bool → Bool
+pick Whitespace w l b s q i x n p f y = w
 pick LineComment w l b s q i x n p f y = l
 pick BlockComment w l b s q i x n p f y = b
 pick String w l b s q i x n p f y = s
@@ -40,7 +40,7 @@ pick Psql w l b s q i x n p f y = y
 pick Symbol w l b s q i x n p f y = true
 
 picked : (w l b s q i x n p f y : Bool)
-    → pick (cond w White (cond l LineComment (cond b BlockComment (cond s String (cond q QuotedIdent (cond i Word (cond x Dollar (cond n Number (cond p DotDot (cond f Fraction (cond y Psql Symbol))))))))))) w l b s q i x n p f y ≡ true
+    → pick (cond w Whitespace (cond l LineComment (cond b BlockComment (cond s String (cond q QuotedIdent (cond i Word (cond x Dollar (cond n Number (cond p DotDot (cond f Fraction (cond y Psql Symbol))))))))))) w l b s q i x n p f y ≡ true
 picked true l b s q i x n p f y = refl
 picked false true b s q i x n p f y = refl
 picked false false true s q i x n p f y = refl
@@ -54,8 +54,8 @@ picked false false false false false false false false false true y = refl
 picked false false false false false false false false false false true = refl
 picked false false false false false false false false false false false = refl
 
-same_test : (r : Start) (c d : ℕ) → pick r (is_white c) (eqb c 45 && eqb d 45) (eqb c 47 && eqb d 42) (eqb c 39) (eqb c 34) (is_id_start c) (eqb c 36) (is_digit c) (eqb c 46 && eqb d 46) (eqb c 46 && is_digit d) (eqb c 92) ≡ row_test r c d
-same_test White c d = refl
+same_test : (r : TokenForm) (c d : ℕ) → pick r (is_whitespace c) (eqb c 45 && eqb d 45) (eqb c 47 && eqb d 42) (eqb c 39) (eqb c 34) (is_ident_start c) (eqb c 36) (is_digit c) (eqb c 46 && eqb d 46) (eqb c 46 && is_digit d) (eqb c 92) ≡ row_test r c d
+same_test Whitespace c d = refl
 same_test LineComment c d = refl
 same_test BlockComment c d = refl
 same_test String c d = refl
@@ -69,51 +69,51 @@ same_test Psql c d = refl
 same_test Symbol c d = refl
 
 -- the row that is chosen fits
-pub row_fits : (r : Start) (c d : ℕ) → r ≡ start c d → row_test r c d ≡ true
-unfolding start
+pub row_fits : (r : TokenForm) (c d : ℕ) → r ≡ token_form c d → row_test r c d ≡ true
+unfolding token_form
 row_fits r c d e =
     sym (same_test r c d)
-    ∙ subst (λ t. pick t (is_white c) (eqb c 45 && eqb d 45) (eqb c 47 && eqb d 42) (eqb c 39) (eqb c 34) (is_id_start c) (eqb c 36) (is_digit c) (eqb c 46 && eqb d 46) (eqb c 46 && is_digit d) (eqb c 92) ≡ true) (sym e)
-    (picked (is_white c) (eqb c 45 && eqb d 45) (eqb c 47 && eqb d 42) (eqb c 39) (eqb c 34) (is_id_start c) (eqb c 36) (is_digit c) (eqb c 46 && eqb d 46) (eqb c 46 && is_digit d) (eqb c 92))
+    ∙ subst (λ t. pick t (is_whitespace c) (eqb c 45 && eqb d 45) (eqb c 47 && eqb d 42) (eqb c 39) (eqb c 34) (is_ident_start c) (eqb c 36) (is_digit c) (eqb c 46 && eqb d 46) (eqb c 46 && is_digit d) (eqb c 92) ≡ true) (sym e)
+    (picked (is_whitespace c) (eqb c 45 && eqb d 45) (eqb c 47 && eqb d 42) (eqb c 39) (eqb c 34) (is_ident_start c) (eqb c 36) (is_digit c) (eqb c 46 && eqb d 46) (eqb c 46 && is_digit d) (eqb c 92))
 
-pub start_white : (c d : ℕ) → White ≡ start c d → is_white c ≡ true
-start_white c d e = row_fits White c d e
+pub start_white : (c d : ℕ) → Whitespace ≡ token_form c d → is_whitespace c ≡ true
+start_white c d e = row_fits Whitespace c d e
 
-start_line : (c d : ℕ) → LineComment ≡ start c d → 0 < d
+start_line : (c d : ℕ) → LineComment ≡ token_form c d → 0 < d
 start_line c d e = let t = row_fits LineComment c d e in grind (arith, nat_tests)
 
-start_block : (c d : ℕ) → BlockComment ≡ start c d → 0 < d
+start_block : (c d : ℕ) → BlockComment ≡ token_form c d → 0 < d
 start_block c d e = let t = row_fits BlockComment c d e in grind (arith, nat_tests)
 
-start_dots : (c d : ℕ) → DotDot ≡ start c d → 0 < d
+start_dots : (c d : ℕ) → DotDot ≡ token_form c d → 0 < d
 start_dots c d e = let t = row_fits DotDot c d e in grind (arith, nat_tests)
 
-two : (u : List ℕ) (i : ℕ) → i ≡ 0 → 0 < length u → 0 < get_or u 1 0 → (behind u i ≡ 1) × (behind u (behind u i) ≡ 2)
+two : (u : List ℕ) (i : ℕ) → i ≡ 0 → 0 < length u → 0 < get_or u 1 0 → (position_after u i ≡ 1) × (position_after u (position_after u i) ≡ 2)
 two u i none some second =
-    let one : behind u 0 ≡ 1 = behind_within u 0 some in
-    let next : behind u 1 ≡ 2 = behind_read u 1 second in
+    let one : position_after u 0 ≡ 1 = behind_within u 0 some in
+    let next : position_after u 1 ≡ 2 = behind_read u 1 second in
     rw (none, one) (refl, next)
 
-pub begin_line : (u : List ℕ) (i : ℕ) → i ≡ 0 → 0 < length u → LineComment ≡ start (get_or u 0 0) (get_or u 1 0) → (behind u i ≡ 1) × (behind u (behind u i) ≡ 2)
+pub begin_line : (u : List ℕ) (i : ℕ) → i ≡ 0 → 0 < length u → LineComment ≡ token_form (get_or u 0 0) (get_or u 1 0) → (position_after u i ≡ 1) × (position_after u (position_after u i) ≡ 2)
 begin_line u i none some e = two u i none some (start_line _ _ e)
 
-pub begin_block : (u : List ℕ) (i : ℕ) → i ≡ 0 → 0 < length u → BlockComment ≡ start (get_or u 0 0) (get_or u 1 0) → (behind u i ≡ 1) × (behind u (behind u i) ≡ 2)
+pub begin_block : (u : List ℕ) (i : ℕ) → i ≡ 0 → 0 < length u → BlockComment ≡ token_form (get_or u 0 0) (get_or u 1 0) → (position_after u i ≡ 1) × (position_after u (position_after u i) ≡ 2)
 begin_block u i none some e = two u i none some (start_block _ _ e)
 
-pub begin_dots : (u : List ℕ) (i : ℕ) → i ≡ 0 → 0 < length u → DotDot ≡ start (get_or u 0 0) (get_or u 1 0) → (behind u i ≡ 1) × (behind u (behind u i) ≡ 2)
+pub begin_dots : (u : List ℕ) (i : ℕ) → i ≡ 0 → 0 < length u → DotDot ≡ token_form (get_or u 0 0) (get_or u 1 0) → (position_after u i ≡ 1) × (position_after u (position_after u i) ≡ 2)
 begin_dots u i none some e = two u i none some (start_dots _ _ e)
 
-pub begin_word : (u : List ℕ) → Word ≡ start (get_or u 0 0) (get_or u 1 0) → is_id_start (get_or u 0 0) ≡ true
+pub begin_word : (u : List ℕ) → Word ≡ token_form (get_or u 0 0) (get_or u 1 0) → is_ident_start (get_or u 0 0) ≡ true
 begin_word u e = row_fits Word (get_or u 0 0) (get_or u 1 0) e
 
-pub begin_dollar : (u : List ℕ) → Dollar ≡ start (get_or u 0 0) (get_or u 1 0) → get_or u 0 0 ≡ 36
+pub begin_dollar : (u : List ℕ) → Dollar ≡ token_form (get_or u 0 0) (get_or u 1 0) → get_or u 0 0 ≡ 36
 begin_dollar u e = eqb-true (get_or u 0 0) 36 (row_fits Dollar (get_or u 0 0) (get_or u 1 0) e)
 
-pub begin_psql : (u : List ℕ) → Psql ≡ start (get_or u 0 0) (get_or u 1 0) → get_or u 0 0 ≡ 92
+pub begin_psql : (u : List ℕ) → Psql ≡ token_form (get_or u 0 0) (get_or u 1 0) → get_or u 0 0 ≡ 92
 begin_psql u e = eqb-true (get_or u 0 0) 92 (row_fits Psql (get_or u 0 0) (get_or u 1 0) e)
 
 -- the row of a token, with the premises that the code has
-pub row : (strings : Strings) (u : List ℕ) (s : Start) → s ≡ start (get_or u 0 0) (get_or u 1 0) → lexeme_of strings u ≡ begun strings s u
+pub row : (strings : Strings) (u : List ℕ) (s : TokenForm) → s ≡ token_form (get_or u 0 0) (get_or u 1 0) → lexeme_of strings u ≡ lexeme_of_form strings s u
 row strings u s e = rw e refl
 
 pub ruleset start_steps = (begin_line, begin_block, begin_word, begin_dollar, begin_psql, begin_dots, behind_within)

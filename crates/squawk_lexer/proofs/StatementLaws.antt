@@ -6,17 +6,17 @@ use Rattle.std.proofs.lemmas.List.{take-append-le, drop-append-le, get_or-drop, 
 use Rattle.squawk_lexer.specs.declared.token.Token.{Token}
 use Rattle.squawk_lexer.specs.declared.token.TokenKind.TheVariants as kinds
 use Rattle.squawk_lexer.specs.declared.token.Strings.{Strings}
-use Rattle.squawk_lexer.specs.declared.lexer.Start.{Start}
-use Rattle.squawk_lexer.specs.declared.lexer.Start.TheVariants.{White, LineComment, BlockComment, String, QuotedIdent, Word, Dollar, Number, DotDot, Fraction, Psql, Symbol}
-use Rattle.squawk_lexer.specs.Kind.{Lexeme, lexeme}
-use Rattle.squawk_lexer.specs.Text.{bytes}
+use Rattle.squawk_lexer.specs.declared.lexer.TokenForm.{TokenForm}
+use Rattle.squawk_lexer.specs.declared.lexer.TokenForm.TheVariants.{Whitespace, LineComment, BlockComment, String, QuotedIdent, Word, Dollar, Number, DotDot, Fraction, Psql, Symbol}
+use Rattle.squawk_lexer.specs.Kind.{Lexeme, lexeme_until}
+use Rattle.squawk_lexer.specs.Text.{utf8_len}
 use Rattle.squawk_lexer.specs.Classes.{byte_order_mark}
 use Rattle.squawk_lexer.specs.Numbers.{number, fractional}
 use Rattle.squawk_lexer.specs.Dollar.{dollar}
 use Rattle.squawk_lexer.specs.PsqlWords.{is_among, query_ending_words}
-use Rattle.squawk_lexer.specs.Psql.{psql, word as command_word, command_end}
+use Rattle.squawk_lexer.specs.Psql.{psql, command_word as command_word, command_end}
 use Rattle.squawk_lexer.specs.Symbols.{symbol}
-use Rattle.squawk_lexer.specs.Token.{start as row, opening, begun, lexeme_of, lexeme_at, token_at}
+use Rattle.squawk_lexer.specs.Token.{token_form as row, prefix_of, lexeme_of_form, lexeme_of, lexeme_at, token_at}
 use Rattle.squawk_lexer.specs.Cut.{tokens_from}
 use Rattle.squawk_lexer.specs.LookAhead.{Agrees, EndsWithSemi, StatementsStandAlone}
 use Rattle.squawk_lexer.proofs.TokenLaws.{lexeme_at_some, command_plain, is_semi, IsOther, either_other, symbol_other, fractional_other, number_other, opened_other, dollar_other}
@@ -43,16 +43,16 @@ psql_semi u e = elim (cases_eq (get_or u 1 0) 59) [ inl is ↦ is | inr is_not �
   where
     other : eqb (get_or u 1 0) 59 ≡ false → IsOther (psql u)
     other t =
-        either_other (eqb (get_or u 1 0) 92) (lexeme (kinds.PsqlCommand false) 2) _ (record { real = refl; other = refl; plain = refl })
-        (rw t (either_other (eqb (get_or u 1 0) 58) (lexeme kinds.Colon 2) (lexeme (kinds.PsqlCommand (is_among query_ending_words (command_word u))) (command_end u)) (record { real = refl; other = refl; plain = refl }) (record { real = refl; other = refl; plain = command_plain (is_among query_ending_words (command_word u)) })))
+        either_other (eqb (get_or u 1 0) 92) (lexeme_until (kinds.PsqlCommand false) 2) _ (record { real = refl; other = refl; plain = refl })
+        (rw t (either_other (eqb (get_or u 1 0) 58) (lexeme_until kinds.Colon 2) (lexeme_until (kinds.PsqlCommand (is_among query_ending_words (command_word u))) (command_end u)) (record { real = refl; other = refl; plain = refl }) (record { real = refl; other = refl; plain = command_plain (is_among query_ending_words (command_word u)) })))
 
-begun_semi : (strings : Strings) (s : Start) (u : List ℕ) → row (get_or u 0 0) (get_or u 1 0) ≡ s → (begun strings s u).kind ≡ kinds.Semi → BeginsSemi u
-begun_semi strings White u r e = absurd (cc)
+begun_semi : (strings : Strings) (s : TokenForm) (u : List ℕ) → row (get_or u 0 0) (get_or u 1 0) ≡ s → (lexeme_of_form strings s u).kind ≡ kinds.Semi → BeginsSemi u
+begun_semi strings Whitespace u r e = absurd (cc)
 begun_semi strings LineComment u r e = absurd (cc)
 begun_semi strings BlockComment u r e = absurd (cc)
 begun_semi strings String u r e = absurd (cc)
 begun_semi strings QuotedIdent u r e = absurd (cc)
-begun_semi strings Word u r e = unlike (begun strings Word u) _ (opened_other (opening (get_or u 0 0) (get_or u 1 0) (get_or u 2 0)) u) e
+begun_semi strings Word u r e = unlike (lexeme_of_form strings Word u) _ (opened_other (prefix_of (get_or u 0 0) (get_or u 1 0) (get_or u 2 0)) u) e
 begun_semi strings Dollar u r e = unlike (dollar u) _ (dollar_other u) e
 begun_semi strings Number u r e = unlike (number u) _ (number_other u) e
 begun_semi strings DotDot u r e = absurd (cc)
@@ -63,16 +63,16 @@ begun_semi strings Symbol u r e = inl (symbol_semi (get_or u 0 0) e)
 lexeme_semi : (strings : Strings) (s : Bool) (u : List ℕ) → (lexeme_at strings s u).kind ≡ kinds.Semi → BeginsSemi u
 lexeme_semi strings s u e = by (s && eqb (get_or u 0 0) byte_order_mark) e
   where
-    by : (b : Bool) → (cond b (lexeme kinds.Whitespace 1) (lexeme_of strings u)).kind ≡ kinds.Semi → BeginsSemi u
+    by : (b : Bool) → (cond b (lexeme_until kinds.Whitespace 1) (lexeme_of strings u)).kind ≡ kinds.Semi → BeginsSemi u
     by true e = absurd (cc)
     by false e = begun_semi strings (row (get_or u 0 0) (get_or u 1 0)) u refl e
 
 -- and what such a text begins with
-semi_one : (strings : Strings) (s : Bool) (u : List ℕ) → get_or u 0 0 ≡ 59 → lexeme_at strings s u ≡ lexeme kinds.Semi 1
+semi_one : (strings : Strings) (s : Bool) (u : List ℕ) → get_or u 0 0 ≡ 59 → lexeme_at strings s u ≡ lexeme_until kinds.Semi 1
 unfolding row symbol
-semi_one strings s u e = rw (e, and_false s) (ap (λ c. lexeme (symbol c) 1) e)
+semi_one strings s u e = rw (e, and_false s) (ap (λ c. lexeme_until (symbol c) 1) e)
 
-semi_two : (strings : Strings) (s : Bool) (u : List ℕ) → get_or u 0 0 ≡ 92 → get_or u 1 0 ≡ 59 → lexeme_at strings s u ≡ lexeme kinds.Semi 2
+semi_two : (strings : Strings) (s : Bool) (u : List ℕ) → get_or u 0 0 ≡ 92 → get_or u 1 0 ≡ 59 → lexeme_at strings s u ≡ lexeme_until kinds.Semi 2
 unfolding row
 semi_two strings s u e f = rw (e, f, and_false s) refl
 
@@ -102,7 +102,7 @@ first_stays strings s a b some same more =
     let k = (lexeme_at strings s a).end in
     let within : k ≤ length a = tokens_within strings s a some in
     let token : token_at strings s (a ++ b) ≡ token_at strings s a =
-    ap (λ (x : Lexeme). token_from x (a ++ b)) same ∙ ap (λ w. record { kind = (lexeme_at strings s a).kind; len = bytes w }) (take-append-le k a b within) in
+    ap (λ (x : Lexeme). token_from x (a ++ b)) same ∙ ap (λ w. record { kind = (lexeme_at strings s a).kind; len = utf8_len w }) (take-append-le k a b within) in
     let rest : drop (lexeme_at strings s (a ++ b)).end (a ++ b) ≡ drop k a ++ b = ap (λ (x : Lexeme). drop x.end (a ++ b)) same ∙ drop-append-le k a b within in
     tokens_first strings s (a ++ b) (omega (arith, length-append a b))
     ∙ ap (λ t. t ∷ tokens_from strings 0 false (drop (lexeme_at strings s (a ++ b)).end (a ++ b))) token

@@ -5,14 +5,14 @@ use Rattle.std.proofs.lemmas.Bool.Decides.{nat_tests}
 use Rattle.std.proofs.lemmas.List.{get_or-drop, length-drop}
 use Rattle.std.proofs.lemmas.List.Sums.{prefix_len_stops, prefix_len-drop_no}
 use Rattle.std.specs.List.{prefix_len}
-use Rattle.squawk_lexer.specs.Place.{behind}
-use Rattle.squawk_lexer.specs.Runs.{run}
-use Rattle.squawk_lexer.specs.Stops.{is_other, stop_at, is_inside, stop_inside}
+use Rattle.squawk_lexer.specs.Position.{position_after}
+use Rattle.squawk_lexer.specs.Runs.{run_end}
+use Rattle.squawk_lexer.specs.Stops.{is_neither, stop_at, is_neither_on_line, stop_on_line}
 use Rattle.squawk_lexer.specs.Classes.{is_line_end}
 use Rattle.squawk_lexer.proofs.ByteRuns.{Flat}
 use Rattle.squawk_lexer.proofs.Steps.{drop_some, drop_read, drop_past, behind_some, within_some, get_some}
 
-pub flat_other : (a b : ℕ) → a < 128 → b < 128 → Flat (is_other a b)
+pub flat_other : (a b : ℕ) → a < 128 → b < 128 → Flat (is_neither a b)
 flat_other a b p q x y h k = grind (arith, nat_tests)
 
 some_read : (u : List ℕ) (i : ℕ) → i < length u → Some (get_or u i 0) ≡ slice_get u i
@@ -39,7 +39,7 @@ kept F p u step zero i e = ap F (sym (add-zero i))
 kept F p u step (suc n) i e = kept_one F p u step n i (kept F p u step n (i + 1)) e
 
 pub run_kept : {X : Type 0} (F : ℕ → X) (p : ℕ → Bool) (u : List ℕ) → ((i c : ℕ) → Some c ≡ slice_get u i → p c ≡ true → F i ≡ F (i + 1))
-    → (i : ℕ) → F i ≡ F (run p u i)
+    → (i : ℕ) → F i ≡ F (run_end p u i)
 run_kept F p u step i = kept F p u step (prefix_len p (drop i u)) i refl
 
 -- where a run ends is not before it begins
@@ -48,19 +48,19 @@ unfolding stop_at
 stop_on a b u i = omega arith
 
 -- neither of the two
-pub other_not : (a b c : ℕ) → is_other a b c ≡ true → (c ≡ a → ⊥) × (c ≡ b → ⊥)
+pub other_not : (a b c : ℕ) → is_neither a b c ≡ true → (c ≡ a → ⊥) × (c ≡ b → ⊥)
 other_not a b c t = (λ e. absurd (grind (arith, nat_tests)), λ e. absurd (grind (arith, nat_tests)))
 
 -- a step behind the stop
 pub stop_behind : (a b : ℕ) (u : List ℕ) (i c : ℕ) → Some c ≡ slice_get u (stop_at a b u i)
-    → (behind u (stop_at a b u i) ≡ stop_at a b u i + 1) × (i ≤ stop_at a b u i) × (stop_at a b u i < length u)
+    → (position_after u (stop_at a b u i) ≡ stop_at a b u i + 1) × (i ≤ stop_at a b u i) × (stop_at a b u i < length u)
 stop_behind a b u i c s = (behind_some u _ c s, on, within_some u _ c s)
   where
     on : i ≤ stop_at a b u i
     on = stop_on a b u i
 
 -- a loop that goes on behind the stop ends, with the premises that the loop has
-pub stop_smaller : (a b : ℕ) (u : List ℕ) (i c : ℕ) (v : List ℕ) (j k : ℕ) → Some c ≡ slice_get u (stop_at a b u i) → v ≡ u → j ≡ behind u (stop_at a b u i) → j ≤ k
+pub stop_smaller : (a b : ℕ) (u : List ℕ) (i c : ℕ) (v : List ℕ) (j k : ℕ) → Some c ≡ slice_get u (stop_at a b u i) → v ≡ u → j ≡ position_after u (stop_at a b u i) → j ≤ k
     → length v - k < length u - i
 stop_smaller a b u i c v j k s same at on =
     let (next, first, within) = stop_behind a b u i c s in
@@ -71,14 +71,14 @@ pub stop_is : (a b : ℕ) (u : List ℕ) (i c : ℕ) → Some c ≡ slice_get u 
 unfolding stop_at
 stop_is a b u i c s other = by stops (cases_eq c b)
   where
-    stops : is_other a b c ≡ false
+    stops : is_neither a b c ≡ false
     stops =
-        let within : run (is_other a b) u i < length u = within_some u _ c s in
+        let within : run_end (is_neither a b) u i < length u = within_some u _ c s in
         let left : length (drop i u) ≡ length u - i = length-drop i u in
-        let here : get_or (drop i u) (prefix_len (is_other a b) (drop i u)) 0 ≡ c = get_or-drop i u _ 0 ∙ get_some u _ c s in
-        ap (is_other a b) (sym here) ∙ prefix_len_stops (is_other a b) (drop i u) 0 (omega arith)
+        let here : get_or (drop i u) (prefix_len (is_neither a b) (drop i u)) 0 ≡ c = get_or-drop i u _ 0 ∙ get_some u _ c s in
+        ap (is_neither a b) (sym here) ∙ prefix_len_stops (is_neither a b) (drop i u) 0 (omega arith)
 
-    by : is_other a b c ≡ false → (c ≡ b) ⊎ (c ≡ b → ⊥) → c ≡ b
+    by : is_neither a b c ≡ false → (c ≡ b) ⊎ (c ≡ b → ⊥) → c ≡ b
     by t (inl e) = e
     by t (inr n) = absurd (grind (arith, nat_tests))
 
@@ -88,7 +88,7 @@ or_same : (b : Bool) → (b || b) ≡ b
 or_same true = refl
 or_same false = refl
 
-pub other_one : (a b c : ℕ) → a ≡ b → is_other a b c ≡ not (eqb c a)
+pub other_one : (a b c : ℕ) → a ≡ b → is_neither a b c ≡ not (eqb c a)
 other_one a b c e = rw (← e) (ap not (or_same (eqb c a)))
 
 -- ---- within a line
@@ -100,7 +100,7 @@ first_stops p c v e = by (cases_Bool (p c))
     by (inl t) = absurd (let e' = rw t at e in omega arith)
     by (inr f) = f
 
-pub flat_inside : (a b : ℕ) → a < 128 → b < 128 → Flat (is_inside a b)
+pub flat_inside : (a b : ℕ) → a < 128 → b < 128 → Flat (is_neither_on_line a b)
 flat_inside a b p q x y h k = grind (arith, nat_tests)
 
 both_runs : (p q : ℕ → Bool) (bs : List ℕ) → prefix_len q (take (prefix_len p bs) bs) ≡ prefix_len (λ x. p x && q x) bs
@@ -125,44 +125,44 @@ line_tests false false false z = refl
 
 -- the search for the three and then for CR before them
 pub inside_run : (a b : ℕ) (bs cs : List ℕ) (n m : ℕ) → n ≡ prefix_len (λ x. not ((eqb x a || eqb x b) || eqb x 10)) bs → cs ≡ take n bs → m ≡ prefix_len (λ x. not (eqb x 13)) cs
-    → m ≡ prefix_len (is_inside a b) bs
+    → m ≡ prefix_len (is_neither_on_line a b) bs
 inside_run a b bs cs n m first part second =
     rw (second, part, first)
     (both_runs (λ x. not ((eqb x a || eqb x b) || eqb x 10)) (λ x. not (eqb x 13)) bs
-    ∙ same_runs (λ x. not ((eqb x a || eqb x b) || eqb x 10) && not (eqb x 13)) (is_inside a b) (λ x. line_tests (eqb x a) (eqb x b) (eqb x 10) (eqb x 13)) bs)
+    ∙ same_runs (λ x. not ((eqb x a || eqb x b) || eqb x 10) && not (eqb x 13)) (is_neither_on_line a b) (λ x. line_tests (eqb x a) (eqb x b) (eqb x 10) (eqb x 13)) bs)
 
 -- a run from where a run ends is empty
-run_again : (p : ℕ → Bool) (u : List ℕ) (i : ℕ) → i ≤ length u → run p u (run p u i) ≡ run p u i
-run_again p u i h = ap (λ n. run p u i + n) (by (cases_lt (run p u i) (length u))) ∙ add-zero _
+run_again : (p : ℕ → Bool) (u : List ℕ) (i : ℕ) → i ≤ length u → run_end p u (run_end p u i) ≡ run_end p u i
+run_again p u i h = ap (λ n. run_end p u i + n) (by (cases_lt (run_end p u i) (length u))) ∙ add-zero _
   where
-    by : (run p u i < length u) ⊎ (length u ≤ run p u i) → prefix_len p (drop (run p u i) u) ≡ 0
+    by : (run_end p u i < length u) ⊎ (length u ≤ run_end p u i) → prefix_len p (drop (run_end p u i) u) ≡ 0
     by (inl within) =
         let left : length (drop i u) ≡ length u - i = length-drop i u in
         let stops : p (get_or (drop i u) (prefix_len p (drop i u)) 0) ≡ false = prefix_len_stops p (drop i u) 0 (omega arith) in
-        let here : get_or (drop i u) (prefix_len p (drop i u)) 0 ≡ get_or u (run p u i) 0 = get_or-drop i u _ 0 in
-        prefix_len-drop_no p u (run p u i) 0 within (ap p (sym here) ∙ stops)
-    by (inr past) = rw (drop_past u (run p u i) past) refl
+        let here : get_or (drop i u) (prefix_len p (drop i u)) 0 ≡ get_or u (run_end p u i) 0 = get_or-drop i u _ 0 in
+        prefix_len-drop_no p u (run_end p u i) 0 within (ap p (sym here) ∙ stops)
+    by (inr past) = rw (drop_past u (run_end p u i) past) refl
 
-pub stop_again : (a b : ℕ) (u : List ℕ) (i : ℕ) → i ≤ length u → stop_inside a b u (stop_inside a b u i) ≡ stop_inside a b u i
-unfolding stop_inside
-stop_again a b u i h = run_again (is_inside a b) u i h
+pub stop_again : (a b : ℕ) (u : List ℕ) (i : ℕ) → i ≤ length u → stop_on_line a b u (stop_on_line a b u i) ≡ stop_on_line a b u i
+unfolding stop_on_line
+stop_again a b u i h = run_again (is_neither_on_line a b) u i h
 
-pub inside_on : (a b : ℕ) (u : List ℕ) (i : ℕ) → i ≤ stop_inside a b u i
-unfolding stop_inside
+pub inside_on : (a b : ℕ) (u : List ℕ) (i : ℕ) → i ≤ stop_on_line a b u i
+unfolding stop_on_line
 inside_on a b u i = omega arith
 
 -- where the run stops within a line stands one of the two
-pub inside_is : (a b : ℕ) (u : List ℕ) (i c : ℕ) → stop_inside a b u i ≡ i → Some c ≡ slice_get u i → is_line_end c ≡ false → (c ≡ a → ⊥) → c ≡ b
-unfolding stop_inside
+pub inside_is : (a b : ℕ) (u : List ℕ) (i c : ℕ) → stop_on_line a b u i ≡ i → Some c ≡ slice_get u i → is_line_end c ≡ false → (c ≡ a → ⊥) → c ≡ b
+unfolding stop_on_line
 inside_is a b u i c stop s plain other = by stops (cases_eq c b)
   where
-    stops : is_inside a b c ≡ false
+    stops : is_neither_on_line a b c ≡ false
     stops =
         let within : i < length u = within_some u _ c s in
-        let none : prefix_len (is_inside a b) (drop i u) ≡ 0 = omega arith in
+        let none : prefix_len (is_neither_on_line a b) (drop i u) ≡ 0 = omega arith in
         let first : drop i u ≡ c ∷ drop (i + 1) u = drop_some u i c s in
-        first_stops (is_inside a b) c (drop (i + 1) u) (ap (prefix_len (is_inside a b)) (sym first) ∙ none)
+        first_stops (is_neither_on_line a b) c (drop (i + 1) u) (ap (prefix_len (is_neither_on_line a b)) (sym first) ∙ none)
 
-    by : is_inside a b c ≡ false → (c ≡ b) ⊎ (c ≡ b → ⊥) → c ≡ b
+    by : is_neither_on_line a b c ≡ false → (c ≡ b) ⊎ (c ≡ b → ⊥) → c ≡ b
     by t (inl e) = e
     by t (inr n) = absurd (grind (arith, nat_tests))

@@ -7,13 +7,13 @@ use Rattle.squawk_lexer.specs.declared.token.TokenKind.TheVariants as kinds
 use Rattle.squawk_lexer.specs.declared.token.Strings.{Strings}
 use Rattle.squawk_lexer.specs.Token.{lexeme_at, token_at}
 
--- A token begins at each character that is not inside one; the first `inside` characters are. `start` says that the
+-- A token begins at each character that is not inside one; the first `inside` characters are. `at_start` says that the
 -- whole text begins here.
 abbrev pub tokens_from : Strings → ℕ → Bool → List ℕ → List Token
-tokens_from strings inside start [] = []
-tokens_from strings zero start (c ∷ cs) =
-    token_at strings start (c ∷ cs) ∷ tokens_from strings ((lexeme_at strings start (c ∷ cs)).end - 1) false cs
-tokens_from strings (suc inside) start (c ∷ cs) = tokens_from strings inside start cs
+tokens_from strings inside at_start [] = []
+tokens_from strings zero at_start (c ∷ cs) =
+    token_at strings at_start (c ∷ cs) ∷ tokens_from strings ((lexeme_at strings at_start (c ∷ cs)).end - 1) false cs
+tokens_from strings (suc inside) at_start (c ∷ cs) = tokens_from strings inside at_start cs
 
 -- the tokens of a text, each from where the last one ended
 abbrev pub tokens : Strings → List ℕ → List Token

@@ -32,16 +32,16 @@ FlagsWithin _ len = ⊤
 -- so they do in the token at the front of every text, which has a byte at least
 abbrev pub FlagsLieWithin : Type 0
 FlagsLieWithin =
-    (strings : Strings) (start : Bool) (u : List ℕ) → 1 ≤ length u
-    → (1 ≤ (token_at strings start u).len) × FlagsWithin (token_at strings start u).kind (token_at strings start u).len
+    (strings : Strings) (at_start : Bool) (u : List ℕ) → 1 ≤ length u
+    → (1 ≤ (token_at strings at_start u).len) × FlagsWithin (token_at strings at_start u).kind (token_at strings at_start u).len
 
 -- the token is the first of some text, in one of the two readings
 pub record IsCut (t : Token) : Type 0 where
   pub strings : Strings
-  pub start : Bool
+  pub at_start : Bool
   pub text : List ℕ
   pub some : 1 ≤ length text
-  pub same : t ≡ token_at strings start text
+  pub same : t ≡ token_at strings at_start text
 
 -- each of the tokens is
 abbrev pub AreCut : List Token → Type 0

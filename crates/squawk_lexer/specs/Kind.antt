@@ -10,9 +10,9 @@ pub record Lexeme : Type 0 where
   pub end : ℕ
 
 -- a token of the kind that ends there
-abbrev pub lexeme : TokenKind → ℕ → Lexeme
-lexeme kind end = record { kind = kind; end = end }
+abbrev pub lexeme_until : TokenKind → ℕ → Lexeme
+lexeme_until kind end = record { kind = kind; end = end }
 
 -- a literal of the kind that ends there
-abbrev pub literal : LiteralKind → ℕ → Lexeme
-literal kind end = lexeme (Literal kind) end
+abbrev pub literal_until : LiteralKind → ℕ → Lexeme
+literal_until kind end = lexeme_until (Literal kind) end

@@ -1,7 +1,7 @@
 pub mod Text
 pub mod Classes
 pub mod Bytes
-pub mod Place
+pub mod Position
 pub mod Runs
 pub mod Stops
 pub mod Quoted

@@ -4,32 +4,32 @@ use Rattle.squawk_lexer.specs.declared.token.Base.{Base}
 use Rattle.squawk_lexer.specs.declared.token.Base.TheVariants.{Binary, Octal, Decimal, Hexadecimal}
 use Rattle.squawk_lexer.specs.declared.token.LiteralKind.TheVariants.{Int, Numeric}
 use Rattle.squawk_lexer.specs.declared.token.TokenKind.TheVariants.{PositionalParam}
-use Rattle.squawk_lexer.specs.Kind.{Lexeme, lexeme, literal}
+use Rattle.squawk_lexer.specs.Kind.{Lexeme, lexeme_until, literal_until}
 use Rattle.squawk_lexer.specs.Classes.{is_digit}
-use Rattle.squawk_lexer.specs.Text.{bytes}
-use Rattle.squawk_lexer.specs.Runs.{run, digits, hex, junk, exponent, is_exponent_letter, fraction_digits}
+use Rattle.squawk_lexer.specs.Text.{utf8_len}
+use Rattle.squawk_lexer.specs.Runs.{run_end, digits_end, hex_digits_end, junk_end, exponent_end, is_exponent_letter, fraction_end}
 
 -- an integer whose digits end at n, and junk
 abbrev pub int : Base → Bool → List ℕ → ℕ → Lexeme
-int base empty u n = literal (Int base empty (bytes (take n u))) (junk u n)
+int base empty u n = literal_until (Int base empty (utf8_len (take n u))) (junk_end u n)
 
 -- an integer whose digits begin at 2 and end at n, and junk: it is empty where it has neither
 abbrev pub based_int : Base → List ℕ → ℕ → Lexeme
-based_int base u n = int base (n == 2 && junk u n == n) u n
+based_int base u n = int base (n == 2 && junk_end u n == n) u n
 
 -- a number with a point or an exponent which ends at n, and junk
 abbrev pub numeric : Option ℕ → List ℕ → ℕ → Lexeme
-numeric empty_exponent u n = literal (Numeric empty_exponent (bytes (take n u))) (junk u n)
+numeric empty_exponent u n = literal_until (Numeric empty_exponent (utf8_len (take n u))) (junk_end u n)
 
 -- a number with an exponent whose letter stands at i
 abbrev pub with_exponent : List ℕ → ℕ → Lexeme
-with_exponent u i = numeric (if exponent u i == i + 1 then Some (bytes (take i u)) else None) u (exponent u i)
+with_exponent u i = numeric (if exponent_end u i == i + 1 then Some (utf8_len (take i u)) else None) u (exponent_end u i)
 
 -- a number whose point stands before i
 abbrev pub fractional : List ℕ → ℕ → Lexeme
 fractional u i =
-    if is_exponent_letter (slice_index u (fraction_digits u i)) then with_exponent u (fraction_digits u i)
-    else numeric None u (fraction_digits u i)
+    if is_exponent_letter (slice_index u (fraction_end u i)) then with_exponent u (fraction_end u i)
+    else numeric None u (fraction_end u i)
 
 -- a number without a base, whose first digits end at a; `.` is 46
 abbrev pub decimal_from : List ℕ → ℕ → Lexeme
@@ -41,11 +41,11 @@ decimal_from u a =
 -- a text that begins with a digit; 48 is `0`, which a letter makes a base: `b` or `B`, `o` or `O`, `x` or `X`
 abbrev pub number : List ℕ → Lexeme
 number u =
-    if slice_index u 0 == 48 && (slice_index u 1 == 98 || slice_index u 1 == 66) then based_int Binary u (digits u 2)  -- b, B
-    else if slice_index u 0 == 48 && (slice_index u 1 == 111 || slice_index u 1 == 79) then based_int Octal u (digits u 2)  -- o, O
-    else if slice_index u 0 == 48 && (slice_index u 1 == 120 || slice_index u 1 == 88) then based_int Hexadecimal u (hex u 2)  -- x, X
-    else decimal_from u (digits u 1)
+    if slice_index u 0 == 48 && (slice_index u 1 == 98 || slice_index u 1 == 66) then based_int Binary u (digits_end u 2)  -- b, B
+    else if slice_index u 0 == 48 && (slice_index u 1 == 111 || slice_index u 1 == 79) then based_int Octal u (digits_end u 2)  -- o, O
+    else if slice_index u 0 == 48 && (slice_index u 1 == 120 || slice_index u 1 == 88) then based_int Hexadecimal u (hex_digits_end u 2)  -- x, X
+    else decimal_from u (digits_end u 1)
 
 -- a text that begins with `$` and no delimiter: digits without `_`, and junk
 abbrev pub parameter : List ℕ → Lexeme
-parameter u = lexeme (PositionalParam (bytes (take (run is_digit u 1) u))) (junk u (run is_digit u 1))
+parameter u = lexeme_until (PositionalParam (utf8_len (take (run_end is_digit u 1) u))) (junk_end u (run_end is_digit u 1))

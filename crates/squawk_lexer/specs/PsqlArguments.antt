@@ -3,20 +3,20 @@
 use Rattle.std.specs.Prelude.{◌≡◌, ℕ, zero, suc, ◌+◌, ◌<◌, Bool, true, false, ◌||◌, ◌==◌, List, [], ◌∷◌, length, drop, slice_index, slice_get, Option, Some, None, option_map, if◌then◌else◌}
 use Rattle.std.specs.List.{prefix_len}
 use Rattle.squawk_lexer.specs.Classes.{is_line_end, is_not_line_end, is_blank}
-use Rattle.squawk_lexer.specs.PsqlParts.{is_pair, close_len, ends_arguments, part_rest, args_len, mark_behind, is_parenthesis, marked_len}
+use Rattle.squawk_lexer.specs.PsqlParts.{is_escape_pair, close_len, ends_arguments, part_rest, arguments_len, mark_after, is_parenthesis, marked_len}
 
 -- ---- one quote
 
 -- whether a text begins with a pair
 abbrev pub begins_pair : ℕ → List ℕ → Bool
-begins_pair q (c ∷ d ∷ cs) = is_pair q c d
+begins_pair q (c ∷ d ∷ cs) = is_escape_pair q c d
 begins_pair q cs = false
 
 -- the first n characters behind the opening of a quote are whole pieces on its line, none of which is q by itself
 pub data IsPieces (q : ℕ) : List ℕ → ℕ → Type 0 where
   NoPiece : (cs : List ℕ) → IsPieces q cs 0
   OnePiece : (c : ℕ) (cs : List ℕ) (n : ℕ) → is_line_end c ≡ false → (c == q) ≡ false → begins_pair q (c ∷ cs) ≡ false → IsPieces q cs n → IsPieces q (c ∷ cs) (1 + n)
-  PairPiece : (c d : ℕ) (cs : List ℕ) (n : ℕ) → is_pair q c d ≡ true → IsPieces q cs n → IsPieces q (c ∷ d ∷ cs) (2 + n)
+  PairPiece : (c d : ℕ) (cs : List ℕ) (n : ℕ) → is_escape_pair q c d ≡ true → IsPieces q cs n → IsPieces q (c ∷ d ∷ cs) (2 + n)
 
 -- a quote ends behind the first q that is a piece by itself
 abbrev pub QuotesCloseFirst : Type 0
@@ -40,11 +40,11 @@ pub record IsLongest (ends : ℕ → Bool) (cs : List ℕ) (n : ℕ) : Type 0 wh
 
 -- all arguments together, with the blanks between them, are the longest sequence of parts
 abbrev pub ArgumentsAreLongest : Type 0
-ArgumentsAreLongest = (cs : List ℕ) → IsLongest ends_arguments cs (args_len 0 cs)
+ArgumentsAreLongest = (cs : List ℕ) → IsLongest ends_arguments cs (arguments_len 0 cs)
 
 -- and no other length is such
-abbrev pub ArgumentsAreOne : Type 0
-ArgumentsAreOne = (cs : List ℕ) (n : ℕ) → IsLongest ends_arguments cs n → n ≡ args_len 0 cs
+abbrev pub ArgumentsAreUnique : Type 0
+ArgumentsAreUnique = (cs : List ℕ) (n : ℕ) → IsLongest ends_arguments cs n → n ≡ arguments_len 0 cs
 
 -- ---- one argument
 
@@ -63,13 +63,13 @@ abbrev pub ArgumentIsLongest : Type 0
 ArgumentIsLongest = (cs : List ℕ) → IsLongest ends_argument cs (argument_len 0 cs)
 
 -- and no other length is such
-abbrev pub ArgumentIsOne : Type 0
-ArgumentIsOne = (cs : List ℕ) (n : ℕ) → IsLongest ends_argument cs n → n ≡ argument_len 0 cs
+abbrev pub ArgumentIsUnique : Type 0
+ArgumentIsUnique = (cs : List ℕ) (n : ℕ) → IsLongest ends_argument cs n → n ≡ argument_len 0 cs
 
 -- what the rest of an argument makes of a mark, part by part; the first `inside` characters are inside a part
 abbrev pub mark_from : ℕ → Option ℕ → List ℕ → Option ℕ
 mark_from inside mark [] = mark
-mark_from zero mark (c ∷ cs) = if ends_argument c then mark else mark_from (part_rest c cs) (mark_behind mark c cs) cs
+mark_from zero mark (c ∷ cs) = if ends_argument c then mark else mark_from (part_rest c cs) (mark_after mark c cs) cs
 mark_from (suc inside) mark (c ∷ cs) = mark_from inside mark cs
 
 -- the mark of the argument that begins a text

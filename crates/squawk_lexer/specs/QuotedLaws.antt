@@ -18,8 +18,8 @@ QuotedEndsFirst = (escapes : Bool) (q : ℕ) (cs : List ℕ) (n : ℕ) → quote
     → (m : ℕ) × (n ≡ m + 1) × IsItems escapes q cs m × (slice_get cs m ≡ Some q) × (slice_get cs (m + 1) ≢ Some q)
 
 -- and where there is such a q, that is where it ends
-abbrev pub QuotedEndsOnce : Type 0
-QuotedEndsOnce = (escapes : Bool) (q : ℕ) (cs : List ℕ) (m : ℕ) → IsItems escapes q cs m → slice_get cs m ≡ Some q → slice_get cs (m + 1) ≢ Some q
+abbrev pub QuotedEndIsUnique : Type 0
+QuotedEndIsUnique = (escapes : Bool) (q : ℕ) (cs : List ℕ) (m : ℕ) → IsItems escapes q cs m → slice_get cs m ≡ Some q → slice_get cs (m + 1) ≢ Some q
     → quoted_len escapes q cs ≡ Some (m + 1)
 
 -- ---- digits

@@ -4,5 +4,5 @@ use Rattle.std.specs.List.{sum_by}
 use Rattle.std.specs.Char.{len_utf8}
 
 -- how many bytes the characters take in UTF-8
-abbrev pub bytes : List ℕ → ℕ
-bytes u = sum_by len_utf8 u
+abbrev pub utf8_len : List ℕ → ℕ
+utf8_len u = sum_by len_utf8 u

@@ -1,27 +1,27 @@
 //! Sets of characters.
 ghost use Rattle.std.specs.Prelude.{◌≡◌};
-ghost use Rattle.squawk_lexer.specs.Classes.{class_test, is_white, is_blank, is_id_cont, is_digit, is_hex_digit, is_id_start};
+ghost use Rattle.squawk_lexer.specs.Classes.{class_test, is_whitespace, is_blank, is_ident_cont, is_digit, is_hex_digit, is_ident_start};
 
 /// A set of characters that a cursor can pass over.
 #[derive(Clone, Copy)]
 pub(crate) enum Class {
-    White,
+    Whitespace,
     Blank,
-    IdCont,
+    IdentCont,
     Digit,
     NotLineEnd,
     TagCont,
-    CommandWord,
+    CommandChar,
 }
 
 /// Space, TAB, LF, VT, FF or CR.
-pub(crate) fn is_white(c: char) -> bool
-    ensures { result ≡ is_white c }
+pub(crate) fn is_whitespace(c: char) -> bool
+    ensures { result ≡ is_whitespace c }
 {
     matches!(c, ' ' | '\t' | '\n' | '\r' | '\u{B}' | '\u{C}')
 }
 
-/// White that ends no line.
+/// Whitespace that ends no line.
 pub(crate) fn is_blank(c: char) -> bool
     ensures { result ≡ is_blank c }
 {
@@ -29,15 +29,15 @@ pub(crate) fn is_blank(c: char) -> bool
 }
 
 /// What an identifier begins with.
-pub(crate) fn is_id_start(c: char) -> bool
-    ensures { result ≡ is_id_start c }
+pub(crate) fn is_ident_start(c: char) -> bool
+    ensures { result ≡ is_ident_start c }
 {
     matches!(c, 'a'..='z' | 'A'..='Z' | '_' | '\u{80}'..)
 }
 
 /// What an identifier goes on with.
-pub(crate) fn is_id_cont(c: char) -> bool
-    ensures { result ≡ is_id_cont c }
+pub(crate) fn is_ident_cont(c: char) -> bool
+    ensures { result ≡ is_ident_cont c }
 {
     matches!(c, 'a'..='z' | 'A'..='Z' | '_' | '\u{80}'.. | '0'..='9' | '$')
 }
@@ -60,12 +60,12 @@ pub(crate) fn is_in(class: Class, b: u8) -> bool
 {
     let c = b as char;
     match class {
-        Class::White => is_white(c),
+        Class::Whitespace => is_whitespace(c),
         Class::Blank => is_blank(c),
-        Class::IdCont => is_id_cont(c),
+        Class::IdentCont => is_ident_cont(c),
         Class::Digit => is_digit(c),
         Class::NotLineEnd => c != '\n' && c != '\r',
-        Class::TagCont => is_id_cont(c) && c != '$',
-        Class::CommandWord => !is_white(c) && c != '\\',
+        Class::TagCont => is_ident_cont(c) && c != '$',
+        Class::CommandChar => !is_whitespace(c) && c != '\\',
     }
 }

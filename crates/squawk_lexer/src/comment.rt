@@ -1,22 +1,22 @@
 //! Comments: those up to the end of the line, and block comments, which nest.
 ghost use Rattle.std.specs.Prelude.{◌≡◌};
-ghost use Rattle.squawk_lexer.specs.Kind.{lexeme};
-ghost use Rattle.squawk_lexer.specs.Place.{behind};
-ghost use Rattle.squawk_lexer.specs.Runs.{line};
-ghost use Rattle.squawk_lexer.specs.Comment.{comment_end, is_closed, opens, closes};
+ghost use Rattle.squawk_lexer.specs.Kind.{lexeme_until};
+ghost use Rattle.squawk_lexer.specs.Position.{position_after};
+ghost use Rattle.squawk_lexer.specs.Runs.{line_end};
+ghost use Rattle.squawk_lexer.specs.Comment.{comment_end, is_comment_closed, opens_comment, closes_comment};
 
 use crate::classes::Class;
 use crate::cursor::Cursor;
 use crate::token::TokenKind;
 
 fn opens(c: char, next: char) -> bool
-    ensures { result ≡ opens c next }
+    ensures { result ≡ opens_comment c next }
 {
     c == '/' && next == '*'
 }
 
 fn closes(c: char, next: char) -> bool
-    ensures { result ≡ closes c next }
+    ensures { result ≡ closes_comment c next }
 {
     c == '*' && next == '/'
 }
@@ -25,8 +25,8 @@ impl<'a> Cursor<'a> {
     /// Moves behind a line comment, from behind its first dash.
     pub(crate) fn line_comment(&mut self) -> TokenKind
         ensures text { self.new.text ≡ self.old.text }
-        ensures gives { lexeme result self.new.at
-            ≡ lexeme TokenKind.LineComment (line self.old.text (behind self.old.text self.old.at)) }
+        ensures gives { lexeme_until result self.new.at
+            ≡ lexeme_until TokenKind.LineComment (line_end self.old.text (position_after self.old.text self.old.at)) }
     {
         self.bump();
         self.eat_while(Class::NotLineEnd);
@@ -39,7 +39,7 @@ impl<'a> Cursor<'a> {
     pub(crate) fn block_comment(&mut self) -> bool
         ensures text { self.new.text ≡ self.old.text }
         ensures at { self.new.at ≡ comment_end 0 self.old.text self.old.at }
-        ensures closed { result ≡ is_closed 0 self.old.text self.old.at }
+        ensures closed { result ≡ is_comment_closed 0 self.old.text self.old.at }
     {
         let mut inner = 0usize;
         while let Some(c) = self.bump_to(b'/', b'*') {

@@ -1,10 +1,10 @@
 //! Dollar strings and positional parameters.
 ghost use Rattle.std.specs.Prelude.{◌≡◌, ◌+◌, slice_index};
-ghost use Rattle.squawk_lexer.specs.Kind.{lexeme};
-ghost use Rattle.squawk_lexer.specs.Classes.{is_id_start, dollar_sign};
+ghost use Rattle.squawk_lexer.specs.Kind.{lexeme_until};
+ghost use Rattle.squawk_lexer.specs.Classes.{is_ident_start, dollar_sign};
 ghost use Rattle.squawk_lexer.specs.Dollar.{tag_end, dollar_string, dollar};
 
-use crate::classes::{Class, is_id_start};
+use crate::classes::{Class, is_ident_start};
 use crate::cursor::Cursor;
 use crate::token::{LiteralKind, TokenKind, literal};
 
@@ -16,7 +16,7 @@ impl<'a> Cursor<'a> {
         requires first { slice_index self.old.text 0 ≡ dollar_sign }
         requires at { self.old.at ≡ 1 }
         ensures text { self.new.text ≡ self.old.text }
-        ensures gives { lexeme result self.new.at ≡ dollar self.old.text }
+        ensures gives { lexeme_until result self.new.at ≡ dollar self.old.text }
     {
         let has_tag = self.eat_tag();
         if self.first() == '$' {
@@ -37,9 +37,9 @@ impl<'a> Cursor<'a> {
         requires at { self.old.at ≡ 1 }
         ensures text { self.new.text ≡ self.old.text }
         ensures at { self.new.at ≡ tag_end self.old.text }
-        ensures some { result ≡ is_id_start (slice_index self.old.text 1) }
+        ensures some { result ≡ is_ident_start (slice_index self.old.text 1) }
     {
-        if !is_id_start(self.first()) {
+        if !is_ident_start(self.first()) {
             return false;
         }
         self.eat_while(Class::TagCont);
@@ -52,7 +52,7 @@ impl<'a> Cursor<'a> {
         requires first { slice_index self.old.text 0 ≡ dollar_sign }
         requires at { self.old.at ≡ tag_end self.old.text + 1 }
         ensures text { self.new.text ≡ self.old.text }
-        ensures gives { lexeme result self.new.at ≡ dollar_string self.old.text }
+        ensures gives { lexeme_until result self.new.at ≡ dollar_string self.old.text }
     {
         let delimiter = self.taken();
         let terminated = self.eat_through(delimiter);

@@ -1,17 +1,17 @@
 //! Laws that the definitions of the grammar obey. Each is the clause of a function that does nothing.
 ghost use Rattle.std.specs.Prelude.{◌≡◌, ◌∷◌, []};
-ghost use Rattle.squawk_lexer.specs.Laws.{RunsAreLongest, RunsAreOne, TokensProgress, TokensWithin, PlacesAddUp, PlacesWithin, TokensRestart, FoundIsFirst, NoneIsNowhere, CommentsBalance, OpenCommentsStayOpen};
+ghost use Rattle.squawk_lexer.specs.Laws.{RunsAreLongest, RunsAreUnique, TokensProgress, TokensWithin, LengthsAddUp, LengthsWithin, TokensRestart, FirstOccurrenceIsFound, NoOccurrenceIsMissed, CommentsBalance, OpenCommentsStayOpen};
 ghost use Rattle.squawk_lexer.specs.Flags.{FlagsLieWithin, TokensAreCut};
 ghost use Rattle.squawk_lexer.specs.LookAhead.{LexemesLookAhead, TokensLookAhead, TextsLookAhead, TextsProgress, TextsRestart, StatementsStandAlone};
-ghost use Rattle.squawk_lexer.specs.QuotedLaws.{QuotedEndsFirst, QuotedEndsOnce, DigitsAreLongest};
+ghost use Rattle.squawk_lexer.specs.QuotedLaws.{QuotedEndsFirst, QuotedEndIsUnique, DigitsAreLongest};
 ghost use Rattle.squawk_lexer.specs.declared.lexer.TheConstants.{BOM};
 ghost use Rattle.squawk_lexer.specs.Gaps.{GapsAreSeen, TokensStay, TokensStayBefore};
-ghost use Rattle.squawk_lexer.specs.PsqlArguments.{QuotesCloseFirst, OpenQuotesStayOpen, ArgumentsAreLongest, ArgumentsAreOne, ArgumentIsLongest, ArgumentIsOne, MarkedIsFirst};
+ghost use Rattle.squawk_lexer.specs.PsqlArguments.{QuotesCloseFirst, OpenQuotesStayOpen, ArgumentsAreLongest, ArgumentsAreUnique, ArgumentIsLongest, ArgumentIsUnique, MarkedIsFirst};
 
 /// A run of a class is the longest: all its characters are of the class, and the one behind it is not. Only one end is such.
 pub fn runs_are_longest()
     ensures longest { RunsAreLongest }
-    ensures only { RunsAreOne }
+    ensures only { RunsAreUnique }
 {}
 
 /// Each token of a text has a character at least, and no more than the text.
@@ -23,8 +23,8 @@ pub fn tokens_progress()
 
 /// The text has the characters of its first tokens, and they have the bytes of these tokens.
 pub fn places_add_up()
-    ensures within { PlacesWithin }
-    ensures bytes { PlacesAddUp }
+    ensures within { LengthsWithin }
+    ensures bytes { LengthsAddUp }
 {}
 
 /// Behind any token, the tokens are those of the text that is left, read without the rule for a leading byte order mark.
@@ -35,8 +35,8 @@ pub fn tokens_restart()
 
 /// A dollar string ends behind the first place where its delimiter stands, and is open only where it stands nowhere.
 pub fn found_is_first()
-    ensures first { FoundIsFirst }
-    ensures nowhere { NoneIsNowhere }
+    ensures first { FirstOccurrenceIsFound }
+    ensures nowhere { NoOccurrenceIsMissed }
 {}
 
 /// A block comment ends behind the first close that leaves no comment open, and is unterminated only where none does.
@@ -53,9 +53,9 @@ pub fn marked_is_first()
 /// The arguments together are the longest sequence of parts, and one argument is the longest with no blank. Only one length is such.
 pub fn arguments_are_longest()
     ensures all { ArgumentsAreLongest }
-    ensures only { ArgumentsAreOne }
+    ensures only { ArgumentsAreUnique }
     ensures one { ArgumentIsLongest }
-    ensures only_one { ArgumentIsOne }
+    ensures only_one { ArgumentIsUnique }
 {}
 
 /// A quote ends behind the first character that closes it, and is open only where none on its line does.
@@ -79,7 +79,7 @@ pub fn statements_stand_alone()
 /// What is quoted ends behind the first quote that is in no item.
 pub fn quoted_ends_first()
     ensures first { QuotedEndsFirst }
-    ensures only { QuotedEndsOnce }
+    ensures only { QuotedEndIsUnique }
 {}
 
 /// A run of digits is the longest.

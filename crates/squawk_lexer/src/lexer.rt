@@ -1,13 +1,13 @@
 //! The token at the front of a text.
 ghost use Rattle.std.specs.Prelude.{◌≡◌, ◌≢◌, ◌+◌, ◌<◌, ◌==◌, ◌^◌, ◌∷◌, length, drop, slice_index, true, false};
 ghost use Rattle.std.specs.Str.{chars, is_utf8, IsCharBoundary};
-ghost use Rattle.squawk_lexer.specs.Kind.{lexeme};
-ghost use Rattle.squawk_lexer.specs.Classes.{is_white};
-ghost use Rattle.squawk_lexer.specs.Runs.{run};
+ghost use Rattle.squawk_lexer.specs.Kind.{lexeme_until};
+ghost use Rattle.squawk_lexer.specs.Classes.{is_whitespace};
+ghost use Rattle.squawk_lexer.specs.Runs.{run_end};
 ghost use Rattle.squawk_lexer.specs.Symbols.{symbol};
-ghost use Rattle.squawk_lexer.specs.Token.{start, lexeme_of, lexeme_at, token_at};
+ghost use Rattle.squawk_lexer.specs.Token.{token_form, lexeme_of, lexeme_at, token_at};
 ghost use Rattle.squawk_lexer.specs.Cut.{tokens_from};
-ghost use Rattle.squawk_lexer.specs.LookAhead.{IsDecided, RestartsAt, PartsAt};
+ghost use Rattle.squawk_lexer.specs.LookAhead.{IsDecided, RestartsAt, SplitsAt};
 
 use crate::classes::Class;
 use crate::cursor::Cursor;
@@ -54,8 +54,8 @@ fn symbol_of(b: u8) -> TokenKind
 }
 
 /// What the first two characters of a token begin.
-enum Start {
-    White,
+enum TokenForm {
+    Whitespace,
     LineComment,
     BlockComment,
     String,
@@ -69,31 +69,31 @@ enum Start {
     Symbol,
 }
 
-#[tactic(auto, unfolding(crate::specs::Token::start))]
-fn start_of(first: u8, second: u8) -> Start
-    ensures { result ≡ start first second }
+#[tactic(auto, unfolding(crate::specs::Token::token_form))]
+fn start_of(first: u8, second: u8) -> TokenForm
+    ensures { result ≡ token_form first second }
 {
     match first {
-        b'\t'..=b'\r' | b' ' => Start::White,
-        b'-' if second == b'-' => Start::LineComment,
-        b'/' if second == b'*' => Start::BlockComment,
-        b'\'' => Start::String,
-        b'"' => Start::QuotedIdent,
-        b'a'..=b'z' | b'A'..=b'Z' | b'_' | 0x80.. => Start::Word,
-        b'$' => Start::Dollar,
-        b'0'..=b'9' => Start::Number,
-        b'.' if second == b'.' => Start::DotDot,
-        b'.' if second.is_ascii_digit() => Start::Fraction,
-        b'\\' => Start::Psql,
-        _ => Start::Symbol,
+        b'\t'..=b'\r' | b' ' => TokenForm::Whitespace,
+        b'-' if second == b'-' => TokenForm::LineComment,
+        b'/' if second == b'*' => TokenForm::BlockComment,
+        b'\'' => TokenForm::String,
+        b'"' => TokenForm::QuotedIdent,
+        b'a'..=b'z' | b'A'..=b'Z' | b'_' | 0x80.. => TokenForm::Word,
+        b'$' => TokenForm::Dollar,
+        b'0'..=b'9' => TokenForm::Number,
+        b'.' if second == b'.' => TokenForm::DotDot,
+        b'.' if second.is_ascii_digit() => TokenForm::Fraction,
+        b'\\' => TokenForm::Psql,
+        _ => TokenForm::Symbol,
     }
 }
 
 impl<'a> Cursor<'a> {
     /// What the first two characters begin.
-    fn begins(&self) -> Start
+    fn begins(&self) -> TokenForm
         requires { self.now.at ≡ 0 }
-        ensures { result ≡ start (slice_index self.now.text 0) (slice_index self.now.text 1) }
+        ensures { result ≡ token_form (slice_index self.now.text 0) (slice_index self.now.text 1) }
     {
         start_of(self.byte(0), self.byte(1))
     }
@@ -103,7 +103,7 @@ impl<'a> Cursor<'a> {
         requires at { self.old.at ≡ 0 }
         requires some { 0 < length self.old.text }
         ensures text { self.new.text ≡ self.old.text }
-        ensures gives { lexeme result self.new.at ≡ lexeme (symbol (slice_index self.old.text 0)) 1 }
+        ensures gives { lexeme_until result self.new.at ≡ lexeme_until (symbol (slice_index self.old.text 0)) 1 }
     {
         let kind = symbol_of(self.byte(0));
         self.bump();
@@ -113,9 +113,9 @@ impl<'a> Cursor<'a> {
     /// Moves behind white characters.
     fn whitespace(&mut self) -> TokenKind
         ensures text { self.new.text ≡ self.old.text }
-        ensures gives { lexeme result self.new.at ≡ lexeme TokenKind.Whitespace (run is_white self.old.text self.old.at) }
+        ensures gives { lexeme_until result self.new.at ≡ lexeme_until TokenKind.Whitespace (run_end is_whitespace self.old.text self.old.at) }
     {
-        self.eat_while(Class::White);
+        self.eat_while(Class::Whitespace);
         TokenKind::Whitespace
     }
 
@@ -125,68 +125,68 @@ impl<'a> Cursor<'a> {
         requires at { self.old.at ≡ 0 }
         requires some { 0 < length self.old.text }
         ensures text { self.new.text ≡ self.old.text }
-        ensures gives { lexeme result self.new.at ≡ lexeme_of strings self.old.text }
+        ensures gives { lexeme_until result self.new.at ≡ lexeme_of strings self.old.text }
     {
         match self.begins() {
-            Start::White => self.whitespace(),
-            Start::LineComment => {
+            TokenForm::Whitespace => self.whitespace(),
+            TokenForm::LineComment => {
                 self.bump();
                 self.line_comment()
             }
-            Start::BlockComment => {
+            TokenForm::BlockComment => {
                 self.bump();
                 self.bump();
                 let terminated = self.block_comment();
                 TokenKind::BlockComment { terminated }
             }
-            Start::String => {
+            TokenForm::String => {
                 self.bump();
                 let terminated = self.quoted(b'\'', strings.has_escapes());
                 literal(LiteralKind::Str { terminated })
             }
-            Start::QuotedIdent => {
+            TokenForm::QuotedIdent => {
                 self.bump();
                 self.quoted_ident(false)
             }
-            Start::Word => self.word(),
-            Start::Dollar => {
+            TokenForm::Word => self.word(),
+            TokenForm::Dollar => {
                 self.bump();
                 self.dollar()
             }
-            Start::Number => {
+            TokenForm::Number => {
                 let first = self.first();
                 self.bump();
                 self.number(first)
             }
-            Start::DotDot => {
+            TokenForm::DotDot => {
                 self.bump();
                 self.bump();
                 TokenKind::DotDot
             }
-            Start::Fraction => {
+            TokenForm::Fraction => {
                 self.bump();
                 self.fractional()
             }
-            Start::Psql => {
+            TokenForm::Psql => {
                 self.bump();
                 self.psql_command()
             }
-            Start::Symbol => self.symbol(),
+            TokenForm::Symbol => self.symbol(),
         }
     }
 }
 
-/// The token at the front of a text, and what follows it. `start` says that the whole text begins here.
-pub(crate) fn cut(text: &str, start: bool, strings: Strings) -> (Token, &str)
+/// The token at the front of a text, and what follows it. `at_start` says that the whole text begins here.
+pub(crate) fn cut(text: &str, at_start: bool, strings: Strings) -> (Token, &str)
     requires some { 0 < length text.now }
     requires fits { length text.now < 2 ^ 32 }
-    ensures token { result.0 ≡ token_at strings start (chars text.now) }
+    ensures token { result.0 ≡ token_at strings at_start (chars text.now) }
     ensures small { length result.1.now < 2 ^ 32 }
     ensures utf8 { is_utf8 result.1.now ≡ true }
-    ensures rest { chars result.1.now ≡ drop (lexeme_at strings start (chars text.now)).end (chars text.now) }
+    ensures rest { chars result.1.now ≡ drop (lexeme_at strings at_start (chars text.now)).end (chars text.now) }
 {
     let mut cursor = Cursor::new(text);
-    let kind = if start && cursor.first() == '\u{FEFF}' {
+    let kind = if at_start && cursor.first() == '\u{FEFF}' {
         cursor.bump();
         TokenKind::Whitespace
     } else {
@@ -219,7 +219,7 @@ pub fn cut_at(input: &str, at: usize) -> Token
     ensures never_eof { result.kind ≢ TokenKind.Eof }
     ensures looks_ahead { IsDecided Strings.Standard (at == 0) (drop at input.now) result }
     ensures restarts { RestartsAt Strings.Standard input.now at }
-    ensures parts { PartsAt Strings.Standard input.now at }
+    ensures parts { SplitsAt Strings.Standard input.now at }
 {
     cut_at_in(input, at, Strings::Standard)
 }
@@ -244,7 +244,7 @@ pub fn cut_at_in(input: &str, at: usize, strings: Strings) -> Token
     ensures never_eof { result.kind ≢ TokenKind.Eof }
     ensures looks_ahead { IsDecided strings (at == 0) (drop at input.now) result }
     ensures restarts { RestartsAt strings input.now at }
-    ensures parts { PartsAt strings input.now at }
+    ensures parts { SplitsAt strings input.now at }
 {
     cut(&input[at..], at == 0, strings).0
 }

@@ -1,8 +1,8 @@
 //! Numbers and parameters.
 ghost use Rattle.std.specs.Prelude.{◌≡◌, ◌+◌, ◌<◌, ◌==◌, slice_index, ◌&&◌, not, length, true};
-ghost use Rattle.squawk_lexer.specs.Kind.{lexeme};
+ghost use Rattle.squawk_lexer.specs.Kind.{lexeme_until};
 ghost use Rattle.squawk_lexer.specs.Numbers.{based_int, numeric, with_exponent, fractional, decimal_from, number, parameter};
-ghost use Rattle.squawk_lexer.specs.Runs.{exponent, fraction_digits, is_sign, is_exponent_letter};
+ghost use Rattle.squawk_lexer.specs.Runs.{exponent_end, fraction_end, is_sign, is_exponent_letter};
 ghost use Rattle.squawk_lexer.specs.Classes.{is_digit};
 
 use crate::classes::{Class, is_digit};
@@ -33,8 +33,8 @@ impl<'a> Cursor<'a> {
     pub(crate) fn eat_exponent(&mut self) -> bool
         requires { self.old.at < length self.old.text }
         ensures text { self.new.text ≡ self.old.text }
-        ensures at { self.new.at ≡ exponent self.old.text self.old.at }
-        ensures digits { result ≡ not (exponent self.old.text self.old.at == self.old.at + 1) }
+        ensures at { self.new.at ≡ exponent_end self.old.text self.old.at }
+        ensures digits { result ≡ not (exponent_end self.old.text self.old.at == self.old.at + 1) }
     {
         self.bump();
         if self.is_at_signed_digit() {
@@ -52,7 +52,7 @@ impl<'a> Cursor<'a> {
     /// Moves behind the digits that may follow a point.
     fn eat_fraction_digits(&mut self)
         ensures text { self.new.text ≡ self.old.text }
-        ensures at { self.new.at ≡ fraction_digits self.old.text self.old.at }
+        ensures at { self.new.at ≡ fraction_end self.old.text self.old.at }
     {
         if is_digit(self.first()) {
             self.eat_decimal_digits();
@@ -62,7 +62,7 @@ impl<'a> Cursor<'a> {
     /// Moves behind junk after a number with a point or an exponent.
     fn numeric(&mut self, empty_exponent_start: Option<u32>) -> TokenKind
         ensures text { self.new.text ≡ self.old.text }
-        ensures gives { lexeme result self.new.at ≡ numeric empty_exponent_start self.old.text self.old.at }
+        ensures gives { lexeme_until result self.new.at ≡ numeric empty_exponent_start self.old.text self.old.at }
     {
         let kind = LiteralKind::Numeric {
             empty_exponent_start,
@@ -77,7 +77,7 @@ impl<'a> Cursor<'a> {
     fn with_exponent(&mut self) -> TokenKind
         requires { is_exponent_letter (slice_index self.old.text self.old.at) ≡ true }
         ensures text { self.new.text ≡ self.old.text }
-        ensures gives { lexeme result self.new.at ≡ with_exponent self.old.text self.old.at }
+        ensures gives { lexeme_until result self.new.at ≡ with_exponent self.old.text self.old.at }
     {
         let start = self.position();
         if self.eat_exponent() {
@@ -91,7 +91,7 @@ impl<'a> Cursor<'a> {
     #[inline(never)]
     pub(crate) fn fractional(&mut self) -> TokenKind
         ensures text { self.new.text ≡ self.old.text }
-        ensures gives { lexeme result self.new.at ≡ fractional self.old.text self.old.at }
+        ensures gives { lexeme_until result self.new.at ≡ fractional self.old.text self.old.at }
     {
         self.eat_fraction_digits();
         if is_exponent_letter(self.first()) {
@@ -105,7 +105,7 @@ impl<'a> Cursor<'a> {
     #[tactic(auto, using(crate::proofs::Steps::exponent_steps))]
     fn decimal(&mut self) -> TokenKind
         ensures text { self.new.text ≡ self.old.text }
-        ensures gives { lexeme result self.new.at ≡ decimal_from self.old.text self.old.at }
+        ensures gives { lexeme_until result self.new.at ≡ decimal_from self.old.text self.old.at }
     {
         if self.first() == '.' && self.second() != '.' {
             self.bump();
@@ -127,7 +127,7 @@ impl<'a> Cursor<'a> {
     fn finish_based(&mut self, base: Base, has_digits: bool) -> TokenKind
         requires { has_digits ≡ not (self.old.at == 2) }
         ensures text { self.new.text ≡ self.old.text }
-        ensures gives { lexeme result self.new.at ≡ based_int base self.old.text self.old.at }
+        ensures gives { lexeme_until result self.new.at ≡ based_int base self.old.text self.old.at }
     {
         let trailing_junk_start = self.position();
         let has_junk = self.eat_junk();
@@ -145,7 +145,7 @@ impl<'a> Cursor<'a> {
         requires first { first ≡ slice_index self.old.text 0 }
         requires at { self.old.at ≡ 1 }
         ensures text { self.new.text ≡ self.old.text }
-        ensures gives { lexeme result self.new.at ≡ number self.old.text }
+        ensures gives { lexeme_until result self.new.at ≡ number self.old.text }
     {
         if first == '0' {
             match self.first() {
@@ -175,7 +175,7 @@ impl<'a> Cursor<'a> {
     pub(crate) fn parameter(&mut self) -> TokenKind
         requires { self.old.at ≡ 1 }
         ensures text { self.new.text ≡ self.old.text }
-        ensures gives { lexeme result self.new.at ≡ parameter self.old.text }
+        ensures gives { lexeme_until result self.new.at ≡ parameter self.old.text }
     {
         self.eat_while(Class::Digit);
         let trailing_junk_start = self.position();

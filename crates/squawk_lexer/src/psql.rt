@@ -1,14 +1,14 @@
 //! psql commands.
 ghost use Rattle.std.specs.Prelude.{◌≡◌, ◌≢◌, ℕ, ◌<◌, ◌≤◌, ◌+◌, length, take, ◌||◌, ◌&&◌, ◌==◌, not, drop, slice_index, slice_get, unwrap_or, is_some, Some, true, false, codes};
 ghost use Rattle.std.specs.Str.{chars, str_eq_ignore_ascii_case};
-ghost use Rattle.squawk_lexer.specs.Kind.{lexeme};
+ghost use Rattle.squawk_lexer.specs.Kind.{lexeme_until};
 ghost use Rattle.squawk_lexer.specs.Classes.{is_line_end, backslash};
 ghost use Rattle.squawk_lexer.specs.PsqlWords.{is_among, query_ending_words, pipe_words, option_words, whole_line_words, takes_line};
-ghost use Rattle.squawk_lexer.specs.Text.{bytes};
-ghost use Rattle.squawk_lexer.specs.Runs.{line};
+ghost use Rattle.squawk_lexer.specs.Text.{utf8_len};
+ghost use Rattle.squawk_lexer.specs.Runs.{line_end};
 ghost use Rattle.squawk_lexer.specs.PsqlQuotes.{close_end, last_before, piece_stop};
-ghost use Rattle.squawk_lexer.specs.PsqlParts.{is_quote, is_pair, close_len, quote_len, last_inside, ends_arguments, part_rest, args_len, args, mark_behind, is_parenthesis, marked};
-ghost use Rattle.squawk_lexer.specs.Psql.{word_end, word, options_end, output_start, output_end, command_end, psql};
+ghost use Rattle.squawk_lexer.specs.PsqlParts.{is_quote, is_escape_pair, close_len, quote_len, last_inside, ends_arguments, part_rest, arguments_len, arguments_end, mark_after, is_parenthesis, marked_len_at};
+ghost use Rattle.squawk_lexer.specs.Psql.{word_end, command_word, options_end, output_start, output_end, command_end, psql};
 
 use crate::classes::{Class, is_blank};
 use crate::cursor::Cursor;
@@ -97,7 +97,7 @@ fn ends_arguments(c: char) -> bool
 
 /// Whether the characters are one piece of a quote.
 fn is_pair(quote: char, c: char, next: char) -> bool
-    ensures { result ≡ is_pair quote c next }
+    ensures { result ≡ is_escape_pair quote c next }
 {
     quote == '\'' && c == '\\' && !is_line_end(next)
 }
@@ -118,7 +118,7 @@ impl<'a> Cursor<'a> {
         requires first { slice_index self.old.text 0 ≡ backslash }
         requires at { self.old.at ≡ 1 }
         ensures text { self.new.text ≡ self.old.text }
-        ensures gives { lexeme result self.new.at ≡ psql self.old.text }
+        ensures gives { lexeme_until result self.new.at ≡ psql self.old.text }
     {
         match self.first() {
             '\\' => {
@@ -149,15 +149,15 @@ impl<'a> Cursor<'a> {
         requires at { self.old.at ≡ 1 }
         ensures text { self.new.text ≡ self.old.text }
         ensures at { self.new.at ≡ word_end self.old.text }
-        ensures is { chars result.now ≡ word self.old.text }
+        ensures is { chars result.now ≡ command_word self.old.text }
     {
-        self.eat_while(Class::CommandWord);
+        self.eat_while(Class::CommandChar);
         &self.taken()[1..]
     }
 
     /// Moves behind what belongs to the command of that name, from behind its word.
     fn eat_command(&mut self, name: &str)
-        requires name { chars name.now ≡ word self.old.text }
+        requires name { chars name.now ≡ command_word self.old.text }
         requires at { self.old.at ≡ word_end self.old.text }
         ensures text { self.new.text ≡ self.old.text }
         ensures at { self.new.at ≡ command_end self.old.text }
@@ -204,7 +204,7 @@ impl<'a> Cursor<'a> {
     #[tactic(auto, using(crate::proofs::PsqlSteps::args_steps))]
     fn eat_arguments(&mut self)
         ensures text { self.new.text ≡ self.old.text }
-        ensures at { self.new.at ≡ args self.old.text self.old.at }
+        ensures at { self.new.at ≡ arguments_end self.old.text self.old.at }
     {
         while let Some(c) = self.peek()
             && !ends_arguments(c)
@@ -217,8 +217,8 @@ impl<'a> Cursor<'a> {
     #[tactic(auto, using(crate::proofs::PsqlSteps::marked_steps))]
     fn eat_marked(&mut self) -> bool
         ensures text { self.new.text ≡ self.old.text }
-        ensures at { self.new.at ≡ self.old.at + unwrap_or (marked self.old.text self.old.at) (args_len 0 (drop self.old.at self.old.text)) }
-        ensures found { result ≡ is_some (marked self.old.text self.old.at) }
+        ensures at { self.new.at ≡ self.old.at + unwrap_or (marked_len_at self.old.text self.old.at) (arguments_len 0 (drop self.old.at self.old.text)) }
+        ensures found { result ≡ is_some (marked_len_at self.old.text self.old.at) }
     {
         let mut mark = None;
         while let Some(c) = self.peek() {
@@ -245,7 +245,7 @@ impl<'a> Cursor<'a> {
         requires { Some c ≡ slice_get self.old.text self.old.at }
         ensures text { self.new.text ≡ self.old.text }
         ensures at { self.new.at ≡ self.old.at + 1 + part_rest c (drop (self.old.at + 1) self.old.text) }
-        ensures mark { result ≡ mark_behind mark c (drop (self.old.at + 1) self.old.text) }
+        ensures mark { result ≡ mark_after mark c (drop (self.old.at + 1) self.old.text) }
     {
         self.bump();
         match c {
@@ -303,7 +303,7 @@ impl<'a> Cursor<'a> {
         requires other { slice_index self.old.text self.old.at ≢ quote }
         ensures text { self.new.text ≡ self.old.text }
         ensures close { close_end quote self.new.text self.new.at ≡ close_end quote self.old.text self.old.at }
-        ensures line { line self.new.text self.new.at ≡ line self.old.text self.old.at }
+        ensures line { line_end self.new.text self.new.at ≡ line_end self.old.text self.old.at }
         ensures on { self.old.at < self.new.at }
     {
         let first = self.first();
@@ -316,7 +316,7 @@ impl<'a> Cursor<'a> {
     /// The last character since the byte `start`, if one comes behind it.
     fn last_since(&self, start: u32) -> Option<char>
         requires { self.now.at ≤ length self.now.text }
-        ensures { (i : ℕ) → i ≤ self.now.at → start ≡ bytes (take i self.now.text) → result ≡ last_before self.now.text i self.now.at }
+        ensures { (i : ℕ) → i ≤ self.now.at → start ≡ utf8_len (take i self.now.text) → result ≡ last_before self.now.text i self.now.at }
     {
         if self.position() == start {
             return None;

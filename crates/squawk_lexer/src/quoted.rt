@@ -1,7 +1,7 @@
 //! Text in quotes.
 ghost use Rattle.std.specs.Prelude.{◌≡◌, ◌<◌, if◌then◌else◌};
 ghost use Rattle.squawk_lexer.specs.Classes.{backslash};
-ghost use Rattle.squawk_lexer.specs.Quoted.{quoted, is_terminated};
+ghost use Rattle.squawk_lexer.specs.Quoted.{quoted_end, is_terminated};
 
 use crate::cursor::Cursor;
 
@@ -19,7 +19,7 @@ impl<'a> Cursor<'a> {
     pub(crate) fn quoted(&mut self, quote: u8, escapes: bool) -> bool
         requires { (0 < quote) × (quote < 128) }
         ensures text { self.new.text ≡ self.old.text }
-        ensures at { self.new.at ≡ quoted escapes quote self.old.text self.old.at }
+        ensures at { self.new.at ≡ quoted_end escapes quote self.old.text self.old.at }
         ensures terminated { result ≡ is_terminated escapes quote self.old.text self.old.at }
     {
         let other = second_stop(quote, escapes);

@@ -1,10 +1,10 @@
 //! Runs over the bytes of a text.
 ghost use Rattle.std.specs.Prelude.{◌≡◌, ◌+◌, ◌<◌, ◌≤◌, ℕ, length, drop, slice_index};
 ghost use Rattle.std.specs.List.{prefix_len};
-ghost use Rattle.squawk_lexer.specs.Classes.{class_test, is_white, is_id_cont, is_digit, is_hex_digit};
+ghost use Rattle.squawk_lexer.specs.Classes.{class_test, is_whitespace, is_ident_cont, is_digit, is_hex_digit};
 ghost use Rattle.squawk_lexer.specs.Runs.{digits_len};
-ghost use Rattle.squawk_lexer.specs.Stops.{is_other, is_inside};
-ghost use Rattle.squawk_lexer.specs.Bytes.{HasIdCont};
+ghost use Rattle.squawk_lexer.specs.Stops.{is_neither, is_neither_on_line};
+ghost use Rattle.squawk_lexer.specs.Bytes.{HasIdentCont};
 
 use crate::classes::{Class, is_digit, is_hex_digit, is_in};
 use memchr::{memchr, memchr2, memchr3};
@@ -22,7 +22,7 @@ static ID_CONT: [u8; 256] = *b"\
 
 /// The table of the bytes that an identifier goes on with.
 fn id_cont() -> &'static [u8]
-    ensures { HasIdCont result.now }
+    ensures { HasIdentCont result.now }
 {
     &ID_CONT
 }
@@ -32,15 +32,15 @@ pub(crate) fn run_len(class: Class, bytes: &[u8]) -> usize
     ensures { result ≡ prefix_len (class_test class) bytes.now }
 {
     match class {
-        Class::IdCont => id_cont_len(bytes),
-        Class::White => white_len(bytes),
+        Class::IdentCont => id_cont_len(bytes),
+        Class::Whitespace => white_len(bytes),
         Class::NotLineEnd => others_len(b'\n', b'\r', bytes),
         _ => class_len(class, bytes),
     }
 }
 
 fn id_cont_len(bytes: &[u8]) -> usize
-    ensures { result ≡ prefix_len is_id_cont bytes.now }
+    ensures { result ≡ prefix_len is_ident_cont bytes.now }
 {
     let table = id_cont();
     let mut len = 0;
@@ -50,17 +50,17 @@ fn id_cont_len(bytes: &[u8]) -> usize
     len
 }
 
-fn is_white(b: u8) -> bool
-    ensures { result ≡ is_white b }
+fn is_whitespace(b: u8) -> bool
+    ensures { result ≡ is_whitespace b }
 {
     b == b' ' || (b'\t' <= b && b <= b'\r')
 }
 
 fn white_len(bytes: &[u8]) -> usize
-    ensures { result ≡ prefix_len is_white bytes.now }
+    ensures { result ≡ prefix_len is_whitespace bytes.now }
 {
     let mut len = 0;
-    while len < bytes.len() && is_white(bytes[len]) {
+    while len < bytes.len() && is_whitespace(bytes[len]) {
         len += 1;
     }
     len
@@ -71,7 +71,7 @@ const NEAR: usize = 8;
 
 /// How many bytes from the front on are neither of the two.
 pub(crate) fn others_len(a: u8, b: u8, bytes: &[u8]) -> usize
-    ensures { result ≡ prefix_len (is_other a b) bytes.now }
+    ensures { result ≡ prefix_len (is_neither a b) bytes.now }
 {
     let near = near_others_len(a, b, bytes);
     if near < NEAR {
@@ -83,8 +83,8 @@ pub(crate) fn others_len(a: u8, b: u8, bytes: &[u8]) -> usize
 /// The same, but no more than `NEAR`.
 fn near_others_len(a: u8, b: u8, bytes: &[u8]) -> usize
     ensures within { result ≤ length bytes.now }
-    ensures on { result + prefix_len (is_other a b) (drop result bytes.now) ≡ prefix_len (is_other a b) bytes.now }
-    ensures stops { result < NEAR → result ≡ prefix_len (is_other a b) bytes.now }
+    ensures on { result + prefix_len (is_neither a b) (drop result bytes.now) ≡ prefix_len (is_neither a b) bytes.now }
+    ensures stops { result < NEAR → result ≡ prefix_len (is_neither a b) bytes.now }
 {
     let mut len = 0;
     while len < bytes.len() && len < NEAR && bytes[len] != a && bytes[len] != b {
@@ -95,7 +95,7 @@ fn near_others_len(a: u8, b: u8, bytes: &[u8]) -> usize
 
 #[inline(never)]
 fn far_others_len(a: u8, b: u8, bytes: &[u8]) -> usize
-    ensures { result ≡ prefix_len (is_other a b) bytes.now }
+    ensures { result ≡ prefix_len (is_neither a b) bytes.now }
 {
     let found = if a == b {
         memchr(a, bytes)
@@ -107,7 +107,7 @@ fn far_others_len(a: u8, b: u8, bytes: &[u8]) -> usize
 
 /// How many bytes from the front on are neither of the two and end no line.
 pub(crate) fn inside_len(a: u8, b: u8, bytes: &[u8]) -> usize
-    ensures { result ≡ prefix_len (is_inside a b) bytes.now }
+    ensures { result ≡ prefix_len (is_neither_on_line a b) bytes.now }
 {
     let near = near_inside_len(a, b, bytes);
     if near < NEAR {
@@ -119,8 +119,8 @@ pub(crate) fn inside_len(a: u8, b: u8, bytes: &[u8]) -> usize
 /// The same, but no more than `NEAR`.
 fn near_inside_len(a: u8, b: u8, bytes: &[u8]) -> usize
     ensures within { result ≤ length bytes.now }
-    ensures on { result + prefix_len (is_inside a b) (drop result bytes.now) ≡ prefix_len (is_inside a b) bytes.now }
-    ensures stops { result < NEAR → result ≡ prefix_len (is_inside a b) bytes.now }
+    ensures on { result + prefix_len (is_neither_on_line a b) (drop result bytes.now) ≡ prefix_len (is_neither_on_line a b) bytes.now }
+    ensures stops { result < NEAR → result ≡ prefix_len (is_neither_on_line a b) bytes.now }
 {
     let mut len = 0;
     while len < bytes.len() && len < NEAR && is_inside(a, b, bytes[len]) {
@@ -130,14 +130,14 @@ fn near_inside_len(a: u8, b: u8, bytes: &[u8]) -> usize
 }
 
 fn is_inside(a: u8, b: u8, byte: u8) -> bool
-    ensures { result ≡ is_inside a b byte }
+    ensures { result ≡ is_neither_on_line a b byte }
 {
     byte != a && byte != b && byte != b'\n' && byte != b'\r'
 }
 
 #[inline(never)]
 fn far_inside_len(a: u8, b: u8, bytes: &[u8]) -> usize
-    ensures { result ≡ prefix_len (is_inside a b) bytes.now }
+    ensures { result ≡ prefix_len (is_neither_on_line a b) bytes.now }
 {
     let len = memchr3(a, b, b'\n', bytes).unwrap_or(bytes.len());
     memchr(b'\r', &bytes[..len]).unwrap_or(len)

@@ -1,17 +1,17 @@
 //! Words, and the texts in quotes that a letter or two before the quote name.
 ghost use Rattle.std.specs.Prelude.{◌≡◌, slice_index, true};
-ghost use Rattle.squawk_lexer.specs.Kind.{lexeme};
-ghost use Rattle.squawk_lexer.specs.Place.{behind};
-ghost use Rattle.squawk_lexer.specs.Classes.{apostrophe, is_id_start};
-ghost use Rattle.squawk_lexer.specs.Quoted.{quoted, is_terminated};
-ghost use Rattle.squawk_lexer.specs.Token.{opening, word, quoted_ident};
+ghost use Rattle.squawk_lexer.specs.Kind.{lexeme_until};
+ghost use Rattle.squawk_lexer.specs.Position.{position_after};
+ghost use Rattle.squawk_lexer.specs.Classes.{apostrophe, is_ident_start};
+ghost use Rattle.squawk_lexer.specs.Quoted.{quoted_end, is_terminated};
+ghost use Rattle.squawk_lexer.specs.Token.{prefix_of, ident_or_string, quoted_ident};
 
 use crate::classes::Class;
 use crate::cursor::Cursor;
 use crate::token::{LiteralKind, TokenKind, literal};
 
 /// What an identifier's first letters open.
-enum Opening {
+enum StringPrefix {
     National,
     Bit,
     Byte,
@@ -21,33 +21,33 @@ enum Opening {
     Plain,
 }
 
-#[tactic(auto, unfolding(crate::specs::Token::opening))]
-fn opening_of(first: u8, second: u8, third: u8) -> Opening
-    ensures { result ≡ opening first second third }
+#[tactic(auto, unfolding(crate::specs::Token::prefix_of))]
+fn opening_of(first: u8, second: u8, third: u8) -> StringPrefix
+    ensures { result ≡ prefix_of first second third }
 {
     // Most words are plain, which their second byte tells.
     match second {
         b'\'' => match first {
-            b'n' | b'N' => Opening::National,
-            b'b' | b'B' => Opening::Bit,
-            b'x' | b'X' => Opening::Byte,
-            b'e' | b'E' => Opening::Escape,
-            _ => Opening::Plain,
+            b'n' | b'N' => StringPrefix::National,
+            b'b' | b'B' => StringPrefix::Bit,
+            b'x' | b'X' => StringPrefix::Byte,
+            b'e' | b'E' => StringPrefix::Escape,
+            _ => StringPrefix::Plain,
         },
         b'&' => match (first, third) {
-            (b'u' | b'U', b'\'') => Opening::UnicodeString,
-            (b'u' | b'U', b'"') => Opening::UnicodeIdent,
-            _ => Opening::Plain,
+            (b'u' | b'U', b'\'') => StringPrefix::UnicodeString,
+            (b'u' | b'U', b'"') => StringPrefix::UnicodeIdent,
+            _ => StringPrefix::Plain,
         },
-        _ => Opening::Plain,
+        _ => StringPrefix::Plain,
     }
 }
 
 impl<'a> Cursor<'a> {
     /// What the first three characters open.
-    fn opens(&self) -> Opening
+    fn opens(&self) -> StringPrefix
         requires { self.now.at ≡ 0 }
-        ensures { result ≡ opening (slice_index self.now.text 0) (slice_index self.now.text 1) (slice_index self.now.text 2) }
+        ensures { result ≡ prefix_of (slice_index self.now.text 0) (slice_index self.now.text 1) (slice_index self.now.text 2) }
     {
         opening_of(self.byte(0), self.byte(1), self.byte(2))
     }
@@ -56,9 +56,9 @@ impl<'a> Cursor<'a> {
     fn string(&mut self, escapes: bool) -> bool
         ensures text { self.new.text ≡ self.old.text }
         ensures at { self.new.at
-            ≡ quoted escapes apostrophe self.old.text (behind self.old.text (behind self.old.text self.old.at)) }
+            ≡ quoted_end escapes apostrophe self.old.text (position_after self.old.text (position_after self.old.text self.old.at)) }
         ensures terminated { result
-            ≡ is_terminated escapes apostrophe self.old.text (behind self.old.text (behind self.old.text self.old.at)) }
+            ≡ is_terminated escapes apostrophe self.old.text (position_after self.old.text (position_after self.old.text self.old.at)) }
     {
         self.bump();
         self.bump();
@@ -68,7 +68,7 @@ impl<'a> Cursor<'a> {
     /// Moves behind an identifier in quotes, from behind the opening quote.
     pub(crate) fn quoted_ident(&mut self, uescape: bool) -> TokenKind
         ensures text { self.new.text ≡ self.old.text }
-        ensures gives { lexeme result self.new.at ≡ quoted_ident uescape self.old.text self.old.at }
+        ensures gives { lexeme_until result self.new.at ≡ quoted_ident uescape self.old.text self.old.at }
     {
         let terminated = self.quoted(b'"', false);
         TokenKind::QuotedIdent {
@@ -81,40 +81,40 @@ impl<'a> Cursor<'a> {
     #[tactic(auto, using(crate::proofs::WordSteps::word_steps))]
     pub(crate) fn word(&mut self) -> TokenKind
         requires at { self.old.at ≡ 0 }
-        requires first { is_id_start (slice_index self.old.text 0) ≡ true }
+        requires first { is_ident_start (slice_index self.old.text 0) ≡ true }
         ensures text { self.new.text ≡ self.old.text }
-        ensures gives { lexeme result self.new.at ≡ word self.old.text }
+        ensures gives { lexeme_until result self.new.at ≡ ident_or_string self.old.text }
     {
         match self.opens() {
-            Opening::National => {
+            StringPrefix::National => {
                 let terminated = self.string(false);
                 literal(LiteralKind::NationalStr { terminated })
             }
-            Opening::Bit => {
+            StringPrefix::Bit => {
                 let terminated = self.string(false);
                 literal(LiteralKind::BitStr { terminated })
             }
-            Opening::Byte => {
+            StringPrefix::Byte => {
                 let terminated = self.string(false);
                 literal(LiteralKind::ByteStr { terminated })
             }
-            Opening::Escape => {
+            StringPrefix::Escape => {
                 let terminated = self.string(true);
                 literal(LiteralKind::EscStr { terminated })
             }
-            Opening::UnicodeString => {
+            StringPrefix::UnicodeString => {
                 self.bump();
                 let terminated = self.string(false);
                 literal(LiteralKind::UnicodeEscStr { terminated })
             }
-            Opening::UnicodeIdent => {
+            StringPrefix::UnicodeIdent => {
                 self.bump();
                 self.bump();
                 self.bump();
                 self.quoted_ident(true)
             }
-            Opening::Plain => {
-                self.eat_while(Class::IdCont);
+            StringPrefix::Plain => {
+                self.eat_while(Class::IdentCont);
                 TokenKind::Ident
             }
         }

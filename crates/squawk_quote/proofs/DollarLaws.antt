@@ -6,12 +6,12 @@ use Rattle.std.proofs.Math.Seq.{take-append_seam, drop-append_seam}
 use Rattle.std.specs.List.{starts_with, prefix_len}
 use Rattle.squawk_lexer.specs.declared.token.LiteralKind.TheVariants.{DollarQuotedString}
 use Rattle.squawk_lexer.specs.declared.token.Strings.TheVariants.{Standard}
-use Rattle.squawk_lexer.specs.Kind.{Lexeme, literal}
+use Rattle.squawk_lexer.specs.Kind.{Lexeme, literal_until}
 use Rattle.squawk_lexer.specs.Classes.{is_tag_cont}
-use Rattle.squawk_lexer.specs.Quoted.{end_of}
-use Rattle.squawk_lexer.specs.Dollar.{find_end, tag_end, opens_dollar, closing, dollar_string, dollar}
+use Rattle.squawk_lexer.specs.Quoted.{end_or_text_end}
+use Rattle.squawk_lexer.specs.Dollar.{find_end, tag_end, is_dollar_quote_start, delimiter_end, dollar_string, dollar}
 use Rattle.squawk_lexer.specs.Dollar.{delimiter as delimiter_in}
-use Rattle.squawk_lexer.specs.Token.{start, lexeme_at}
+use Rattle.squawk_lexer.specs.Token.{token_form, lexeme_at}
 use Rattle.squawk_quote.specs.Values.{letters, delimiter, ends_at, fits, first_fit, tag_len, dollar_text, dollar_of, inside, value_by, value_in, value_of}
 use Rattle.squawk_quote.proofs.QuotedLaws.{one_token}
 
@@ -114,7 +114,7 @@ tag_of (suc n) r = ap (λ m. 1 + m) (letters_run (suc n) r) ∙ omega arith
 tag_at : (n : ℕ) (v : List ℕ) → tag_end (dollar_text n v) ≡ n + 1
 tag_at n v = ap tag_end (begins n v) ∙ tag_of n (v ++ delimiter n)
 
-opens_at : (n : ℕ) (v : List ℕ) → opens_dollar (dollar_text n v) ≡ true
+opens_at : (n : ℕ) (v : List ℕ) → is_dollar_quote_start (dollar_text n v) ≡ true
 opens_at n v =
     let here : get_or (dollar_text n v) (n + 1) 0 ≡ 36 = ap (λ w. get_or w (n + 1) 0) (begins n v) ∙ ap (λ m. get_or (36 ∷ letters n (36 ∷ (v ++ delimiter n))) m 0) (let e : n + 1 ≡ suc n = omega arith in e) ∙ letters_next n (v ++ delimiter n) in
     ap (λ m. eqb (get_or (dollar_text n v) m 0) 36) (tag_at n v) ∙ ap (λ c. eqb c 36) here
@@ -128,7 +128,7 @@ delimiter_at n v = ap (λ m. take m (dollar_text n v)) (front n v) ∙ take-appe
 rest_at : (n : ℕ) (v : List ℕ) → drop (tag_end (dollar_text n v) + 1) (dollar_text n v) ≡ v ++ delimiter n
 rest_at n v = ap (λ m. drop m (dollar_text n v)) (front n v) ∙ drop-append_seam (delimiter n) (v ++ delimiter n)
 
-closing_at : (n : ℕ) (v : List ℕ) → fits v n ≡ true → closing (dollar_text n v) ≡ Some (length v + length (delimiter n))
+closing_at : (n : ℕ) (v : List ℕ) → fits v n ≡ true → delimiter_end (dollar_text n v) ≡ Some (length v + length (delimiter n))
 closing_at n v t =
     ap (λ d. find_end d (drop (tag_end (dollar_text n v) + 1) (dollar_text n v))) (delimiter_at n v)
     ∙ ap (find_end (delimiter n)) (rest_at n v)
@@ -137,21 +137,21 @@ closing_at n v t =
 text_len : (n : ℕ) (v : List ℕ) → length (dollar_text n v) ≡ length (delimiter n) + (length v + length (delimiter n))
 text_len n v = length-append (delimiter n) (v ++ delimiter n) ∙ ap (λ m. length (delimiter n) + m) (length-append v (delimiter n))
 
-dollar_lexeme : (n : ℕ) (v : List ℕ) → fits v n ≡ true → dollar (dollar_text n v) ≡ literal (DollarQuotedString true) (length (dollar_text n v))
+dollar_lexeme : (n : ℕ) (v : List ℕ) → fits v n ≡ true → dollar (dollar_text n v) ≡ literal_until (DollarQuotedString true) (length (dollar_text n v))
 dollar_lexeme n v t =
     let u = dollar_text n v in
     let string : dollar u ≡ dollar_string u = rw (opens_at n v) refl in
-    let end : end_of u (tag_end u + 1) (closing u) ≡ length u =
-    ap (end_of u (tag_end u + 1)) (closing_at n v t) ∙ ap (λ m. m + (length v + length (delimiter n))) (front n v) ∙ sym (text_len n v) in
+    let end : end_or_text_end u (tag_end u + 1) (delimiter_end u) ≡ length u =
+    ap (end_or_text_end u (tag_end u + 1)) (closing_at n v t) ∙ ap (λ m. m + (length v + length (delimiter n))) (front n v) ∙ sym (text_len n v) in
     string
-    ∙ ap (λ o. literal (DollarQuotedString (is_some o)) (end_of u (tag_end u + 1) (closing u))) (closing_at n v t)
-    ∙ ap (literal (DollarQuotedString true)) end
+    ∙ ap (λ o. literal_until (DollarQuotedString (is_some o)) (end_or_text_end u (tag_end u + 1) (delimiter_end u))) (closing_at n v t)
+    ∙ ap (literal_until (DollarQuotedString true)) end
 
 starts_dollar : (u : List ℕ) → get_or u 0 0 ≡ 36 → lexeme_at Standard true u ≡ dollar u
-unfolding start
+unfolding token_form
 starts_dollar u e = rw e refl
 
-pub dollar_token : (n : ℕ) (v : List ℕ) → fits v n ≡ true → lexeme_at Standard true (dollar_text n v) ≡ literal (DollarQuotedString true) (length (dollar_text n v))
+pub dollar_token : (n : ℕ) (v : List ℕ) → fits v n ≡ true → lexeme_at Standard true (dollar_text n v) ≡ literal_until (DollarQuotedString true) (length (dollar_text n v))
 dollar_token n v t = starts_dollar (dollar_text n v) refl ∙ dollar_lexeme n v t
 
 -- what stands between the delimiters

@@ -6,10 +6,10 @@ use Rattle.squawk_lexer.specs.declared.token.TokenKind.TheVariants as kinds
 use Rattle.squawk_lexer.specs.declared.token.LiteralKind.TheVariants.{Str}
 use Rattle.squawk_lexer.specs.declared.token.Strings.{Strings}
 use Rattle.squawk_lexer.specs.declared.token.Strings.TheVariants.{Standard}
-use Rattle.squawk_lexer.specs.Kind.{Lexeme, lexeme, literal}
+use Rattle.squawk_lexer.specs.Kind.{Lexeme, lexeme_until, literal_until}
 use Rattle.squawk_lexer.specs.Quoted.{quoted_len}
-use Rattle.squawk_lexer.specs.Text.{bytes}
-use Rattle.squawk_lexer.specs.Token.{start, lexeme_at, token_at}
+use Rattle.squawk_lexer.specs.Text.{utf8_len}
+use Rattle.squawk_lexer.specs.Token.{token_form, lexeme_at, token_at}
 use Rattle.squawk_lexer.specs.Cut.{tokens_from, tokens}
 use Rattle.squawk_quote.specs.Values.{doubled, string_of, ident_of, undoubled, inside, value_by, value_in, value_of, IsToken}
 
@@ -74,13 +74,13 @@ inside_quoted q w =
     ap (λ n. take n (w ++ q ∷ [])) len ∙ take-append_seam w (q ∷ [])
 
 -- a string is one terminated token
-pub string_lexeme : (v : List ℕ) → lexeme_at Standard true (string_of v) ≡ literal (Str true) (length (string_of v))
-unfolding start
-string_lexeme v = rw (doubled_len 39 v) (ap (literal (Str true)) (let e : 1 + (length (doubled 39 v) + 1) ≡ length (string_of v) = omega (arith, length-append (doubled 39 v) (39 ∷ [])) in e))
+pub string_lexeme : (v : List ℕ) → lexeme_at Standard true (string_of v) ≡ literal_until (Str true) (length (string_of v))
+unfolding token_form
+string_lexeme v = rw (doubled_len 39 v) (ap (literal_until (Str true)) (let e : 1 + (length (doubled 39 v) + 1) ≡ length (string_of v) = omega (arith, length-append (doubled 39 v) (39 ∷ [])) in e))
 
-pub ident_lexeme : (v : List ℕ) → lexeme_at Standard true (ident_of v) ≡ lexeme (kinds.QuotedIdent true false) (length (ident_of v))
-unfolding start
-ident_lexeme v = rw (doubled_len 34 v) (ap (lexeme (kinds.QuotedIdent true false)) (let e : 1 + (length (doubled 34 v) + 1) ≡ length (ident_of v) = omega (arith, length-append (doubled 34 v) (34 ∷ [])) in e))
+pub ident_lexeme : (v : List ℕ) → lexeme_at Standard true (ident_of v) ≡ lexeme_until (kinds.QuotedIdent true false) (length (ident_of v))
+unfolding token_form
+ident_lexeme v = rw (doubled_len 34 v) (ap (lexeme_until (kinds.QuotedIdent true false)) (let e : 1 + (length (doubled 34 v) + 1) ≡ length (ident_of v) = omega (arith, length-append (doubled 34 v) (34 ∷ [])) in e))
 
 -- and its value is the one that was quoted
 pub string_value : (v : List ℕ) → value_of (string_of v) ≡ Some v
@@ -101,12 +101,12 @@ ident_value v =
 token_is : (c : ℕ) (cs : List ℕ) (x : Lexeme) → lexeme_at Standard true (c ∷ cs) ≡ x → x.end ≡ length (c ∷ cs) → IsToken x.kind (c ∷ cs)
 token_is c cs x e len =
     one_token Standard c cs (ap (λ (y : Lexeme). y.end) e ∙ len)
-    ∙ ap (λ (y : Lexeme). record { kind = y.kind; len = bytes (take y.end (c ∷ cs)) } ∷ []) e
-    ∙ ap (λ n. record { kind = x.kind; len = bytes (take n (c ∷ cs)) } ∷ []) len
-    ∙ ap (λ w. record { kind = x.kind; len = bytes w } ∷ []) (take-length (c ∷ cs))
+    ∙ ap (λ (y : Lexeme). record { kind = y.kind; len = utf8_len (take y.end (c ∷ cs)) } ∷ []) e
+    ∙ ap (λ n. record { kind = x.kind; len = utf8_len (take n (c ∷ cs)) } ∷ []) len
+    ∙ ap (λ w. record { kind = x.kind; len = utf8_len w } ∷ []) (take-length (c ∷ cs))
 
 pub string_token : (v : List ℕ) → IsToken (kinds.Literal (Str true)) (string_of v)
-string_token v = token_is 39 (doubled 39 v ++ 39 ∷ []) (literal (Str true) (length (string_of v))) (string_lexeme v) refl
+string_token v = token_is 39 (doubled 39 v ++ 39 ∷ []) (literal_until (Str true) (length (string_of v))) (string_lexeme v) refl
 
 pub ident_token : (v : List ℕ) → IsToken (kinds.QuotedIdent true false) (ident_of v)
-ident_token v = token_is 34 (doubled 34 v ++ 34 ∷ []) (lexeme (kinds.QuotedIdent true false) (length (ident_of v))) (ident_lexeme v) refl
+ident_token v = token_is 34 (doubled 34 v ++ 34 ∷ []) (lexeme_until (kinds.QuotedIdent true false) (length (ident_of v))) (ident_lexeme v) refl

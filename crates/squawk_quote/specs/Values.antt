@@ -5,7 +5,7 @@ use Rattle.squawk_lexer.specs.declared.token.TokenKind.{TokenKind}
 use Rattle.squawk_lexer.specs.declared.token.TokenKind.TheVariants.{Literal, QuotedIdent}
 use Rattle.squawk_lexer.specs.declared.token.LiteralKind.TheVariants.{Str, DollarQuotedString}
 use Rattle.squawk_lexer.specs.declared.token.Strings.TheVariants.{Standard}
-use Rattle.squawk_lexer.specs.Text.{bytes}
+use Rattle.squawk_lexer.specs.Text.{utf8_len}
 use Rattle.squawk_lexer.specs.Classes.{apostrophe, quotation_mark, dollar_sign}
 use Rattle.squawk_lexer.specs.Dollar.{find_end, tag_end}
 use Rattle.squawk_lexer.specs.Cut.{tokens}
@@ -115,4 +115,4 @@ value_of text = value_in (tokens Standard text) text
 
 -- the text is one token of the kind
 abbrev pub IsToken : TokenKind → List ℕ → Type 0
-IsToken kind text = tokens Standard text ≡ record { kind = kind; len = bytes text } ∷ []
+IsToken kind text = tokens Standard text ≡ record { kind = kind; len = utf8_len text } ∷ []

@@ -11,7 +11,7 @@ use Rattle.std.specs.Char.{len_utf8, encode_utf8}
 use Rattle.std.specs.Str.{chars, encode_utf8_all, IsCharBoundary}
 use Rattle.squawk_lexer.specs.declared.token.Token.{Token}
 use Rattle.squawk_lexer.specs.declared.token.Strings.{Strings}
-use Rattle.squawk_lexer.specs.Text.{bytes}
+use Rattle.squawk_lexer.specs.Text.{utf8_len}
 use Rattle.squawk_lexer.specs.Token.{lexeme_at, token_at}
 use Rattle.squawk_lexer.specs.Cut.{is_trivia, form_of}
 use Rattle.squawk_squeeze.specs.Squeezed.{Piece, piece, pieces_from, Open, widened, gap, squeezed_pieces, joined, left, gap_bytes, gap_len}
@@ -21,22 +21,22 @@ pub chars_none : (bs : List ℕ) → length bs ≡ 0 → chars bs ≡ []
 chars_none [] h = chars-nil
 chars_none (b ∷ bs) h = absurd (omega arith)
 
-length_encodes : (cs : List ℕ) → length (encode_utf8_all cs) ≡ bytes cs
+length_encodes : (cs : List ℕ) → length (encode_utf8_all cs) ≡ utf8_len cs
 length_encodes [] = refl
 length_encodes (c ∷ cs) = length-append (encode_utf8 c) (encode_utf8_all cs) ∙ omega (arith, length-encode c, length_encodes cs, sum_by-cons len_utf8 c cs)
 
 -- the bytes of the first k characters, and the characters behind them
-part_bytes : (bs : List ℕ) (k : ℕ) → IsUtf8 bs → take (bytes (take k (chars bs))) bs ≡ encode_utf8_all (take k (chars bs))
+part_bytes : (bs : List ℕ) (k : ℕ) → IsUtf8 bs → take (utf8_len (take k (chars bs))) bs ≡ encode_utf8_all (take k (chars bs))
 part_bytes bs k utf8 =
     let front = take k (chars bs) in
     let both : bs ≡ encode_utf8_all front ++ encode_utf8_all (drop k (chars bs)) = sym (encodes-chars bs utf8) ∙ ap encode_utf8_all (sym (take-append-drop k (chars bs))) ∙ encodes-append front (drop k (chars bs)) in
-    ap (take (bytes front)) both ∙ ap (λ n. take n (encode_utf8_all front ++ encode_utf8_all (drop k (chars bs)))) (sym (length_encodes front)) ∙ take-append_seam (encode_utf8_all front) (encode_utf8_all (drop k (chars bs)))
+    ap (take (utf8_len front)) both ∙ ap (λ n. take n (encode_utf8_all front ++ encode_utf8_all (drop k (chars bs)))) (sym (length_encodes front)) ∙ take-append_seam (encode_utf8_all front) (encode_utf8_all (drop k (chars bs)))
 
-rest_bytes : (bs : List ℕ) (k : ℕ) → IsUtf8 bs → drop (bytes (take k (chars bs))) bs ≡ encode_utf8_all (drop k (chars bs))
+rest_bytes : (bs : List ℕ) (k : ℕ) → IsUtf8 bs → drop (utf8_len (take k (chars bs))) bs ≡ encode_utf8_all (drop k (chars bs))
 rest_bytes bs k utf8 =
     let front = take k (chars bs) in
     let both : bs ≡ encode_utf8_all front ++ encode_utf8_all (drop k (chars bs)) = sym (encodes-chars bs utf8) ∙ ap encode_utf8_all (sym (take-append-drop k (chars bs))) ∙ encodes-append front (drop k (chars bs)) in
-    ap (drop (bytes front)) both ∙ ap (λ n. drop n (encode_utf8_all front ++ encode_utf8_all (drop k (chars bs)))) (sym (length_encodes front)) ∙ drop-append_seam (encode_utf8_all front) (encode_utf8_all (drop k (chars bs)))
+    ap (drop (utf8_len front)) both ∙ ap (λ n. drop n (encode_utf8_all front ++ encode_utf8_all (drop k (chars bs)))) (sym (length_encodes front)) ∙ drop-append_seam (encode_utf8_all front) (encode_utf8_all (drop k (chars bs)))
 
 -- ---- a step over one token
 
@@ -64,7 +64,7 @@ step some strings text at t part utf8 here within there long is e part_utf8 =
     let s = at == 0 in
     let k = (lexeme_at strings s u).end in
     let bs_utf8 : IsUtf8 bs = IsUtf8-drop text at utf8 here in
-    let len : t.len ≡ bytes (take k u) = ap (λ (x : Token). x.len) is in
+    let len : t.len ≡ utf8_len (take k u) = ap (λ (x : Token). x.len) is in
     let kind : t.kind ≡ (lexeme_at strings s u).kind = ap (λ (x : Token). x.kind) is in
     let front : take k u ≡ chars part = chars_from_encodes (take k u) part part_utf8 (sym (e ∙ ap (λ n. take n bs) len ∙ part_bytes bs k bs_utf8)) in
     let rest_is : encode_utf8_all (drop k u) ≡ drop (at + t.len) text = sym (sym (drop_on t.len at text) ∙ ap (λ n. drop n bs) len ∙ rest_bytes bs k bs_utf8) in

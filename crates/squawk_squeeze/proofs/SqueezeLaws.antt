@@ -7,9 +7,9 @@ use Rattle.std.proofs.Math.Seq.{take-append_seam, drop-append_seam, take-add}
 use Rattle.std.specs.List.{list_any, prefix_len}
 use Rattle.squawk_lexer.specs.declared.token.TokenKind.TheVariants as kinds
 use Rattle.squawk_lexer.specs.declared.token.Strings.{Strings}
-use Rattle.squawk_lexer.specs.Kind.{Lexeme, lexeme}
-use Rattle.squawk_lexer.specs.Classes.{is_white, is_line_end}
-use Rattle.squawk_lexer.specs.Token.{start, lexeme_at}
+use Rattle.squawk_lexer.specs.Kind.{Lexeme, lexeme_until}
+use Rattle.squawk_lexer.specs.Classes.{is_whitespace, is_line_end}
+use Rattle.squawk_lexer.specs.Token.{token_form, lexeme_at}
 use Rattle.squawk_lexer.specs.Cut.{is_trivia, form_of}
 use Rattle.squawk_lexer.specs.Laws.{TokensProgress, TokensWithin}
 use Rattle.squawk_lexer.specs.LookAhead.{Agrees, LexemesLookAhead}
@@ -268,12 +268,12 @@ prefix_none : (class : ℕ → Bool) (w : List ℕ) → class (get_or w 0 0) ≡
 prefix_none class [] h = refl
 prefix_none class (c ∷ cs) h = rw h refl
 
-gap_token : (strings : Strings) (s : Bool) (b : Bool) (w : List ℕ) → is_white (get_or w 0 0) ≡ false → lexeme_at strings s (gap_char b ∷ w) ≡ lexeme kinds.Whitespace 1
-unfolding start
-gap_token strings s true w h = rw (and_false s) (ap (λ n. lexeme kinds.Whitespace (0 + (1 + n))) (prefix_none is_white w h))
-gap_token strings s false w h = rw (and_false s) (ap (λ n. lexeme kinds.Whitespace (0 + (1 + n))) (prefix_none is_white w h))
+gap_token : (strings : Strings) (s : Bool) (b : Bool) (w : List ℕ) → is_whitespace (get_or w 0 0) ≡ false → lexeme_at strings s (gap_char b ∷ w) ≡ lexeme_until kinds.Whitespace 1
+unfolding token_form
+gap_token strings s true w h = rw (and_false s) (ap (λ n. lexeme_until kinds.Whitespace (0 + (1 + n))) (prefix_none is_whitespace w h))
+gap_token strings s false w h = rw (and_false s) (ap (λ n. lexeme_until kinds.Whitespace (0 + (1 + n))) (prefix_none is_whitespace w h))
 
-gap_pieces : LexerLaws → (strings : Strings) (s : Bool) (b : Bool) (w : List ℕ) → is_white (get_or w 0 0) ≡ false
+gap_pieces : LexerLaws → (strings : Strings) (s : Bool) (b : Bool) (w : List ℕ) → is_whitespace (get_or w 0 0) ≡ false
     → pieces_from strings 0 s (gap_char b ∷ w) ≡ piece kinds.Whitespace (gap_char b ∷ []) ∷ pieces_from strings 0 false w
 gap_pieces laws strings s b w h =
     pieces_first laws.some strings s (gap_char b ∷ w) (omega arith)
@@ -383,9 +383,9 @@ stable_after laws strings n less b s (c ∷ cs) h = subst (λ ps. Spells strings
         let qs = first_of x u ∷ squeezed_pieces None rest in
         let alone : Spells strings false qs = subst (Spells strings false) (ap (squeezed_pieces None) first ∙ rw t refl) (stable_alone laws strings n less false u h) in
         let plain : begins_gap u ≡ false = sym (laws.seen strings u) ∙ t in
-        let white : is_white c ≡ false = grind (arith, nat_tests) in
+        let white : is_whitespace c ≡ false = grind (arith, nat_tests) in
         let at : get_or (joined qs) 0 0 ≡ c = take_first k c cs (joined (squeezed_pieces None rest)) on in
-        gap_pieces laws strings s b (joined qs) (ap is_white at ∙ white) ∙ ap (λ ps. piece kinds.Whitespace (gap_char b ∷ []) ∷ ps) alone
+        gap_pieces laws strings s b (joined qs) (ap is_whitespace at ∙ white) ∙ ap (λ ps. piece kinds.Whitespace (gap_char b ∷ []) ∷ ps) alone
 
 stable : LexerLaws → (strings : Strings) (n : ℕ) → IsStable strings n
 stable laws strings zero = record {

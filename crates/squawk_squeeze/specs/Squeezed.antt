@@ -17,14 +17,14 @@ pub record Piece : Type 0 where
 abbrev pub piece : TokenKind → List ℕ → Piece
 piece kind text = record { kind = kind; text = text }
 
--- A token begins at each character that is not inside one; the first `inside` characters are. `start` says that the whole text
+-- A token begins at each character that is not inside one; the first `inside` characters are. `at_start` says that the whole text
 -- begins here.
 abbrev pub pieces_from : Strings → ℕ → Bool → List ℕ → List Piece
-pieces_from strings inside start [] = []
-pieces_from strings zero start (c ∷ cs) =
-    piece (lexeme_at strings start (c ∷ cs)).kind (take (lexeme_at strings start (c ∷ cs)).end (c ∷ cs))
-    ∷ pieces_from strings ((lexeme_at strings start (c ∷ cs)).end - 1) false cs
-pieces_from strings (suc inside) start (c ∷ cs) = pieces_from strings inside start cs
+pieces_from strings inside at_start [] = []
+pieces_from strings zero at_start (c ∷ cs) =
+    piece (lexeme_at strings at_start (c ∷ cs)).kind (take (lexeme_at strings at_start (c ∷ cs)).end (c ∷ cs))
+    ∷ pieces_from strings ((lexeme_at strings at_start (c ∷ cs)).end - 1) false cs
+pieces_from strings (suc inside) at_start (c ∷ cs) = pieces_from strings inside at_start cs
 
 -- the tokens of a text, with their texts
 abbrev pub pieces : Strings → List ℕ → List Piece

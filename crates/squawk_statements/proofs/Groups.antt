@@ -7,9 +7,9 @@ use Rattle.squawk_statements.specs.Kinds.{form}
 use Rattle.squawk_lexer.specs.Cut.{Form, Trivia, Semicolon, Terminator, Command, Open, Close, Other}
 use Rattle.squawk_kinds.specs.declared.numbers.TheConstants.Number.{WHITESPACE, COMMENT, SEMICOLON, PSQL_TERMINATOR_TEXT, PSQL_COMMAND_TEXT, L_PAREN, R_PAREN, PAREN_EXPR}
 use Rattle.squawk_events.specs.declared.steps.Step.TheVariants.{Enter, Token, Exit}
-use Rattle.squawk_statements.specs.Groups.{Parts, Done, Plain, Closed, Unclosed, kinds_of, steps_of, is_plain, all_closed, are_parts, stays_open, groups_behind}
-use Rattle.squawk_statements.specs.Children.{ends, groups_after}
-use Rattle.squawk_statements.specs.Plain.{core, exits, kind_steps, open_behind}
+use Rattle.squawk_statements.specs.Groups.{Parts, Done, Plain, Closed, Unclosed, kinds_of, steps_of, is_plain, all_closed, are_parts, stays_open, open_groups_after_all}
+use Rattle.squawk_statements.specs.Children.{ends_statement, open_groups_after}
+use Rattle.squawk_statements.specs.Plain.{body_steps, exits, kind_steps, groups_open_after}
 use Rattle.squawk_statements.specs.declared.division.Division.{Division}
 
 split : (a b : Bool) → (a && b) ≡ true → (a ≡ true) × (b ≡ true)
@@ -24,7 +24,7 @@ is_close : form R_PAREN ≡ Close
 unfolding form
 is_close = refl
 
-plain_step : (d : Division) (n kind : ℕ) (f : Form) → form kind ≡ f → is_plain n f ≡ true → ends d n f ≡ false → (kind_steps d n kind ≡ Token kind ∷ []) × (open_behind d n (form kind) ≡ n)
+plain_step : (d : Division) (n kind : ℕ) (f : Form) → form kind ≡ f → is_plain n f ≡ true → ends_statement d n f ≡ false → (kind_steps d n kind ≡ Token kind ∷ []) × (groups_open_after d n (form kind) ≡ n)
 plain_step d n kind Trivia e p h = (rw e refl, rw e refl)
 plain_step d n kind Semicolon e p h = (rw (e, h) refl, rw (e, h) refl)
 plain_step d n kind Terminator e p h = absurd (cc)
@@ -38,41 +38,41 @@ not_false : (b : Bool) → not b ≡ true → b ≡ false
 not_false true h = absurd (cc)
 not_false false h = refl
 
-open_step : (d : Division) (n : ℕ) (ks : List ℕ) → core d n (L_PAREN ∷ ks) ≡ Enter PAREN_EXPR ∷ Token L_PAREN ∷ core d (suc n) ks
+open_step : (d : Division) (n : ℕ) (ks : List ℕ) → body_steps d n (L_PAREN ∷ ks) ≡ Enter PAREN_EXPR ∷ Token L_PAREN ∷ body_steps d (suc n) ks
 open_step d n ks = rw is_open refl
 
-close_step : (d : Division) (n : ℕ) (ks : List ℕ) → core d (suc n) (R_PAREN ∷ ks) ≡ Token R_PAREN ∷ Exit ∷ core d n ks
+close_step : (d : Division) (n : ℕ) (ks : List ℕ) → body_steps d (suc n) (R_PAREN ∷ ks) ≡ Token R_PAREN ∷ Exit ∷ body_steps d n ks
 close_step d n ks = rw is_close refl
 
 -- closed parts give their steps, whatever follows
-pub core_closed : (d : Division) (n : ℕ) (ps : Parts) (ks : List ℕ) → are_parts d n ps ≡ true → all_closed ps ≡ true → core d n (kinds_of ps ++ ks) ≡ steps_of ps ++ core d n ks
+pub core_closed : (d : Division) (n : ℕ) (ps : Parts) (ks : List ℕ) → are_parts d n ps ≡ true → all_closed ps ≡ true → body_steps d n (kinds_of ps ++ ks) ≡ steps_of ps ++ body_steps d n ks
 core_closed d n Done ks h c = refl
 core_closed d n (Plain kind rest) ks h c =
-    let a = split (is_plain n (form kind) && not (ends d n (form kind))) (are_parts d n rest) h in
-    let b = split (is_plain n (form kind)) (not (ends d n (form kind))) a.0 in
-    let s = plain_step d n kind (form kind) refl b.0 (not_false (ends d n (form kind)) b.1) in
-    ap (λ xs. xs ++ core d (open_behind d n (form kind)) (kinds_of rest ++ ks)) s.0 ∙ ap (λ m. Token kind ∷ core d m (kinds_of rest ++ ks)) s.1 ∙ ap (λ xs. Token kind ∷ xs) (core_closed d n rest ks a.1 c)
+    let a = split (is_plain n (form kind) && not (ends_statement d n (form kind))) (are_parts d n rest) h in
+    let b = split (is_plain n (form kind)) (not (ends_statement d n (form kind))) a.0 in
+    let s = plain_step d n kind (form kind) refl b.0 (not_false (ends_statement d n (form kind)) b.1) in
+    ap (λ xs. xs ++ body_steps d (groups_open_after d n (form kind)) (kinds_of rest ++ ks)) s.0 ∙ ap (λ m. Token kind ∷ body_steps d m (kinds_of rest ++ ks)) s.1 ∙ ap (λ xs. Token kind ∷ xs) (core_closed d n rest ks a.1 c)
 core_closed d n (Closed inside rest) ks h c =
     let a = split (are_parts d (suc n) inside && all_closed inside) (are_parts d n rest) h in
     let b = split (are_parts d (suc n) inside) (all_closed inside) a.0 in
     open_step d n ((kinds_of inside ++ R_PAREN ∷ kinds_of rest) ++ ks)
-    ∙ ap (λ zs. Enter PAREN_EXPR ∷ Token L_PAREN ∷ core d (suc n) zs) (append_assoc (kinds_of inside) (R_PAREN ∷ kinds_of rest) ks)
+    ∙ ap (λ zs. Enter PAREN_EXPR ∷ Token L_PAREN ∷ body_steps d (suc n) zs) (append_assoc (kinds_of inside) (R_PAREN ∷ kinds_of rest) ks)
     ∙ ap (λ xs. Enter PAREN_EXPR ∷ Token L_PAREN ∷ xs) (core_closed d (suc n) inside (R_PAREN ∷ kinds_of rest ++ ks) b.0 b.1
     ∙ ap (λ xs. steps_of inside ++ xs) (close_step d n (kinds_of rest ++ ks) ∙ ap (λ xs. Token R_PAREN ∷ Exit ∷ xs) (core_closed d n rest ks a.1 c))
-    ∙ sym (append_assoc (steps_of inside) (Token R_PAREN ∷ Exit ∷ steps_of rest) (core d n ks)))
+    ∙ sym (append_assoc (steps_of inside) (Token R_PAREN ∷ Exit ∷ steps_of rest) (body_steps d n ks)))
 core_closed d n (Unclosed inside) ks h c = absurd (cc)
 
 exit_last : (n : ℕ) → Exit ∷ exits n ≡ exits (suc n)
 exit_last n = refl
 
 -- a core's parts give its steps, and then all open groups end
-pub core_parts : (d : Division) (n : ℕ) (ps : Parts) → are_parts d n ps ≡ true → core d n (kinds_of ps) ≡ steps_of ps ++ exits n
+pub core_parts : (d : Division) (n : ℕ) (ps : Parts) → are_parts d n ps ≡ true → body_steps d n (kinds_of ps) ≡ steps_of ps ++ exits n
 core_parts d n Done h = refl
 core_parts d n (Plain kind rest) h =
-    let a = split (is_plain n (form kind) && not (ends d n (form kind))) (are_parts d n rest) h in
-    let b = split (is_plain n (form kind)) (not (ends d n (form kind))) a.0 in
-    let s = plain_step d n kind (form kind) refl b.0 (not_false (ends d n (form kind)) b.1) in
-    ap (λ xs. xs ++ core d (open_behind d n (form kind)) (kinds_of rest)) s.0 ∙ ap (λ m. Token kind ∷ core d m (kinds_of rest)) s.1 ∙ ap (λ xs. Token kind ∷ xs) (core_parts d n rest a.1)
+    let a = split (is_plain n (form kind) && not (ends_statement d n (form kind))) (are_parts d n rest) h in
+    let b = split (is_plain n (form kind)) (not (ends_statement d n (form kind))) a.0 in
+    let s = plain_step d n kind (form kind) refl b.0 (not_false (ends_statement d n (form kind)) b.1) in
+    ap (λ xs. xs ++ body_steps d (groups_open_after d n (form kind)) (kinds_of rest)) s.0 ∙ ap (λ m. Token kind ∷ body_steps d m (kinds_of rest)) s.1 ∙ ap (λ xs. Token kind ∷ xs) (core_parts d n rest a.1)
 core_parts d n (Closed inside rest) h =
     let a = split (are_parts d (suc n) inside && all_closed inside) (are_parts d n rest) h in
     let b = split (are_parts d (suc n) inside) (all_closed inside) a.0 in
@@ -180,7 +180,7 @@ are_stacked d (suc n) (More p s) = (are_parts d (suc n) p && all_closed p) && ar
 both : (a b : Bool) → a ≡ true → b ≡ true → (a && b) ≡ true
 both a b h k = rw (h, k) refl
 
-push_stacked : (d : Division) (n k : ℕ) (s : Stack) → is_plain n (form k) ≡ true → ends d n (form k) ≡ false → are_stacked d n s ≡ true → are_stacked d n (push k s) ≡ true
+push_stacked : (d : Division) (n k : ℕ) (s : Stack) → is_plain n (form k) ≡ true → ends_statement d n (form k) ≡ false → are_stacked d n s ≡ true → are_stacked d n (push k s) ≡ true
 unfolding are_stacked push
 push_stacked d n k (Last p) plain goes h = rw (plain, goes) h
 push_stacked d zero k (More p s) plain goes h = absurd (cc)
@@ -206,26 +206,26 @@ divide_stacked : (d : Division) (n : ℕ) (ks : List ℕ) → stays_open d n ks 
 unfolding are_stacked divide divide_by
 divide_stacked d n [] h = refl
 divide_stacked d n (k ∷ ks) h =
-    let a = split (not (ends d n (form k))) (stays_open d (groups_after n (form k)) ks) h in
-    by (form k) n refl (not_false (ends d n (form k)) a.0) a.1 (λ m e. divide_stacked d m ks e)
+    let a = split (not (ends_statement d n (form k))) (stays_open d (open_groups_after n (form k)) ks) h in
+    by (form k) n refl (not_false (ends_statement d n (form k)) a.0) a.1 (λ m e. divide_stacked d m ks e)
   where
-    by : (f : Form) (n : ℕ) → form k ≡ f → ends d n (form k) ≡ false → stays_open d (groups_after n (form k)) ks ≡ true → ((m : ℕ) → stays_open d m ks ≡ true → are_stacked d m (divide m ks) ≡ true)
+    by : (f : Form) (n : ℕ) → form k ≡ f → ends_statement d n (form k) ≡ false → stays_open d (open_groups_after n (form k)) ks ≡ true → ((m : ℕ) → stays_open d m ks ≡ true → are_stacked d m (divide m ks) ≡ true)
         → are_stacked d n (divide_by f n k (λ m. divide m ks)) ≡ true
-    by Open n is goes rest more = enter_stacked d n (divide (suc n) ks) (more (suc n) (ap (λ f. stays_open d (groups_after n f) ks) (sym is) ∙ rest))
-    by Close zero is goes rest more = push_stacked d zero k (divide zero ks) (ap (is_plain zero) is) goes (more zero (ap (λ f. stays_open d (groups_after zero f) ks) (sym is) ∙ rest))
-    by Close (suc n) is goes rest more = more n (ap (λ f. stays_open d (groups_after (suc n) f) ks) (sym is) ∙ rest)
-    by Trivia n is goes rest more = push_stacked d n k (divide n ks) (ap (is_plain n) is) goes (more n (ap (λ f. stays_open d (groups_after n f) ks) (sym is) ∙ rest))
-    by Semicolon n is goes rest more = push_stacked d n k (divide n ks) (ap (is_plain n) is) goes (more n (ap (λ f. stays_open d (groups_after n f) ks) (sym is) ∙ rest))
-    by Terminator n is goes rest more = push_stacked d n k (divide n ks) (ap (is_plain n) is) goes (more n (ap (λ f. stays_open d (groups_after n f) ks) (sym is) ∙ rest))
-    by Command n is goes rest more = push_stacked d n k (divide n ks) (ap (is_plain n) is) goes (more n (ap (λ f. stays_open d (groups_after n f) ks) (sym is) ∙ rest))
-    by Other n is goes rest more = push_stacked d n k (divide n ks) (ap (is_plain n) is) goes (more n (ap (λ f. stays_open d (groups_after n f) ks) (sym is) ∙ rest))
+    by Open n is goes rest more = enter_stacked d n (divide (suc n) ks) (more (suc n) (ap (λ f. stays_open d (open_groups_after n f) ks) (sym is) ∙ rest))
+    by Close zero is goes rest more = push_stacked d zero k (divide zero ks) (ap (is_plain zero) is) goes (more zero (ap (λ f. stays_open d (open_groups_after zero f) ks) (sym is) ∙ rest))
+    by Close (suc n) is goes rest more = more n (ap (λ f. stays_open d (open_groups_after (suc n) f) ks) (sym is) ∙ rest)
+    by Trivia n is goes rest more = push_stacked d n k (divide n ks) (ap (is_plain n) is) goes (more n (ap (λ f. stays_open d (open_groups_after n f) ks) (sym is) ∙ rest))
+    by Semicolon n is goes rest more = push_stacked d n k (divide n ks) (ap (is_plain n) is) goes (more n (ap (λ f. stays_open d (open_groups_after n f) ks) (sym is) ∙ rest))
+    by Terminator n is goes rest more = push_stacked d n k (divide n ks) (ap (is_plain n) is) goes (more n (ap (λ f. stays_open d (open_groups_after n f) ks) (sym is) ∙ rest))
+    by Command n is goes rest more = push_stacked d n k (divide n ks) (ap (is_plain n) is) goes (more n (ap (λ f. stays_open d (open_groups_after n f) ks) (sym is) ∙ rest))
+    by Other n is goes rest more = push_stacked d n k (divide n ks) (ap (is_plain n) is) goes (more n (ap (λ f. stays_open d (open_groups_after n f) ks) (sym is) ∙ rest))
 
-pub core_divides : (d : Division) (ks : List ℕ) → stays_open d 0 ks ≡ true → (ps : Parts) × (kinds_of ps ≡ ks) × (are_parts d 0 ps ≡ true) × (core d 0 ks ≡ steps_of ps)
+pub core_divides : (d : Division) (ks : List ℕ) → stays_open d 0 ks ≡ true → (ps : Parts) × (kinds_of ps ≡ ks) × (are_parts d 0 ps ≡ true) × (body_steps d 0 ks ≡ steps_of ps)
 unfolding stack_kinds are_stacked
 core_divides d ks h = by (divide 0 ks) (divide_kinds 0 ks) (divide_stacked d 0 ks h)
   where
-    by : (s : Stack) → stack_kinds s ≡ ks → are_stacked d 0 s ≡ true → (ps : Parts) × (kinds_of ps ≡ ks) × (are_parts d 0 ps ≡ true) × (core d 0 ks ≡ steps_of ps)
-    by (Last p) kinds parts = (p, kinds, parts, ap (core d 0) (sym kinds) ∙ core_parts d 0 p parts ∙ append-nil (steps_of p))
+    by : (s : Stack) → stack_kinds s ≡ ks → are_stacked d 0 s ≡ true → (ps : Parts) × (kinds_of ps ≡ ks) × (are_parts d 0 ps ≡ true) × (body_steps d 0 ks ≡ steps_of ps)
+    by (Last p) kinds parts = (p, kinds, parts, ap (body_steps d 0) (sym kinds) ∙ core_parts d 0 p parts ∙ append-nil (steps_of p))
     by (More p s) kinds parts = absurd (cc)
 
 -- ---- and only one such sequence
@@ -279,8 +279,8 @@ divide_onto : (d : Division) (n : ℕ) (ps : Parts) (ks : List ℕ) → are_part
 unfolding onto
 divide_onto d n Done ks h c = refl
 divide_onto d n (Plain kind rest) ks h c =
-    let a = split (is_plain n (form kind) && not (ends d n (form kind))) (are_parts d n rest) h in
-    let b = split (is_plain n (form kind)) (not (ends d n (form kind))) a.0 in
+    let a = split (is_plain n (form kind) && not (ends_statement d n (form kind))) (are_parts d n rest) h in
+    let b = split (is_plain n (form kind)) (not (ends_statement d n (form kind))) a.0 in
     divide_plain n kind (kinds_of rest ++ ks) b.0 ∙ ap (push kind) (divide_onto d n rest ks a.1 c)
 divide_onto d n (Closed inside rest) ks h c =
     let a = split (are_parts d (suc n) inside && all_closed inside) (are_parts d n rest) h in
@@ -297,8 +297,8 @@ divide_last : (d : Division) (n : ℕ) (ps : Parts) → are_parts d n ps ≡ tru
 unfolding push enter divide
 divide_last d n Done h = refl
 divide_last d n (Plain kind rest) h =
-    let a = split (is_plain n (form kind) && not (ends d n (form kind))) (are_parts d n rest) h in
-    let b = split (is_plain n (form kind)) (not (ends d n (form kind))) a.0 in
+    let a = split (is_plain n (form kind) && not (ends_statement d n (form kind))) (are_parts d n rest) h in
+    let b = split (is_plain n (form kind)) (not (ends_statement d n (form kind))) a.0 in
     divide_plain n kind (kinds_of rest) b.0 ∙ ap (push kind) (divide_last d n rest a.1)
 divide_last d n (Closed inside rest) h =
     let a = split (are_parts d (suc n) inside && all_closed inside) (are_parts d n rest) h in
@@ -320,11 +320,11 @@ core_divides_once d ps qs h k same = ap first_of_stack (sym (divide_last d 0 ps 
 -- ---- the closing token
 
 -- the token that ends a statement stands behind all of its groups
-pub core_closing : (d : Division) (n : ℕ) (ks : List ℕ) (k : ℕ) → stays_open d n ks ≡ true → ends d (groups_behind n ks) (form k) ≡ true → core d n (ks ++ k ∷ []) ≡ core d n ks ++ Token k ∷ []
+pub core_closing : (d : Division) (n : ℕ) (ks : List ℕ) (k : ℕ) → stays_open d n ks ≡ true → ends_statement d (open_groups_after_all n ks) (form k) ≡ true → body_steps d n (ks ++ k ∷ []) ≡ body_steps d n ks ++ Token k ∷ []
 core_closing d n [] k h e = rw e (append-nil (exits n ++ Token k ∷ []))
 core_closing d n (j ∷ ks) k h e =
-    let a = split (not (ends d n (form j))) (stays_open d (groups_after n (form j)) ks) h in
-    let goes : open_behind d n (form j) ≡ groups_after n (form j) = rw (not_false (ends d n (form j)) a.0) refl in
+    let a = split (not (ends_statement d n (form j))) (stays_open d (open_groups_after n (form j)) ks) h in
+    let goes : groups_open_after d n (form j) ≡ open_groups_after n (form j) = rw (not_false (ends_statement d n (form j)) a.0) refl in
     ap (λ xs. kind_steps d n j ++ xs)
-    (ap (λ m. core d m (ks ++ k ∷ [])) goes ∙ core_closing d (groups_after n (form j)) ks k a.1 e ∙ ap (λ m. core d m ks ++ Token k ∷ []) (sym goes))
-    ∙ sym (append_assoc (kind_steps d n j) (core d (open_behind d n (form j)) ks) (Token k ∷ []))
+    (ap (λ m. body_steps d m (ks ++ k ∷ [])) goes ∙ core_closing d (open_groups_after n (form j)) ks k a.1 e ∙ ap (λ m. body_steps d m ks ++ Token k ∷ []) (sym goes))
+    ∙ sym (append_assoc (kind_steps d n j) (body_steps d (groups_open_after d n (form j)) ks) (Token k ∷ []))

@@ -8,23 +8,23 @@ use Rattle.std.specs.Prelude.{Some, None}
 use Rattle.squawk_kinds.specs.declared.numbers.TheConstants.Number as kind
 use Rattle.squawk_events.specs.Kinds.{is_trivia_kind}
 use Rattle.squawk_statements.specs.Opening.{Row, rows, other_rows, create_rows, alter_rows, drop_rows, is_prefix, is_modifier, longer, longest}
-use Rattle.squawk_statements.specs.Rows.{read, key_behind, is_left_out, is_passed}
+use Rattle.squawk_statements.specs.Rows.{kinds_read, key_after, is_skipped_modifier, is_skipped}
 
 -- a kind that is read
-read-one : (past : Bool) (k : ℕ) (ks : List ℕ) → (past && is_trivia_kind k) ≡ false → read past (k ∷ ks) ≡ k ∷ read past ks
+read-one : (past : Bool) (k : ℕ) (ks : List ℕ) → (past && is_trivia_kind k) ≡ false → kinds_read past (k ∷ ks) ≡ k ∷ kinds_read past ks
 read-one false k ks h = refl
 read-one true k ks h = rw h refl
 
-read-none : (past : Bool) → read past [] ≡ []
+read-none : (past : Bool) → kinds_read past [] ≡ []
 read-none true = refl
 read-none false = refl
 
 -- a kind that is not
-read-past : (past : Bool) (k : ℕ) (ks : List ℕ) → (past && is_trivia_kind k) ≡ true → read past (k ∷ ks) ≡ read past ks
+read-past : (past : Bool) (k : ℕ) (ks : List ℕ) → (past && is_trivia_kind k) ≡ true → kinds_read past (k ∷ ks) ≡ kinds_read past ks
 read-past false k ks h = cc
 read-past true k ks h = rw h refl
 
-left_out : (c k : ℕ) (ks : List ℕ) → (c == kind.CREATE_KW && is_modifier k) ≡ true → key_behind (c ∷ []) (k ∷ ks) ≡ key_behind (c ∷ []) ks
+left_out : (c k : ℕ) (ks : List ℕ) → (c == kind.CREATE_KW && is_modifier k) ≡ true → key_after (c ∷ []) (k ∷ ks) ≡ key_after (c ∷ []) ks
 left_out c k ks h = by (c == kind.CREATE_KW) (is_modifier k) (and_parts (c == kind.CREATE_KW) (is_modifier k) h).0 (and_parts (c == kind.CREATE_KW) (is_modifier k) h).1
   where
     by : (a b : Bool) → a ≡ true → b ≡ true
@@ -33,7 +33,7 @@ left_out c k ks h = by (c == kind.CREATE_KW) (is_modifier k) (and_parts (c == ki
     by true false x y = cc
     by false b x y = cc
 
-kept_in : (c k : ℕ) (ks : List ℕ) → (c == kind.CREATE_KW && is_modifier k) ≡ false → key_behind (c ∷ []) (k ∷ ks) ≡ k ∷ ks
+kept_in : (c k : ℕ) (ks : List ℕ) → (c == kind.CREATE_KW && is_modifier k) ≡ false → key_after (c ∷ []) (k ∷ ks) ≡ k ∷ ks
 kept_in c k ks h = by (c == kind.CREATE_KW) (is_modifier k) h
   where
     by : (a b : Bool) → (a && b) ≡ false → cond a (drop (cond b (1 + prefix_len is_modifier ks) 0) (k ∷ ks)) (k ∷ ks) ≡ k ∷ ks
@@ -41,33 +41,33 @@ kept_in c k ks h = by (c == kind.CREATE_KW) (is_modifier k) h
     by true false x = refl
     by false b x = refl
 
-passed_modifier : (so_far : List ℕ) (k : ℕ) (ks : List ℕ) → is_left_out so_far k ≡ true → key_behind so_far (k ∷ ks) ≡ key_behind so_far ks
+passed_modifier : (so_far : List ℕ) (k : ℕ) (ks : List ℕ) → is_skipped_modifier so_far k ≡ true → key_after so_far (k ∷ ks) ≡ key_after so_far ks
 passed_modifier [] k ks h = cc
 passed_modifier (c ∷ []) k ks h = left_out c k ks h
 passed_modifier (c ∷ d ∷ so_far) k ks h = cc
 
 -- a kind that is passed over
-pub passed : (past : Bool) (so_far : List ℕ) (k : ℕ) (ks : List ℕ) → is_passed past so_far k ≡ true → key_behind so_far (read past (k ∷ ks)) ≡ key_behind so_far (read past ks)
+pub passed : (past : Bool) (so_far : List ℕ) (k : ℕ) (ks : List ℕ) → is_skipped past so_far k ≡ true → key_after so_far (kinds_read past (k ∷ ks)) ≡ key_after so_far (kinds_read past ks)
 passed past so_far k ks h = by (past && is_trivia_kind k) refl
   where
-    by : (t : Bool) → (past && is_trivia_kind k) ≡ t → key_behind so_far (read past (k ∷ ks)) ≡ key_behind so_far (read past ks)
-    by true is = ap (key_behind so_far) (read-past past k ks is)
-    by false is = ap (key_behind so_far) (read-one past k ks is) ∙ passed_modifier so_far k (read past ks) (other (past && is_trivia_kind k) (is_left_out so_far k) is h)
+    by : (t : Bool) → (past && is_trivia_kind k) ≡ t → key_after so_far (kinds_read past (k ∷ ks)) ≡ key_after so_far (kinds_read past ks)
+    by true is = ap (key_after so_far) (read-past past k ks is)
+    by false is = ap (key_after so_far) (read-one past k ks is) ∙ passed_modifier so_far k (kinds_read past ks) (other (past && is_trivia_kind k) (is_skipped_modifier so_far k) is h)
       where
         other : (a b : Bool) → a ≡ false → (a || b) ≡ true → b ≡ true
         other a b x y = cc
 
-taken_on : (so_far : List ℕ) (k : ℕ) (ks : List ℕ) → is_left_out so_far k ≡ false → so_far ++ key_behind so_far (k ∷ ks) ≡ (so_far ++ k ∷ []) ++ key_behind (so_far ++ k ∷ []) ks
+taken_on : (so_far : List ℕ) (k : ℕ) (ks : List ℕ) → is_skipped_modifier so_far k ≡ false → so_far ++ key_after so_far (k ∷ ks) ≡ (so_far ++ k ∷ []) ++ key_after (so_far ++ k ∷ []) ks
 taken_on [] k ks h = refl
 taken_on (c ∷ []) k ks h = ap (λ xs. c ∷ xs) (kept_in c k ks h)
 taken_on (c ∷ d ∷ so_far) k ks h = ap (λ xs. c ∷ d ∷ xs) (sym (append_assoc so_far (k ∷ []) ks))
 
 -- a kind that is one of the key
-pub taken : (past : Bool) (so_far : List ℕ) (k : ℕ) (ks : List ℕ) → is_passed past so_far k ≡ false
-    → so_far ++ key_behind so_far (read past (k ∷ ks)) ≡ (so_far ++ k ∷ []) ++ key_behind (so_far ++ k ∷ []) (read past ks)
+pub taken : (past : Bool) (so_far : List ℕ) (k : ℕ) (ks : List ℕ) → is_skipped past so_far k ≡ false
+    → so_far ++ key_after so_far (kinds_read past (k ∷ ks)) ≡ (so_far ++ k ∷ []) ++ key_after (so_far ++ k ∷ []) (kinds_read past ks)
 taken past so_far k ks h =
-    ap (λ xs. so_far ++ key_behind so_far xs) (read-one past k ks (first (past && is_trivia_kind k) (is_left_out so_far k) h))
-    ∙ taken_on so_far k (read past ks) (second (past && is_trivia_kind k) (is_left_out so_far k) h)
+    ap (λ xs. so_far ++ key_after so_far xs) (read-one past k ks (first (past && is_trivia_kind k) (is_skipped_modifier so_far k) h))
+    ∙ taken_on so_far k (kinds_read past ks) (second (past && is_trivia_kind k) (is_skipped_modifier so_far k) h)
   where
     first : (a b : Bool) → (a || b) ≡ false → a ≡ false
     first true b x = cc
@@ -82,10 +82,10 @@ same true xs = refl
 same false xs = refl
 
 -- behind the last kind
-pub nothing_behind : (past : Bool) (so_far : List ℕ) → so_far ++ key_behind so_far (read past []) ≡ so_far
-nothing_behind past so_far = ap (λ xs. so_far ++ key_behind so_far xs) (read-none past) ∙ by so_far
+pub nothing_behind : (past : Bool) (so_far : List ℕ) → so_far ++ key_after so_far (kinds_read past []) ≡ so_far
+nothing_behind past so_far = ap (λ xs. so_far ++ key_after so_far xs) (read-none past) ∙ by so_far
   where
-    by : (xs : List ℕ) → xs ++ key_behind xs [] ≡ xs
+    by : (xs : List ℕ) → xs ++ key_after xs [] ≡ xs
     by [] = refl
     by (c ∷ []) = ap (λ ys. c ∷ ys) (same (c == kind.CREATE_KW) [])
     by (c ∷ d ∷ xs) = append-nil (c ∷ d ∷ xs)
@@ -109,9 +109,9 @@ unfolding rows other_rows create_rows alter_rows drop_rows
 longest-four ks = longest-take 4 rows ks refl
 
 -- the loop's end, and its early one
-pub key_end : (past : Bool) (so_far all : List ℕ) (whole : List ℕ) → length so_far ≤ 4 → all ≡ [] → so_far ++ key_behind so_far (read past all) ≡ whole → so_far ≡ take 4 whole
+pub key_end : (past : Bool) (so_far all : List ℕ) (whole : List ℕ) → length so_far ≤ 4 → all ≡ [] → so_far ++ key_after so_far (kinds_read past all) ≡ whole → so_far ≡ take 4 whole
 key_end past so_far all whole le none h =
-    let e : so_far ≡ whole = sym (nothing_behind past so_far) ∙ ap (λ xs. so_far ++ key_behind so_far (read past xs)) (sym none) ∙ h in
+    let e : so_far ≡ whole = sym (nothing_behind past so_far) ∙ ap (λ xs. so_far ++ key_after so_far (kinds_read past xs)) (sym none) ∙ h in
     sym (take_all 4 so_far le) ∙ ap (take 4) e
 
 pub key_full : (so_far behind whole : List ℕ) → length so_far ≡ 4 → so_far ++ behind ≡ whole → so_far ≡ take 4 whole
@@ -119,20 +119,20 @@ key_full so_far behind whole size h =
     sym (take-append_seam so_far behind) ∙ ap (λ n. take n (so_far ++ behind)) size ∙ ap (take 4) h
 
 -- one step of the loop, where the kind is passed over
-pub more_passed : (past : Bool) (kinds : List ℕ) (i k d : ℕ) (so_far whole : List ℕ) → i < length kinds → k ≡ get_or kinds i d → is_passed past so_far k ≡ true
-    → so_far ++ key_behind so_far (read past (drop i kinds)) ≡ whole → so_far ++ key_behind so_far (read past (drop (i + 1) kinds)) ≡ whole
+pub more_passed : (past : Bool) (kinds : List ℕ) (i k d : ℕ) (so_far whole : List ℕ) → i < length kinds → k ≡ get_or kinds i d → is_skipped past so_far k ≡ true
+    → so_far ++ key_after so_far (kinds_read past (drop i kinds)) ≡ whole → so_far ++ key_after so_far (kinds_read past (drop (i + 1) kinds)) ≡ whole
 more_passed past kinds i k d so_far whole within is pass h =
     let here : drop i kinds ≡ k ∷ drop (i + 1) kinds = rw (is, add-one) (drop-cons kinds i d within) in
-    ap (λ xs. so_far ++ xs) (sym (passed past so_far k (drop (i + 1) kinds) pass)) ∙ ap (λ xs. so_far ++ key_behind so_far (read past xs)) (sym here) ∙ h
+    ap (λ xs. so_far ++ xs) (sym (passed past so_far k (drop (i + 1) kinds) pass)) ∙ ap (λ xs. so_far ++ key_after so_far (kinds_read past xs)) (sym here) ∙ h
 
 -- and where it is taken
 pub more_taken : (past : Bool) (kinds : List ℕ) (i k d : ℕ) (buffer : List ℕ) (n : ℕ) (whole : List ℕ) → i < length kinds → k ≡ get_or kinds i d → n < length buffer
-    → is_passed past (take n buffer) k ≡ false
-    → take n buffer ++ key_behind (take n buffer) (read past (drop i kinds)) ≡ whole
-    → take (n + 1) (set buffer n k) ++ key_behind (take (n + 1) (set buffer n k)) (read past (drop (i + 1) kinds)) ≡ whole
+    → is_skipped past (take n buffer) k ≡ false
+    → take n buffer ++ key_after (take n buffer) (kinds_read past (drop i kinds)) ≡ whole
+    → take (n + 1) (set buffer n k) ++ key_after (take (n + 1) (set buffer n k)) (kinds_read past (drop (i + 1) kinds)) ≡ whole
 more_taken past kinds i k d buffer n whole within is room pass h =
     let here : drop i kinds ≡ k ∷ drop (i + 1) kinds = rw (is, add-one) (drop-cons kinds i d within) in
     let made : take (n + 1) (set buffer n k) ≡ take n buffer ++ k ∷ [] = rw add-one (take-suc-set buffer n k room) in
-    ap (λ xs. xs ++ key_behind xs (read past (drop (i + 1) kinds))) made
+    ap (λ xs. xs ++ key_after xs (kinds_read past (drop (i + 1) kinds))) made
     ∙ sym (taken past (take n buffer) k (drop (i + 1) kinds) pass)
-    ∙ ap (λ xs. take n buffer ++ key_behind (take n buffer) (read past xs)) (sym here) ∙ h
+    ∙ ap (λ xs. take n buffer ++ key_after (take n buffer) (kinds_read past xs)) (sym here) ∙ h

@@ -2,8 +2,8 @@
 use Rattle.std.specs.Prelude.{ℕ, ◌+◌, List, [], ◌∷◌, map, take, Option, Some, None}
 use Rattle.squawk_kinds.specs.declared.numbers.TheConstants.Number as kind
 use Rattle.squawk_lexer.specs.Cut.{Form, Trivia, Semicolon, Terminator, Command, Open, Close, Other}
-use Rattle.squawk_statements.specs.Children.{first_of}
-use Rattle.squawk_events.specs.Kinds.{kept}
+use Rattle.squawk_statements.specs.Children.{first_child}
+use Rattle.squawk_events.specs.Kinds.{without_trivia}
 use Rattle.squawk_statements.specs.Kinds.{form}
 use Rattle.squawk_statements.specs.Opening.{statement_node}
 use Rattle.squawk_statements.specs.declared.division.Division.{Division}
@@ -22,11 +22,11 @@ node_by Other ks = Some (statement_node ks)
 -- the node of a child of these kinds, trivia among them; none for a leaf
 abbrev pub child_node : List ℕ → Option ℕ
 child_node [] = None
-child_node (k ∷ ks) = node_by (form k) (kept (k ∷ ks))
+child_node (k ∷ ks) = node_by (form k) (without_trivia (k ∷ ks))
 
 -- the first child of a list of kinds, trivia among them
 abbrev pub first_shape : Division → List ℕ → ChildShape
-first_shape division kinds = let child = first_of division (map form kinds) in record {
+first_shape division kinds = let child = first_child division (map form kinds) in record {
   tokens = child.more + 1;
   node = child_node (take (child.more + 1) kinds);
   closed = child.closed;

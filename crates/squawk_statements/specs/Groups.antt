@@ -4,7 +4,7 @@ use Rattle.squawk_events.specs.declared.steps.Step.{Step}
 use Rattle.squawk_events.specs.declared.steps.Step.TheVariants.{Enter, Token, Exit}
 use Rattle.squawk_kinds.specs.declared.numbers.TheConstants.Number.{L_PAREN, R_PAREN, PAREN_EXPR}
 use Rattle.squawk_lexer.specs.Cut.{Form, Trivia, Semicolon, Terminator, Command, Open, Close, Other}
-use Rattle.squawk_statements.specs.Children.{ends, groups_after}
+use Rattle.squawk_statements.specs.Children.{ends_statement, open_groups_after}
 use Rattle.squawk_statements.specs.Kinds.{form}
 use Rattle.squawk_statements.specs.declared.division.Division.{Division}
 
@@ -47,16 +47,16 @@ all_closed (Unclosed inside) = false
 -- the parts of a core inside n groups: no kind ends the statement, and a group that is closed holds none that is not
 abbrev pub are_parts : Division → ℕ → Parts → Bool
 are_parts d n Done = true
-are_parts d n (Plain kind rest) = (is_plain n (form kind) && not (ends d n (form kind))) && are_parts d n rest
+are_parts d n (Plain kind rest) = (is_plain n (form kind) && not (ends_statement d n (form kind))) && are_parts d n rest
 are_parts d n (Closed inside rest) = (are_parts d (suc n) inside && all_closed inside) && are_parts d n rest
 are_parts d n (Unclosed inside) = are_parts d (suc n) inside
 
 -- no kind ends the statement in which n groups are open
 abbrev pub stays_open : Division → ℕ → List ℕ → Bool
 stays_open d n [] = true
-stays_open d n (k ∷ ks) = not (ends d n (form k)) && stays_open d (groups_after n (form k)) ks
+stays_open d n (k ∷ ks) = not (ends_statement d n (form k)) && stays_open d (open_groups_after n (form k)) ks
 
 -- how many groups are open behind some kinds
-abbrev pub groups_behind : ℕ → List ℕ → ℕ
-groups_behind n [] = n
-groups_behind n (k ∷ ks) = groups_behind (groups_after n (form k)) ks
+abbrev pub open_groups_after_all : ℕ → List ℕ → ℕ
+open_groups_after_all n [] = n
+open_groups_after_all n (k ∷ ks) = open_groups_after_all (open_groups_after n (form k)) ks

@@ -5,7 +5,7 @@ use Rattle.squawk_lexer.specs.Cut.{Form, Trivia, Semicolon, Terminator, Command,
 use Rattle.squawk_kinds.specs.declared.numbers.TheConstants.Number.{PAREN_EXPR, SOURCE_FILE, ERROR}
 use Rattle.squawk_events.specs.declared.steps.Step.{Step}
 use Rattle.squawk_events.specs.declared.steps.Step.TheVariants.{Enter, Token, Exit, Error}
-use Rattle.squawk_statements.specs.Children.{ends, groups_after, parts}
+use Rattle.squawk_statements.specs.Children.{ends_statement, open_groups_after, parts}
 use Rattle.squawk_statements.specs.First.{node_by}
 use Rattle.squawk_statements.specs.declared.division.Division.{Division}
 
@@ -15,25 +15,25 @@ node_of [] = ERROR
 node_of (kind ∷ kinds) = unwrap_or (node_by (form kind) (kind ∷ kinds)) ERROR
 
 -- before a kind's token in a group
-abbrev pub opened_before : Form → List Step
-opened_before Open = Enter PAREN_EXPR ∷ []
-opened_before Trivia = []
-opened_before Semicolon = []
-opened_before Terminator = []
-opened_before Command = []
-opened_before Close = []
-opened_before Other = []
+abbrev pub enters_before : Form → List Step
+enters_before Open = Enter PAREN_EXPR ∷ []
+enters_before Trivia = []
+enters_before Semicolon = []
+enters_before Terminator = []
+enters_before Command = []
+enters_before Close = []
+enters_before Other = []
 
 -- behind a kind's token, where n groups are open before it
-abbrev pub closed_behind : ℕ → Form → List Step
-closed_behind n Trivia = []
-closed_behind n Semicolon = []
-closed_behind n Terminator = []
-closed_behind n Command = []
-closed_behind n Open = []
-closed_behind zero Close = []
-closed_behind (suc n) Close = Exit ∷ []
-closed_behind n Other = []
+abbrev pub exits_after : ℕ → Form → List Step
+exits_after n Trivia = []
+exits_after n Semicolon = []
+exits_after n Terminator = []
+exits_after n Command = []
+exits_after n Open = []
+exits_after zero Close = []
+exits_after (suc n) Close = Exit ∷ []
+exits_after n Other = []
 
 abbrev pub exits : ℕ → List Step
 exits zero = []
@@ -42,24 +42,24 @@ exits (suc n) = Exit ∷ exits n
 -- the steps of a kind of a child, where n groups are open before it: where the child closes, they end
 abbrev pub kind_steps : Division → ℕ → ℕ → List Step
 kind_steps d n kind =
-    if ends d n (form kind) then exits n ++ Token kind ∷ []
-    else opened_before (form kind) ++ Token kind ∷ closed_behind n (form kind)
+    if ends_statement d n (form kind) then exits n ++ Token kind ∷ []
+    else enters_before (form kind) ++ Token kind ∷ exits_after n (form kind)
 
 -- how many groups are open behind a form
-abbrev pub open_behind : Division → ℕ → Form → ℕ
-open_behind d n f = if ends d n f then 0 else groups_after n f
+abbrev pub groups_open_after : Division → ℕ → Form → ℕ
+groups_open_after d n f = if ends_statement d n f then 0 else open_groups_after n f
 
 -- The steps of the kinds of a child from here on, where n groups are open. Where its kinds end, all open groups end.
-abbrev pub core : Division → ℕ → List ℕ → List Step
-core d n [] = exits n
-core d n (kind ∷ kinds) = kind_steps d n kind ++ core d (open_behind d n (form kind)) kinds
+abbrev pub body_steps : Division → ℕ → List ℕ → List Step
+body_steps d n [] = exits n
+body_steps d n (kind ∷ kinds) = kind_steps d n kind ++ body_steps d (groups_open_after d n (form kind)) kinds
 
-abbrev pub fault : ℕ → List Step
-fault node = if node == ERROR then Error 10 ∷ [] else []
+abbrev pub unknown_statement_error : ℕ → List Step
+unknown_statement_error node = if node == ERROR then Error 10 ∷ [] else []
 
 -- the steps of a child of these kinds
 abbrev pub child_steps : Division → List ℕ → List Step
-child_steps d kinds = Enter (node_of kinds) ∷ fault (node_of kinds) ++ core d 0 kinds ++ Exit ∷ []
+child_steps d kinds = Enter (node_of kinds) ∷ unknown_statement_error (node_of kinds) ++ body_steps d 0 kinds ++ Exit ∷ []
 
 abbrev pub children_steps : Division → List (List ℕ) → List Step
 children_steps d [] = []

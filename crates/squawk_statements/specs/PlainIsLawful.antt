@@ -9,8 +9,8 @@ use Rattle.squawk_lexer.specs.Cut.{Form, Trivia, Semicolon, Terminator, Command,
 use Rattle.squawk_kinds.specs.declared.numbers.TheConstants.Number.{ERROR}
 use Rattle.squawk_events.specs.declared.steps.Step.{Step}
 use Rattle.squawk_events.specs.declared.steps.Step.TheVariants.{Enter, Token, Exit, Error}
-use Rattle.squawk_statements.specs.Children.{ends, parts, parts_from, more_of}
-use Rattle.squawk_statements.specs.Plain.{plain, node_of, core, exits, kind_steps, open_behind, opened_before, closed_behind, fault, child_steps, children_steps}
+use Rattle.squawk_statements.specs.Children.{ends_statement, parts, parts_from, more_of}
+use Rattle.squawk_statements.specs.Plain.{plain, node_of, body_steps, exits, kind_steps, groups_open_after, enters_before, exits_after, unknown_statement_error, child_steps, children_steps}
 use Rattle.squawk_statements.specs.declared.division.Division.{Division}
 use Rattle.squawk_statements.specs.declared.division.Division.TheVariants.{Flat, Grouped}
 
@@ -34,9 +34,9 @@ closes_end n m kind xs = ap (closes (raised n (suc m))) (append_assoc (exits n) 
 
 -- the steps of a kind of this form
 abbrev steps_by : Division → ℕ → ℕ → Form → List Step
-steps_by d n kind f = if ends d n f then exits n ++ Token kind ∷ [] else opened_before f ++ Token kind ∷ closed_behind n f
+steps_by d n kind f = if ends_statement d n f then exits n ++ Token kind ∷ [] else enters_before f ++ Token kind ∷ exits_after n f
 
-closes_kind : (d : Division) (n m kind : ℕ) (f : Form) (xs : List Step) → closes (raised n (suc m)) (steps_by d n kind f ++ xs) ≡ closes (raised (open_behind d n f) (suc m)) xs
+closes_kind : (d : Division) (n m kind : ℕ) (f : Form) (xs : List Step) → closes (raised n (suc m)) (steps_by d n kind f ++ xs) ≡ closes (raised (groups_open_after d n f) (suc m)) xs
 closes_kind d n m kind Trivia xs = closes_token n m kind xs
 closes_kind Flat n m kind Semicolon xs = closes_end n m kind xs
 closes_kind Grouped zero m kind Semicolon xs = refl
@@ -49,12 +49,12 @@ closes_kind d zero m kind Close xs = refl
 closes_kind d (suc n) m kind Close xs = refl
 closes_kind d n m kind Other xs = closes_token n m kind xs
 
-closes_core : (d : Division) (n m : ℕ) (kinds : List ℕ) (xs : List Step) → closes (raised n (suc m)) (core d n kinds ++ xs) ≡ closes (suc m) xs
+closes_core : (d : Division) (n m : ℕ) (kinds : List ℕ) (xs : List Step) → closes (raised n (suc m)) (body_steps d n kinds ++ xs) ≡ closes (suc m) xs
 closes_core d n m [] xs = closes_exits n m xs
 closes_core d n m (kind ∷ kinds) xs =
-    ap (closes (raised n (suc m))) (append_assoc (kind_steps d n kind) (core d (open_behind d n (form kind)) kinds) xs)
-    ∙ closes_kind d n m kind (form kind) (core d (open_behind d n (form kind)) kinds ++ xs)
-    ∙ closes_core d (open_behind d n (form kind)) m kinds xs
+    ap (closes (raised n (suc m))) (append_assoc (kind_steps d n kind) (body_steps d (groups_open_after d n (form kind)) kinds) xs)
+    ∙ closes_kind d n m kind (form kind) (body_steps d (groups_open_after d n (form kind)) kinds ++ xs)
+    ∙ closes_core d (groups_open_after d n (form kind)) m kinds xs
 
 closes_fault : (b : Bool) (m : ℕ) (xs : List Step) → closes (suc m) ((if b then Error 10 ∷ [] else []) ++ xs) ≡ closes (suc m) xs
 closes_fault true m xs = refl
@@ -62,9 +62,9 @@ closes_fault false m xs = refl
 
 closes_child : (d : Division) (m : ℕ) (kinds : List ℕ) (xs : List Step) → closes (suc m) (child_steps d kinds ++ xs) ≡ closes (suc m) xs
 closes_child d m kinds xs =
-    let inner = fault (node_of kinds) in
-    ap (closes (suc (suc m))) (append_assoc (inner ++ core d 0 kinds) (Exit ∷ []) xs ∙ append_assoc inner (core d 0 kinds) (Exit ∷ xs))
-    ∙ closes_fault (node_of kinds == ERROR) (suc m) (core d 0 kinds ++ Exit ∷ xs)
+    let inner = unknown_statement_error (node_of kinds) in
+    ap (closes (suc (suc m))) (append_assoc (inner ++ body_steps d 0 kinds) (Exit ∷ []) xs ∙ append_assoc inner (body_steps d 0 kinds) (Exit ∷ xs))
+    ∙ closes_fault (node_of kinds == ERROR) (suc m) (body_steps d 0 kinds ++ Exit ∷ xs)
     ∙ closes_core d 0 (suc m) kinds (Exit ∷ xs)
 
 closes_children : (d : Division) (m : ℕ) (ps : List (List ℕ)) (xs : List Step) → closes (suc m) (children_steps d ps ++ xs) ≡ closes (suc m) xs
@@ -101,12 +101,12 @@ tokens_kind d zero kind Close xs = refl
 tokens_kind d (suc n) kind Close xs = refl
 tokens_kind d n kind Other xs = refl
 
-tokens_core : (d : Division) (n : ℕ) (kinds : List ℕ) (xs : List Step) → token_kinds (core d n kinds ++ xs) ≡ kinds ++ token_kinds xs
+tokens_core : (d : Division) (n : ℕ) (kinds : List ℕ) (xs : List Step) → token_kinds (body_steps d n kinds ++ xs) ≡ kinds ++ token_kinds xs
 tokens_core d n [] xs = tokens_exits n xs
 tokens_core d n (kind ∷ kinds) xs =
-    ap token_kinds (append_assoc (kind_steps d n kind) (core d (open_behind d n (form kind)) kinds) xs)
-    ∙ tokens_kind d n kind (form kind) (core d (open_behind d n (form kind)) kinds ++ xs)
-    ∙ ap (λ ks. kind ∷ ks) (tokens_core d (open_behind d n (form kind)) kinds xs)
+    ap token_kinds (append_assoc (kind_steps d n kind) (body_steps d (groups_open_after d n (form kind)) kinds) xs)
+    ∙ tokens_kind d n kind (form kind) (body_steps d (groups_open_after d n (form kind)) kinds ++ xs)
+    ∙ ap (λ ks. kind ∷ ks) (tokens_core d (groups_open_after d n (form kind)) kinds xs)
 
 tokens_fault : (b : Bool) (xs : List Step) → token_kinds ((if b then Error 10 ∷ [] else []) ++ xs) ≡ token_kinds xs
 tokens_fault true xs = refl
@@ -114,9 +114,9 @@ tokens_fault false xs = refl
 
 tokens_child : (d : Division) (kinds : List ℕ) (xs : List Step) → token_kinds (child_steps d kinds ++ xs) ≡ kinds ++ token_kinds xs
 tokens_child d kinds xs =
-    let inner = fault (node_of kinds) in
-    ap token_kinds (append_assoc (inner ++ core d 0 kinds) (Exit ∷ []) xs ∙ append_assoc inner (core d 0 kinds) (Exit ∷ xs))
-    ∙ tokens_fault (node_of kinds == ERROR) (core d 0 kinds ++ Exit ∷ xs)
+    let inner = unknown_statement_error (node_of kinds) in
+    ap token_kinds (append_assoc (inner ++ body_steps d 0 kinds) (Exit ∷ []) xs ∙ append_assoc inner (body_steps d 0 kinds) (Exit ∷ xs))
+    ∙ tokens_fault (node_of kinds == ERROR) (body_steps d 0 kinds ++ Exit ∷ xs)
     ∙ tokens_core d 0 kinds (Exit ∷ xs)
 
 abbrev joined : {A : Type 0} → List (List A) → List A
@@ -160,12 +160,12 @@ numbers_kind d zero kind Close xs = refl
 numbers_kind d (suc n) kind Close xs = refl
 numbers_kind d n kind Other xs = refl
 
-numbers_core : (d : Division) (n : ℕ) (kinds : List ℕ) (xs : List Step) → has_lawful_numbers (core d n kinds ++ xs) ≡ has_lawful_numbers xs
+numbers_core : (d : Division) (n : ℕ) (kinds : List ℕ) (xs : List Step) → has_lawful_numbers (body_steps d n kinds ++ xs) ≡ has_lawful_numbers xs
 numbers_core d n [] xs = numbers_exits n xs
 numbers_core d n (kind ∷ kinds) xs =
-    ap has_lawful_numbers (append_assoc (kind_steps d n kind) (core d (open_behind d n (form kind)) kinds) xs)
-    ∙ numbers_kind d n kind (form kind) (core d (open_behind d n (form kind)) kinds ++ xs)
-    ∙ numbers_core d (open_behind d n (form kind)) kinds xs
+    ap has_lawful_numbers (append_assoc (kind_steps d n kind) (body_steps d (groups_open_after d n (form kind)) kinds) xs)
+    ∙ numbers_kind d n kind (form kind) (body_steps d (groups_open_after d n (form kind)) kinds ++ xs)
+    ∙ numbers_core d (groups_open_after d n (form kind)) kinds xs
 
 numbers_fault : (b : Bool) (xs : List Step) → has_lawful_numbers ((if b then Error 10 ∷ [] else []) ++ xs) ≡ has_lawful_numbers xs
 numbers_fault true xs = refl
@@ -173,9 +173,9 @@ numbers_fault false xs = refl
 
 numbers_child : (d : Division) (kinds : List ℕ) (xs : List Step) → has_lawful_numbers (child_steps d kinds ++ xs) ≡ has_lawful_numbers xs
 numbers_child d kinds xs =
-    let inner = fault (node_of kinds) in
-    ap has_lawful_numbers (append_assoc (inner ++ core d 0 kinds) (Exit ∷ []) xs ∙ append_assoc inner (core d 0 kinds) (Exit ∷ xs))
-    ∙ numbers_fault (node_of kinds == ERROR) (core d 0 kinds ++ Exit ∷ xs)
+    let inner = unknown_statement_error (node_of kinds) in
+    ap has_lawful_numbers (append_assoc (inner ++ body_steps d 0 kinds) (Exit ∷ []) xs ∙ append_assoc inner (body_steps d 0 kinds) (Exit ∷ xs))
+    ∙ numbers_fault (node_of kinds == ERROR) (body_steps d 0 kinds ++ Exit ∷ xs)
     ∙ numbers_core d 0 kinds (Exit ∷ xs)
 
 numbers_children : (d : Division) (ps : List (List ℕ)) (xs : List Step) → has_lawful_numbers (children_steps d ps ++ xs) ≡ has_lawful_numbers xs
@@ -194,9 +194,9 @@ plain_lawful d kinds none = record {
 -- a child's steps are a tree of its kinds
 pub child_balanced : (d : Division) (kinds : List ℕ) → is_balanced (child_steps d kinds) ≡ true
 child_balanced d kinds =
-    let inner = fault (node_of kinds) in
-    ap (closes 1) (append_assoc inner (core d 0 kinds) (Exit ∷ []))
-    ∙ closes_fault (node_of kinds == ERROR) 0 (core d 0 kinds ++ Exit ∷ [])
+    let inner = unknown_statement_error (node_of kinds) in
+    ap (closes 1) (append_assoc inner (body_steps d 0 kinds) (Exit ∷ []))
+    ∙ closes_fault (node_of kinds == ERROR) 0 (body_steps d 0 kinds ++ Exit ∷ [])
     ∙ closes_core d 0 0 kinds (Exit ∷ [])
 
 pub child_tokens : (d : Division) (kinds : List ℕ) → token_kinds (child_steps d kinds) ≡ kinds

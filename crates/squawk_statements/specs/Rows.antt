@@ -2,7 +2,7 @@
 use Rattle.std.specs.Prelude.{◌≡◌, ℕ, ◌==◌, ◌&&◌, ◌||◌, Bool, false, List, [], ◌∷◌, drop, if◌then◌else◌}
 use Rattle.std.specs.List.{find, prefix_len}
 use Rattle.squawk_kinds.specs.declared.numbers.TheConstants.Number as kind
-use Rattle.squawk_events.specs.Kinds.{is_trivia_kind, kept}
+use Rattle.squawk_events.specs.Kinds.{is_trivia_kind, without_trivia}
 use Rattle.squawk_statements.specs.Opening as opening
 use Rattle.squawk_statements.specs.declared.rows.Row.{Row}
 
@@ -15,21 +15,21 @@ unfoldable pub Decide : ℕ → List opening.Row → Type 0
 Decide first rows = (more : List ℕ) → find (λ (row : opening.Row). opening.is_prefix row.0 (first ∷ more)) rows ≡ opening.longest opening.rows (first ∷ more)
 
 -- the kinds that are read: all, or those that are no trivia
-abbrev pub read : Bool → List ℕ → List ℕ
-read past_trivia ks = if past_trivia then kept ks else ks
+abbrev pub kinds_read : Bool → List ℕ → List ℕ
+kinds_read past_trivia ks = if past_trivia then without_trivia ks else ks
 
 -- what the key still takes of these kinds, where it has others so far
-abbrev pub key_behind : List ℕ → List ℕ → List ℕ
-key_behind [] ks = opening.key ks
-key_behind (k ∷ []) ks = if k == kind.CREATE_KW then drop (prefix_len opening.is_modifier ks) ks else ks
-key_behind (k ∷ l ∷ so_far) ks = ks
+abbrev pub key_after : List ℕ → List ℕ → List ℕ
+key_after [] ks = opening.key ks
+key_after (k ∷ []) ks = if k == kind.CREATE_KW then drop (prefix_len opening.is_modifier ks) ks else ks
+key_after (k ∷ l ∷ so_far) ks = ks
 
 -- whether a kind behind these is a modifier that is left out
-abbrev pub is_left_out : List ℕ → ℕ → Bool
-is_left_out [] k = false
-is_left_out (c ∷ []) k = c == kind.CREATE_KW && opening.is_modifier k
-is_left_out (c ∷ d ∷ so_far) k = false
+abbrev pub is_skipped_modifier : List ℕ → ℕ → Bool
+is_skipped_modifier [] k = false
+is_skipped_modifier (c ∷ []) k = c == kind.CREATE_KW && opening.is_modifier k
+is_skipped_modifier (c ∷ d ∷ so_far) k = false
 
 -- whether the key goes on behind a kind without it
-abbrev pub is_passed : Bool → List ℕ → ℕ → Bool
-is_passed past_trivia so_far k = past_trivia && is_trivia_kind k || is_left_out so_far k
+abbrev pub is_skipped : Bool → List ℕ → ℕ → Bool
+is_skipped past_trivia so_far k = past_trivia && is_trivia_kind k || is_skipped_modifier so_far k

@@ -1,7 +1,7 @@
 //! What ends a statement, and what opens and closes a group.
 ghost use Rattle.std.specs.Prelude.{◌≡◌, ◌<◌, ◌^◌};
 ghost use Rattle.squawk_lexer.specs.Cut.{is_trivia};
-ghost use Rattle.squawk_statements.specs.Children.{ends, groups_after, is_lone};
+ghost use Rattle.squawk_statements.specs.Children.{ends_statement, open_groups_after, is_single_token};
 ghost use Rattle.squawk_statements.specs.Kinds.{form};
 
 use squawk_kinds::SyntaxKind;
@@ -25,8 +25,8 @@ pub(crate) fn is_trivia(kind: SyntaxKind) -> bool
 
 /// Whether the kind is a child of the root by itself where no statement is open.
 #[tactic(auto, unfolding(crate::specs::Kinds::form))]
-pub(crate) fn is_lone(kind: SyntaxKind) -> bool
-    ensures { result ≡ is_lone (form kind) }
+pub(crate) fn is_single_token(kind: SyntaxKind) -> bool
+    ensures { result ≡ is_single_token (form kind) }
 {
     matches!(
         kind,
@@ -37,7 +37,7 @@ pub(crate) fn is_lone(kind: SyntaxKind) -> bool
 /// Whether the kind ends the statement in which so many groups are open.
 #[tactic(auto, unfolding(crate::specs::Kinds::form))]
 pub(crate) fn is_end(division: Division, groups: usize, kind: SyntaxKind) -> bool
-    ensures { result ≡ ends division groups (form kind) }
+    ensures { result ≡ ends_statement division groups (form kind) }
 {
     match kind {
         SyntaxKind::PSQL_TERMINATOR_TEXT => true,
@@ -53,7 +53,7 @@ pub(crate) fn is_end(division: Division, groups: usize, kind: SyntaxKind) -> boo
 #[tactic(auto, unfolding(crate::specs::Kinds::form))]
 pub(crate) fn next_groups(groups: usize, kind: SyntaxKind) -> usize
     requires { groups < 2 ^ 63 }
-    ensures { result ≡ groups_after groups (form kind) }
+    ensures { result ≡ open_groups_after groups (form kind) }
 {
     match kind {
         SyntaxKind::L_PAREN => groups + 1,

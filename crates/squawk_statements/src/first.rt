@@ -1,11 +1,11 @@
 //! The first child of the root.
 ghost use Rattle.std.specs.Prelude.{◌≡◌, ◌≤◌, ◌<◌, ◌+◌, ◌++◌, ℕ, List, IsTrue, length, map, take};
-ghost use Rattle.squawk_statements.specs.Children.{statement, closing, first_of};
+ghost use Rattle.squawk_statements.specs.Children.{statement, statement_end, first_child};
 ghost use Rattle.squawk_statements.specs.First.{first_shape, child_node};
 ghost use Rattle.squawk_statements.specs.Kinds.{form};
 ghost use Rattle.squawk_statements.specs.declared.division.Division.TheVariants.{Flat};
 
-use crate::division::{Division, is_end, is_lone, is_trivia, next_groups};
+use crate::division::{Division, is_end, is_single_token, is_trivia, next_groups};
 use crate::node::statement_node;
 use squawk_kinds::SyntaxKind;
 
@@ -31,8 +31,8 @@ pub(crate) struct Rest {
 /// These are the kinds up to the one that ends it, or else up to the last that is no trivia.
 fn rest_of(division: Division, groups: usize, kinds: &[SyntaxKind]) -> Rest
     requires { groups ≤ 1 }
-    ensures more { result.more ≡ (statement (closing division groups (map form kinds.now)) (map form kinds.now)).more }
-    ensures closed { result.closed ≡ (statement (closing division groups (map form kinds.now)) (map form kinds.now)).closed }
+    ensures more { result.more ≡ (statement (statement_end division groups (map form kinds.now)) (map form kinds.now)).more }
+    ensures closed { result.closed ≡ (statement (statement_end division groups (map form kinds.now)) (map form kinds.now)).closed }
     ensures within { result.more ≤ length kinds.now }
 {
     let mut opened = groups;
@@ -59,12 +59,12 @@ fn rest_of(division: Division, groups: usize, kinds: &[SyntaxKind]) -> Rest
 /// What belongs to the first child behind its first kind.
 pub(crate) fn first_rest(division: Division, kinds: &[SyntaxKind]) -> Rest
     requires { 0 < length kinds.now }
-    ensures more { result.more ≡ (first_of division (map form kinds.now)).more }
-    ensures closed { result.closed ≡ (first_of division (map form kinds.now)).closed }
+    ensures more { result.more ≡ (first_child division (map form kinds.now)).more }
+    ensures closed { result.closed ≡ (first_child division (map form kinds.now)).closed }
     ensures within { result.more < length kinds.now }
 {
     let kind = kinds[0];
-    if is_trivia(kind) || is_lone(kind) {
+    if is_trivia(kind) || is_single_token(kind) {
         return Rest {
             more: 0,
             closed: true,

@@ -3,7 +3,7 @@ ghost use Rattle.std.specs.Prelude.{◌↔◌, false, IsNone, ◌≡◌, ◌≤�
 ghost use Rattle.squawk_events.specs.Kinds.{is_trivia_kind};
 ghost use Rattle.squawk_statements.specs.Opening.{is_modifier, is_prefix, key, longest, opening_of, statement_node, rows};
 ghost use Rattle.std.specs.List.{list_any};
-ghost use Rattle.squawk_statements.specs.Rows.{row_of, read, is_left_out, is_passed};
+ghost use Rattle.squawk_statements.specs.Rows.{row_of, kinds_read, is_skipped_modifier, is_skipped};
 
 use crate::rows::{Row, rows_from};
 use squawk_kinds::SyntaxKind;
@@ -73,7 +73,7 @@ fn look_up(start: &[u16]) -> Option<SyntaxKind>
 /// The first kinds of the key of these kinds, or of those of them that are no trivia.
 fn start_of(kinds: &[SyntaxKind], past_trivia: bool) -> Start
     ensures within { result.len ≤ 4 }
-    ensures key { take result.len result.kinds ≡ take 4 (key (read past_trivia kinds.now)) }
+    ensures key { take result.len result.kinds ≡ take 4 (key (kinds_read past_trivia kinds.now)) }
 {
     let mut start = Start {
         kinds: [0; 4],
@@ -83,7 +83,7 @@ fn start_of(kinds: &[SyntaxKind], past_trivia: bool) -> Start
         if start.len == 4 {
             return start;
         }
-        if !is_passed(&start.kinds[..start.len], past_trivia, *kind) {
+        if !is_skipped(&start.kinds[..start.len], past_trivia, *kind) {
             start.kinds[start.len] = kind.to_raw();
             start.len += 1;
         }
@@ -92,22 +92,22 @@ fn start_of(kinds: &[SyntaxKind], past_trivia: bool) -> Start
 }
 
 /// Whether the kind is a modifier that is left out behind these kinds of the key.
-fn is_left_out(so_far: &[u16], kind: SyntaxKind) -> bool
-    ensures { result ≡ is_left_out so_far.now kind }
+fn is_skipped_modifier(so_far: &[u16], kind: SyntaxKind) -> bool
+    ensures { result ≡ is_skipped_modifier so_far.now kind }
 {
     so_far.len() == 1 && so_far[0] == Number::CREATE_KW && is_modifier(kind)
 }
 
 /// Whether the key goes on behind this kind without it.
-fn is_passed(so_far: &[u16], past_trivia: bool, kind: SyntaxKind) -> bool
-    ensures { result ≡ is_passed past_trivia so_far.now kind }
+fn is_skipped(so_far: &[u16], past_trivia: bool, kind: SyntaxKind) -> bool
+    ensures { result ≡ is_skipped past_trivia so_far.now kind }
 {
-    past_trivia && is_trivia(kind) || is_left_out(so_far, kind)
+    past_trivia && is_trivia(kind) || is_skipped_modifier(so_far, kind)
 }
 
 /// The node of a statement of these kinds, or of those of them that are no trivia.
 fn opening_in(kinds: &[SyntaxKind], past_trivia: bool) -> Option<SyntaxKind>
-    ensures { result ≡ opening_of (read past_trivia kinds.now) }
+    ensures { result ≡ opening_of (kinds_read past_trivia kinds.now) }
 {
     let start = start_of(kinds, past_trivia);
     look_up(&start.kinds[..start.len])
@@ -126,7 +126,7 @@ pub fn opening(kinds: &[SyntaxKind]) -> Option<SyntaxKind>
 
 /// The node of a statement of these kinds, or of those of them that are no trivia.
 pub(crate) fn statement_node(kinds: &[SyntaxKind], past_trivia: bool) -> SyntaxKind
-    ensures { result ≡ statement_node (read past_trivia kinds.now) }
+    ensures { result ≡ statement_node (kinds_read past_trivia kinds.now) }
 {
     match opening_in(kinds, past_trivia) {
         Some(node) => node,

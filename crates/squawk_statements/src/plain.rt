@@ -3,7 +3,7 @@ ghost use Rattle.std.specs.Prelude.{◌≡◌, ◌≤◌, ◌<◌, ◌+◌, ◌^
 ghost use Rattle.squawk_events.specs.Depth.{depth_of};
 ghost use Rattle.squawk_statements.specs.Kinds.{form};
 ghost use Rattle.squawk_events.specs.declared.error.FrontError.TheVariants.{OutOfMemory};
-ghost use Rattle.squawk_statements.specs.Plain.{node_of, exits, kind_steps, open_behind, core, fault, child_steps, plain};
+ghost use Rattle.squawk_statements.specs.Plain.{node_of, exits, kind_steps, groups_open_after, body_steps, unknown_statement_error, child_steps, plain};
 ghost use Rattle.squawk_statements.specs.declared.division.Division.TheVariants.{Flat};
 
 use crate::division::{Division, is_end};
@@ -38,7 +38,7 @@ fn put_kind(
     requires open_groups { groups ≤ depth_of output.old }
     requires small { groups < 2 ^ 63 }
     ensures ok { OnOk result (output.new ≡ output.old ++ kind_steps division groups kind) }
-    ensures groups { IfOk result (λ n. n ≡ open_behind division groups (form kind)) }
+    ensures groups { IfOk result (λ n. n ≡ groups_open_after division groups (form kind)) }
     ensures depth { IfOk result (λ n. depth_of output.new + groups ≡ depth_of output.old + n) }
     ensures more { IfOk result (λ n. n ≤ groups + 1) }
     ensures refusal { IsOkUnless result OutOfMemory }
@@ -68,7 +68,7 @@ fn put_kind(
 
 /// Gives the steps of what a child holds.
 fn put_core(output: &mut Output, division: Division, kinds: &[SyntaxKind]) -> Result<(), FrontError>
-    ensures ok { OnOk result (output.new ≡ output.old ++ core division 0 kinds.now) }
+    ensures ok { OnOk result (output.new ≡ output.old ++ body_steps division 0 kinds.now) }
     ensures depth { OnOk result (depth_of output.new ≡ depth_of output.old) }
     ensures refusal { IsOkUnless result OutOfMemory }
 {
@@ -81,7 +81,7 @@ fn put_core(output: &mut Output, division: Division, kinds: &[SyntaxKind]) -> Re
 
 /// Notes an unknown statement.
 fn put_fault(output: &mut Output, node: SyntaxKind) -> Result<(), FrontError>
-    ensures ok { OnOk result (output.new ≡ output.old ++ fault node) }
+    ensures ok { OnOk result (output.new ≡ output.old ++ unknown_statement_error node) }
     ensures depth { OnOk result (depth_of output.new ≡ depth_of output.old) }
     ensures refusal { IsOkUnless result OutOfMemory }
 {

@@ -12,7 +12,7 @@ use Rattle.squawk_lexer.specs.declared.token.TokenKind.{TokenKind}
 use Rattle.squawk_lexer.specs.declared.token.TokenKind.TheVariants as token
 use Rattle.squawk_lexer.specs.declared.token.LiteralKind.{LiteralKind}
 use Rattle.squawk_lexer.specs.declared.token.LiteralKind.TheVariants.{Int, Numeric, Str, NationalStr, ByteStr, BitStr, DollarQuotedString, UnicodeEscStr, EscStr}
-use Rattle.squawk_tree.specs.Children.{Child, ends, groups_after, closing, solid_len, statement, first, children_from, children, parts_from, more_of, root_child, forms_of}
+use Rattle.squawk_tree.specs.Children.{Child, ends_statement, open_groups_after, statement_end, trimmed_len, statement, child_from, children_from, children, parts_from, more_of, root_child, forms_of}
 use Rattle.squawk_tree.specs.Leaf.{form, leaf_form, leaf_kind, literal_kind}
 use Rattle.squawk_tree.specs.Leaves.{leaves_of}
 use Rattle.squawk_tree.specs.ParseOf.{leaves_len, token_steps, enclosed, node_by, statement_node, child_steps, children_steps, tree_steps, parse_of}
@@ -34,11 +34,11 @@ one_node k at ls rest =
     ap (root_children_from 1 0) (append_assoc (token_steps at ls) (Exit ∷ []) rest) ∙ in_node 0 0 at ls (Exit ∷ rest)
     ∙ ap (λ m. Node m ∷ root_children_from 0 0 rest) (let h : 0 + length ls ≡ length ls = omega arith in h)
 
-solid_len-le : (fs : List Form) → solid_len fs ≤ length fs
+solid_len-le : (fs : List Form) → trimmed_len fs ≤ length fs
 solid_len-le [] = omega arith
-solid_len-le (f ∷ fs) = by (is_trivia f && solid_len fs == 0) (solid_len-le fs)
+solid_len-le (f ∷ fs) = by (is_trivia f && trimmed_len fs == 0) (solid_len-le fs)
   where
-    by : (b : Bool) → solid_len fs ≤ length fs → cond b 0 (suc (solid_len fs)) ≤ suc (length fs)
+    by : (b : Bool) → trimmed_len fs ≤ length fs → cond b 0 (suc (trimmed_len fs)) ≤ suc (length fs)
     by true h = omega arith
     by false h = omega arith
 
@@ -46,10 +46,10 @@ Within : Option ℕ → ℕ → Type 0
 Within None n = Unit {0}
 Within (Some m) n = m ≤ n
 
-closing-le : (d : Division) (g : ℕ) (fs : List Form) → Within (closing d g fs) (length fs)
+closing-le : (d : Division) (g : ℕ) (fs : List Form) → Within (statement_end d g fs) (length fs)
 unfolding Within
 closing-le d g [] = tt
-closing-le d g (f ∷ fs) = by (ends d g f) (closing d (groups_after g f) fs) (closing-le d (groups_after g f) fs)
+closing-le d g (f ∷ fs) = by (ends_statement d g f) (statement_end d (open_groups_after g f) fs) (closing-le d (open_groups_after g f) fs)
   where
     by : (b : Bool) (found : Option ℕ) → Within found (length fs) → Within (cond b (Some 1) (option_map suc found)) (suc (length fs))
     by true found h = omega arith
@@ -61,21 +61,21 @@ unfolding Within
 statement-le None fs h = solid_len-le fs
 statement-le (Some m) fs h = h
 
-first-le : (d : Division) (f : Form) (fs : List Form) → (first d f fs).more ≤ length fs
+first-le : (d : Division) (f : Form) (fs : List Form) → (child_from d f fs).more ≤ length fs
 first-le d Trivia fs = omega arith
 first-le d Semicolon fs = omega arith
 first-le d Terminator fs = omega arith
 first-le d Command fs = omega arith
-first-le d Open fs = statement-le (closing d 1 fs) fs (closing-le d 1 fs)
-first-le d Close fs = statement-le (closing d 0 fs) fs (closing-le d 0 fs)
-first-le d Other fs = statement-le (closing d 0 fs) fs (closing-le d 0 fs)
+first-le d Open fs = statement-le (statement_end d 1 fs) fs (closing-le d 1 fs)
+first-le d Close fs = statement-le (statement_end d 0 fs) fs (closing-le d 0 fs)
+first-le d Other fs = statement-le (statement_end d 0 fs) fs (closing-le d 0 fs)
 
 -- as many leaves as the first child has behind its first
-more-length : (d : Division) (f : Form) (l : leaf.Leaf) (ls : List leaf.Leaf) → length (l ∷ take (first d f (map leaf_form ls)).more ls) ≡ (first d f (map leaf_form ls)).more + 1
+more-length : (d : Division) (f : Form) (l : leaf.Leaf) (ls : List leaf.Leaf) → length (l ∷ take (child_from d f (map leaf_form ls)).more ls) ≡ (child_from d f (map leaf_form ls)).more + 1
 more-length d f l ls =
     let within = first-le d f (map leaf_form ls) in
     let size : length (map leaf_form ls) ≡ length ls = length-map ls leaf_form in
-    let taken = length-take-le (first d f (map leaf_form ls)).more ls (omega arith) in
+    let taken = length-take-le (child_from d f (map leaf_form ls)).more ls (omega arith) in
     omega arith
 
 statement-node : (found : Option ℕ) (fs : List Form) → (statement found fs).is_node ≡ true
@@ -86,20 +86,20 @@ as_node : (c : Child) (n : ℕ) → c.is_node ≡ true → n ≡ c.more + 1 → 
 as_node c n node is = rw (is, node) refl
 
 -- the first child, by the form of its first leaf
-first_child : (d : Division) (at : ℕ) (l : leaf.Leaf) (ls : List leaf.Leaf) (f : Form) (rest : List StrStep) → root_children_from 0 0 (enclosed (node_by f l.kind) (token_steps at (l ∷ take (first d f (map leaf_form ls)).more ls)) ++ rest) ≡ root_child (first d f (map leaf_form ls)) ∷ root_children_from 0 0 rest
+first_child : (d : Division) (at : ℕ) (l : leaf.Leaf) (ls : List leaf.Leaf) (f : Form) (rest : List StrStep) → root_children_from 0 0 (enclosed (node_by f l.kind) (token_steps at (l ∷ take (child_from d f (map leaf_form ls)).more ls)) ++ rest) ≡ root_child (child_from d f (map leaf_form ls)) ∷ root_children_from 0 0 rest
 first_child d at l ls Trivia rest = refl
 first_child d at l ls Semicolon rest = refl
 first_child d at l ls Terminator rest = refl
 first_child d at l ls Command rest = refl
 first_child d at l ls Open rest =
-    one_node (statement_node l.kind) at (l ∷ take (first d Open (map leaf_form ls)).more ls) rest
-    ∙ ap (λ c. c ∷ root_children_from 0 0 rest) (as_node (first d Open (map leaf_form ls)) _ (statement-node (closing d 1 (map leaf_form ls)) (map leaf_form ls)) (more-length d Open l ls))
+    one_node (statement_node l.kind) at (l ∷ take (child_from d Open (map leaf_form ls)).more ls) rest
+    ∙ ap (λ c. c ∷ root_children_from 0 0 rest) (as_node (child_from d Open (map leaf_form ls)) _ (statement-node (statement_end d 1 (map leaf_form ls)) (map leaf_form ls)) (more-length d Open l ls))
 first_child d at l ls Close rest =
-    one_node (statement_node l.kind) at (l ∷ take (first d Close (map leaf_form ls)).more ls) rest
-    ∙ ap (λ c. c ∷ root_children_from 0 0 rest) (as_node (first d Close (map leaf_form ls)) _ (statement-node (closing d 0 (map leaf_form ls)) (map leaf_form ls)) (more-length d Close l ls))
+    one_node (statement_node l.kind) at (l ∷ take (child_from d Close (map leaf_form ls)).more ls) rest
+    ∙ ap (λ c. c ∷ root_children_from 0 0 rest) (as_node (child_from d Close (map leaf_form ls)) _ (statement-node (statement_end d 0 (map leaf_form ls)) (map leaf_form ls)) (more-length d Close l ls))
 first_child d at l ls Other rest =
-    one_node (statement_node l.kind) at (l ∷ take (first d Other (map leaf_form ls)).more ls) rest
-    ∙ ap (λ c. c ∷ root_children_from 0 0 rest) (as_node (first d Other (map leaf_form ls)) _ (statement-node (closing d 0 (map leaf_form ls)) (map leaf_form ls)) (more-length d Other l ls))
+    one_node (statement_node l.kind) at (l ∷ take (child_from d Other (map leaf_form ls)).more ls) rest
+    ∙ ap (λ c. c ∷ root_children_from 0 0 rest) (as_node (child_from d Other (map leaf_form ls)) _ (statement-node (statement_end d 0 (map leaf_form ls)) (map leaf_form ls)) (more-length d Other l ls))
 
 children-steps : (d : Division) (inside at : ℕ) (ls : List leaf.Leaf) → root_children_from 0 0 (children_steps at (parts_from leaf_form inside d ls) ++ Exit ∷ []) ≡ map root_child (children_from inside d (map leaf_form ls))
 children-steps d zero at [] = refl
@@ -109,7 +109,7 @@ children-steps d zero at (l ∷ ls) =
     let next = at + leaves_len (l ∷ take more ls) in
     ap (root_children_from 0 0) (append_assoc (child_steps at (l ∷ take more ls)) (children_steps next (parts_from leaf_form more d ls)) (Exit ∷ []))
     ∙ first_child d at l ls (form l.kind) (children_steps next (parts_from leaf_form more d ls) ++ Exit ∷ [])
-    ∙ ap (λ cs. root_child (first d (form l.kind) (map leaf_form ls)) ∷ cs) (children-steps d more next ls)
+    ∙ ap (λ cs. root_child (child_from d (form l.kind) (map leaf_form ls)) ∷ cs) (children-steps d more next ls)
 children-steps d (suc inside) at (l ∷ ls) = children-steps d inside at ls
 
 -- the root's children are those of the leaves' forms

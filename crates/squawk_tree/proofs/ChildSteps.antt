@@ -2,7 +2,7 @@
 use Rattle.std.proofs.Common.{◌≡◌, ℕ, zero, suc, ◌+◌, ◌-◌, ◌<◌, List, [], ◌∷◌, ◌++◌, length, take, drop, map, ap, refl, sym, ◌∙◌, append_assoc, arith}
 use Rattle.std.proofs.lemmas.List.{length-drop, take_rest, drop-drop}
 use Rattle.squawk_events.specs.declared.steps.StrStep.{StrStep}
-use Rattle.squawk_tree.specs.Children.{parts, first_of}
+use Rattle.squawk_tree.specs.Children.{parts, first_child}
 use Rattle.squawk_tree.specs.Leaf.{leaf_form}
 use Rattle.squawk_tree.specs.ParseOf.{leaves_len, child_steps, children_steps}
 use Rattle.squawk_tree.specs.declared.division.Division.{Division}
@@ -25,19 +25,19 @@ leaves_len-split leaves done n =
 
 -- the children that are left are the next one and those behind it
 pub children_more : (d : Division) (leaves rest : List Leaf) (done n at : ℕ) → done < length leaves → rest ≡ take (length leaves - done) (drop done leaves)
-    → n ≡ (first_of d (map leaf_form rest)).more + 1
+    → n ≡ (first_child d (map leaf_form rest)).more + 1
     → children_steps at (parts leaf_form d (drop done leaves)) ≡ child_steps at (take n (drop done leaves)) ++ children_steps (at + leaves_len (take n (drop done leaves))) (parts leaf_form d (drop (done + n) leaves))
 children_more d leaves rest done n at some rest_is n_is =
     let whole : rest ≡ drop done leaves = rest_is ∙ take_rest leaves done in
     let size : length (drop done leaves) ≡ length leaves - done = length-drop done leaves in
-    let count : n ≡ (first_of d (map leaf_form (drop done leaves))).more + 1 = rw whole at n_is in
+    let count : n ≡ (first_child d (map leaf_form (drop done leaves))).more + 1 = rw whole at n_is in
     let step = parts_step leaf_form d (drop done leaves) n (omega arith) count in
     ap (children_steps at) step
     ∙ ap (λ ls. child_steps at (take n (drop done leaves)) ++ children_steps (at + leaves_len (take n (drop done leaves))) (parts leaf_form d ls)) (drop-drop n done leaves)
 
 -- the steps so far with those of one more child, and those of what is left then
 pub steps_more : (before after all : List StrStep) (d : Division) (leaves rest part : List Leaf) (done n at end : ℕ) → done < length leaves
-    → rest ≡ take (length leaves - done) (drop done leaves) → n ≡ (first_of d (map leaf_form rest)).more + 1 → part ≡ take (done + n - done) (drop done leaves)
+    → rest ≡ take (length leaves - done) (drop done leaves) → n ≡ (first_child d (map leaf_form rest)).more + 1 → part ≡ take (done + n - done) (drop done leaves)
     → before ++ children_steps at (parts leaf_form d (drop done leaves)) ≡ all → after ≡ before ++ child_steps at part → end ≡ at + leaves_len part
     → after ++ children_steps end (parts leaf_form d (drop (done + n) leaves)) ≡ all
 steps_more before after all d leaves rest part done n at end some rest_is n_is part_eq so_far after_is end_is =

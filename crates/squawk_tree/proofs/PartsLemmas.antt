@@ -3,7 +3,7 @@ use Rattle.std.proofs.Common.{◌≡◌, ℕ, zero, suc, ◌+◌, ◌<◌, List,
 use Rattle.std.proofs.lemmas.List.{take-append-drop}
 use Rattle.std.specs.List.{flat_map}
 use Rattle.squawk_lexer.specs.Cut.{Form}
-use Rattle.squawk_tree.specs.Children.{parts_from, parts, more_of, first_of}
+use Rattle.squawk_tree.specs.Children.{parts_from, parts, more_of, first_child}
 use Rattle.squawk_tree.specs.declared.division.Division.{Division}
 
 -- what is inside a child is passed over
@@ -16,7 +16,7 @@ parts_more : {A : Type 0} (form_of : A → Form) (d : Division) (x : A) (xs : Li
 parts_more form_of d x xs = ap (λ rest. (x ∷ take (more_of form_of d x xs) xs) ∷ rest) (parts_from_skip form_of (more_of form_of d x xs) d xs)
 
 -- the first child has as many as its shape says
-pub parts_step : {A : Type 0} (form_of : A → Form) (d : Division) (xs : List A) (n : ℕ) → 0 < length xs → n ≡ (first_of d (map form_of xs)).more + 1 → parts form_of d xs ≡ take n xs ∷ parts form_of d (drop n xs)
+pub parts_step : {A : Type 0} (form_of : A → Form) (d : Division) (xs : List A) (n : ℕ) → 0 < length xs → n ≡ (first_child d (map form_of xs)).more + 1 → parts form_of d xs ≡ take n xs ∷ parts form_of d (drop n xs)
 parts_step form_of d [] n some is = absurd (omega arith)
 parts_step form_of d (x ∷ xs) n some is = rw (is, add-one) (parts_more form_of d x xs)
 

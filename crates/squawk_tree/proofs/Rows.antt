@@ -3,7 +3,7 @@ use Rattle.std.proofs.Common.{◌≡◌, ℕ, true, false, List, [], ◌∷◌, 
 use Rattle.squawk_events.specs.declared.steps.StrStep.{StrStep}
 use Rattle.squawk_events.specs.declared.steps.StrStep.TheVariants.{Enter, Token, Exit}
 use Rattle.squawk_lexer.specs.Cut.{Form, Trivia, Semicolon, Terminator, Command, Open, Close, Other}
-use Rattle.squawk_tree.specs.Children.{Child, children, leaf, lone, root_child}
+use Rattle.squawk_tree.specs.Children.{Child, children, trivia_child, single_token, root_child}
 use Rattle.squawk_tree.specs.Ranges.{ranges}
 use Rattle.squawk_tree.specs.Steps.{RootChild, Leaf, Node, root_children, is_balanced}
 use Rattle.squawk_tree.specs.declared.division.Division.TheVariants.{Flat, Grouped}
@@ -16,11 +16,11 @@ unclosed : ℕ → Child
 unclosed n = record { more = n; is_node = true; closed = false }
 
 -- ` ;` and a command, each by itself
-lone_row : children Flat (Trivia ∷ Semicolon ∷ Trivia ∷ Command ∷ Terminator ∷ []) ≡ leaf ∷ lone ∷ leaf ∷ lone ∷ lone ∷ []
+lone_row : children Flat (Trivia ∷ Semicolon ∷ Trivia ∷ Command ∷ Terminator ∷ []) ≡ trivia_child ∷ single_token ∷ trivia_child ∷ single_token ∷ single_token ∷ []
 lone_row = refl
 
 -- `a \echo x \g` is one statement, and what follows is another, which takes no trivia at its end
-ends_row : children Flat (Other ∷ Trivia ∷ Command ∷ Terminator ∷ Trivia ∷ Close ∷ Trivia ∷ Other ∷ Trivia ∷ Trivia ∷ []) ≡ closed_by 3 ∷ leaf ∷ unclosed 2 ∷ leaf ∷ leaf ∷ []
+ends_row : children Flat (Other ∷ Trivia ∷ Command ∷ Terminator ∷ Trivia ∷ Close ∷ Trivia ∷ Other ∷ Trivia ∷ Trivia ∷ []) ≡ closed_by 3 ∷ trivia_child ∷ unclosed 2 ∷ trivia_child ∷ trivia_child ∷ []
 unfolding closed_by unclosed
 ends_row = refl
 

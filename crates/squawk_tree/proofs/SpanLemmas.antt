@@ -4,7 +4,7 @@ use Rattle.std.proofs.lemmas.List.{set-append_left, set_at, length-set, length_p
 use Rattle.std.proofs.lemmas.Bool.Decides.{nat_tests}
 use Rattle.squawk_tree.specs.Spans.{AreBelow, spans_after, open_after, place_after}
 use Rattle.squawk_tree.specs.Steps.{closes, is_balanced}
-use Rattle.squawk_tree.specs.Ranges.{ranges, ranges_from, end_of}
+use Rattle.squawk_tree.specs.Ranges.{ranges, ranges_from, node_end}
 use Rattle.squawk_events.specs.declared.steps.StrStep.{StrStep}
 use Rattle.squawk_events.specs.declared.steps.StrStep.TheVariants.{Enter, Token, Exit, Error}
 
@@ -42,18 +42,18 @@ push_one : (spans : List (ℕ × ℕ)) (ps : List (ℕ × ℕ)) (end_at : ℕ �
 push_one spans ps end_at y rest h = ap (λ zs. zs ++ rest) (closing-push spans ps end_at (y ∷ []) h) ∙ append_assoc (closing spans ps end_at) (y ∷ []) rest
 
 abbrev pub whole : List (ℕ × ℕ) → List (ℕ × ℕ) → ℕ → List StrStep → List (ℕ × ℕ)
-whole spans ps at xs = closing spans ps (λ d. end_of d at xs) ++ ranges_from (starts ps) at xs
+whole spans ps at xs = closing spans ps (λ d. node_end d at xs) ++ ranges_from (starts ps) at xs
 
 pub whole-step : (spans : List (ℕ × ℕ)) (ps : List (ℕ × ℕ)) (at : ℕ) (x : StrStep) (xs : List StrStep) → AreBelow (length spans) ps → whole (spans_after spans ps at x) (open_after (length spans) ps at x) (place_after at x) xs ≡ whole spans ps at (x ∷ xs)
 whole-step spans ps at (Enter kind) xs h =
-    ap (λ zs. closing zs ps (λ d. end_of (suc d) at xs) ++ ranges_from (at ∷ starts ps) at xs) (set_at spans (at, at) [] (at, end_of 0 at xs) (length spans) refl)
-    ∙ push_one spans ps (λ d. end_of (suc d) at xs) (at, end_of 0 at xs) (ranges_from (at ∷ starts ps) at xs) h
-whole-step spans ps at (Token kind start end) xs h = push_one spans ps (λ d. end_of d end xs) (start, end) (ranges_from (starts ps) end xs) h
-whole-step spans ps at (Error number place) xs h = push_one spans ps (λ d. end_of d at xs) (at, at) (ranges_from (starts ps) at xs) h
+    ap (λ zs. closing zs ps (λ d. node_end (suc d) at xs) ++ ranges_from (at ∷ starts ps) at xs) (set_at spans (at, at) [] (at, node_end 0 at xs) (length spans) refl)
+    ∙ push_one spans ps (λ d. node_end (suc d) at xs) (at, node_end 0 at xs) (ranges_from (at ∷ starts ps) at xs) h
+whole-step spans ps at (Token kind start end) xs h = push_one spans ps (λ d. node_end d end xs) (start, end) (ranges_from (starts ps) end xs) h
+whole-step spans ps at (Error number place) xs h = push_one spans ps (λ d. node_end d at xs) (at, at) (ranges_from (starts ps) at xs) h
 whole-step spans [] at Exit xs h = append_assoc spans ((0, at) ∷ []) (ranges_from [] at xs)
 whole-step spans (p ∷ ps) at Exit xs h =
     let below = subst (λ (n : ℕ). AreBelow n ps) (sym (length-set spans p.0 (p.1, at))) h.1 in
-    push_one (slice_set spans p.0 (p.1, at)) ps (λ d. end_of d at xs) (p.1, at) (ranges_from (starts ps) at xs) below
+    push_one (slice_set spans p.0 (p.1, at)) ps (λ d. node_end d at xs) (p.1, at) (ranges_from (starts ps) at xs) below
 
 pub below-step : (spans : List (ℕ × ℕ)) (ps : List (ℕ × ℕ)) (at : ℕ) (x : StrStep) → AreBelow (length spans) ps → AreBelow (length (spans_after spans ps at x)) (open_after (length spans) ps at x)
 below-step spans ps at (Enter kind) h = let e = length_push spans (at, at) in (omega arith, AreBelow-le (length spans) (length (spans ++ (at, at) ∷ [])) ps (omega arith) h)

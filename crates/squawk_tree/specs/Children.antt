@@ -19,35 +19,35 @@ ends_at_semicolon Grouped zero = true
 ends_at_semicolon Grouped (suc n) = false
 
 -- whether a form ends the statement in which n groups are open
-abbrev pub ends : Division → ℕ → Form → Bool
-ends d n Trivia = false
-ends d n Semicolon = ends_at_semicolon d n
-ends d n Terminator = true
-ends d n Command = false
-ends d n Open = false
-ends d n Close = false
-ends d n Other = false
+abbrev pub ends_statement : Division → ℕ → Form → Bool
+ends_statement d n Trivia = false
+ends_statement d n Semicolon = ends_at_semicolon d n
+ends_statement d n Terminator = true
+ends_statement d n Command = false
+ends_statement d n Open = false
+ends_statement d n Close = false
+ends_statement d n Other = false
 
 -- how many groups are open behind a form that does not end the statement
-abbrev pub groups_after : ℕ → Form → ℕ
-groups_after n Trivia = n
-groups_after n Semicolon = n
-groups_after n Terminator = n
-groups_after n Command = n
-groups_after n Open = suc n
-groups_after zero Close = zero
-groups_after (suc n) Close = n
-groups_after n Other = n
+abbrev pub open_groups_after : ℕ → Form → ℕ
+open_groups_after n Trivia = n
+open_groups_after n Semicolon = n
+open_groups_after n Terminator = n
+open_groups_after n Command = n
+open_groups_after n Open = suc n
+open_groups_after zero Close = zero
+open_groups_after (suc n) Close = n
+open_groups_after n Other = n
 
 -- how many forms there are up to and with the first that ends the statement in which n groups are open
-abbrev pub closing : Division → ℕ → List Form → Option ℕ
-closing d n [] = None
-closing d n (f ∷ fs) = if ends d n f then Some 1 else option_map suc (closing d (groups_after n f) fs)
+abbrev pub statement_end : Division → ℕ → List Form → Option ℕ
+statement_end d n [] = None
+statement_end d n (f ∷ fs) = if ends_statement d n f then Some 1 else option_map suc (statement_end d (open_groups_after n f) fs)
 
 -- how many forms there are up to and with the last that is not trivia
-abbrev pub solid_len : List Form → ℕ
-solid_len [] = 0
-solid_len (f ∷ fs) = if is_trivia f && solid_len fs == 0 then 0 else suc (solid_len fs)
+abbrev pub trimmed_len : List Form → ℕ
+trimmed_len [] = 0
+trimmed_len (f ∷ fs) = if is_trivia f && trimmed_len fs == 0 then 0 else suc (trimmed_len fs)
 
 -- a child of the root: how many tokens it has behind its first, whether it is a node, and whether it is closed
 pub record Child : Type 0 where
@@ -55,31 +55,31 @@ pub record Child : Type 0 where
   pub is_node : Bool
   pub closed : Bool
 
-abbrev pub leaf : Child
-leaf = record { more = 0; is_node = false; closed = true }
+abbrev pub trivia_child : Child
+trivia_child = record { more = 0; is_node = false; closed = true }
 
-abbrev pub lone : Child
-lone = record { more = 0; is_node = true; closed = true }
+abbrev pub single_token : Child
+single_token = record { more = 0; is_node = true; closed = true }
 
 -- a statement by where it closes among the forms behind its first
 abbrev pub statement : Option ℕ → List Form → Child
 statement (Some n) fs = record { more = n; is_node = true; closed = true }
-statement None fs = record { more = solid_len fs; is_node = true; closed = false }
+statement None fs = record { more = trimmed_len fs; is_node = true; closed = false }
 
 -- the first child of a list with this first form and these behind it
-abbrev pub first : Division → Form → List Form → Child
-first d Trivia fs = leaf
-first d Semicolon fs = lone
-first d Terminator fs = lone
-first d Command fs = lone
-first d Open fs = statement (closing d 1 fs) fs
-first d Close fs = statement (closing d 0 fs) fs
-first d Other fs = statement (closing d 0 fs) fs
+abbrev pub child_from : Division → Form → List Form → Child
+child_from d Trivia fs = trivia_child
+child_from d Semicolon fs = single_token
+child_from d Terminator fs = single_token
+child_from d Command fs = single_token
+child_from d Open fs = statement (statement_end d 1 fs) fs
+child_from d Close fs = statement (statement_end d 0 fs) fs
+child_from d Other fs = statement (statement_end d 0 fs) fs
 
 -- A child begins at each form that is not inside one. The first `inside` forms are.
 abbrev pub children_from : ℕ → Division → List Form → List Child
 children_from inside d [] = []
-children_from zero d (f ∷ fs) = first d f fs ∷ children_from (first d f fs).more d fs
+children_from zero d (f ∷ fs) = child_from d f fs ∷ children_from (child_from d f fs).more d fs
 children_from (suc inside) d (f ∷ fs) = children_from inside d fs
 
 -- the root's children
@@ -88,7 +88,7 @@ children d fs = children_from 0 d fs
 
 -- how many behind the first belong to the first child
 abbrev pub more_of : {A : Type 0} → (A → Form) → Division → A → List A → ℕ
-more_of form_of d x xs = (first d (form_of x) (map form_of xs)).more
+more_of form_of d x xs = (child_from d (form_of x) (map form_of xs)).more
 
 -- the part of a list that each child has
 abbrev pub parts_from : {A : Type 0} → (A → Form) → ℕ → Division → List A → List (List A)
@@ -99,19 +99,19 @@ parts_from form_of (suc inside) d (x ∷ xs) = parts_from form_of inside d xs
 abbrev pub parts : {A : Type 0} → (A → Form) → Division → List A → List (List A)
 parts form_of d xs = parts_from form_of 0 d xs
 
-abbrev pub first_of : Division → List Form → Child
-first_of d [] = leaf
-first_of d (f ∷ fs) = first d f fs
+abbrev pub first_child : Division → List Form → Child
+first_child d [] = trivia_child
+first_child d (f ∷ fs) = child_from d f fs
 
 -- a semicolon, terminator or command
-abbrev pub is_lone : Form → Bool
-is_lone Trivia = false
-is_lone Semicolon = true
-is_lone Terminator = true
-is_lone Command = true
-is_lone Open = false
-is_lone Close = false
-is_lone Other = false
+abbrev pub is_single_token : Form → Bool
+is_single_token Trivia = false
+is_single_token Semicolon = true
+is_single_token Terminator = true
+is_single_token Command = true
+is_single_token Open = false
+is_single_token Close = false
+is_single_token Other = false
 
 -- a child as it stands under the root
 abbrev pub root_child : Child → RootChild

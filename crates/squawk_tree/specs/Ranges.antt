@@ -5,13 +5,13 @@ use Rattle.squawk_events.specs.declared.steps.StrStep.{StrStep}
 use Rattle.squawk_events.specs.declared.steps.StrStep.TheVariants.{Enter, Token, Exit, Error}
 
 -- the end of the last token before the Exit of the node in which d inner nodes are open, from a place on
-abbrev pub end_of : (d at : ℕ) → List StrStep → ℕ
-end_of d at [] = at
-end_of d at (Token kind start end ∷ xs) = end_of d end xs
-end_of d at (Enter kind ∷ xs) = end_of (suc d) at xs
-end_of zero at (Exit ∷ xs) = at
-end_of (suc d) at (Exit ∷ xs) = end_of d at xs
-end_of d at (Error number place ∷ xs) = end_of d at xs
+abbrev pub node_end : (d at : ℕ) → List StrStep → ℕ
+node_end d at [] = at
+node_end d at (Token kind start end ∷ xs) = node_end d end xs
+node_end d at (Enter kind ∷ xs) = node_end (suc d) at xs
+node_end zero at (Exit ∷ xs) = at
+node_end (suc d) at (Exit ∷ xs) = node_end d at xs
+node_end d at (Error number place ∷ xs) = node_end d at xs
 
 -- the first of some places, or 0
 abbrev pub first_place : List ℕ → ℕ
@@ -26,7 +26,7 @@ other_places (p ∷ ps) = ps
 -- the ranges from a place on, where the open nodes, the innermost first, begin at these places
 abbrev pub ranges_from : (opened : List ℕ) (at : ℕ) → List StrStep → List (ℕ × ℕ)
 ranges_from opened at [] = []
-ranges_from opened at (Enter kind ∷ xs) = (at, end_of 0 at xs) ∷ ranges_from (at ∷ opened) at xs
+ranges_from opened at (Enter kind ∷ xs) = (at, node_end 0 at xs) ∷ ranges_from (at ∷ opened) at xs
 ranges_from opened at (Token kind start end ∷ xs) = (start, end) ∷ ranges_from opened end xs
 ranges_from opened at (Exit ∷ xs) = (first_place opened, at) ∷ ranges_from (other_places opened) at xs
 ranges_from opened at (Error number place ∷ xs) = (at, at) ∷ ranges_from opened at xs

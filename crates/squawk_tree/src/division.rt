@@ -1,7 +1,7 @@
 //! How a text's tokens are divided into the children of the root.
 ghost use Rattle.std.specs.Prelude.{◌≡◌, ◌≤◌, ◌<◌, ◌+◌, ◌^◌, length, map};
 ghost use Rattle.squawk_lexer.specs.Cut.{is_trivia};
-ghost use Rattle.squawk_tree.specs.Children.{ends, groups_after, statement, closing, first_of, is_lone};
+ghost use Rattle.squawk_tree.specs.Children.{ends_statement, open_groups_after, statement, statement_end, first_child, is_single_token};
 ghost use Rattle.squawk_tree.specs.Leaf.{form, leaf_form};
 
 use crate::leaves::Leaf;
@@ -26,8 +26,8 @@ pub(crate) fn is_trivia(kind: SyntaxKind) -> bool
 
 /// Whether the kind is a child of the root by itself where no statement is open.
 #[tactic(auto, unfolding(crate::specs::Leaf::form))]
-fn is_lone(kind: SyntaxKind) -> bool
-    ensures { result ≡ is_lone (form kind) }
+fn is_single_token(kind: SyntaxKind) -> bool
+    ensures { result ≡ is_single_token (form kind) }
 {
     matches!(
         kind,
@@ -38,7 +38,7 @@ fn is_lone(kind: SyntaxKind) -> bool
 /// Whether the kind ends the statement in which so many groups are open.
 #[tactic(auto, unfolding(crate::specs::Leaf::form))]
 fn is_end(division: Division, groups: usize, kind: SyntaxKind) -> bool
-    ensures { result ≡ ends division groups (form kind) }
+    ensures { result ≡ ends_statement division groups (form kind) }
 {
     match kind {
         SyntaxKind::PSQL_TERMINATOR_TEXT => true,
@@ -54,7 +54,7 @@ fn is_end(division: Division, groups: usize, kind: SyntaxKind) -> bool
 #[tactic(auto, unfolding(crate::specs::Leaf::form))]
 fn next_groups(groups: usize, kind: SyntaxKind) -> usize
     requires { groups < 2 ^ 63 }
-    ensures { result ≡ groups_after groups (form kind) }
+    ensures { result ≡ open_groups_after groups (form kind) }
 {
     match kind {
         SyntaxKind::L_PAREN => groups + 1,
@@ -68,7 +68,7 @@ fn next_groups(groups: usize, kind: SyntaxKind) -> usize
 /// These are the leaves up to the one that ends it, or else up to the last that is no trivia.
 fn statement_len(division: Division, groups: usize, leaves: &[Leaf]) -> usize
     requires { groups ≤ 1 }
-    ensures more { result ≡ (statement (closing division groups (map leaf_form leaves.now)) (map leaf_form leaves.now)).more }
+    ensures more { result ≡ (statement (statement_end division groups (map leaf_form leaves.now)) (map leaf_form leaves.now)).more }
     ensures within { result ≤ length leaves.now }
 {
     let mut opened = groups;
@@ -89,11 +89,11 @@ fn statement_len(division: Division, groups: usize, leaves: &[Leaf]) -> usize
 /// How many leaves the first child of the root has.
 pub(crate) fn first_child_len(division: Division, leaves: &[Leaf]) -> usize
     requires { 0 < length leaves.now }
-    ensures leaves { result ≡ (first_of division (map leaf_form leaves.now)).more + 1 }
+    ensures leaves { result ≡ (first_child division (map leaf_form leaves.now)).more + 1 }
     ensures within { result ≤ length leaves.now }
 {
     let kind = leaves[0].kind;
-    if is_trivia(kind) || is_lone(kind) {
+    if is_trivia(kind) || is_single_token(kind) {
         return 1;
     }
     statement_len(division, next_groups(0, kind), &leaves[1..]) + 1

@@ -2,7 +2,7 @@
 ghost use Rattle.std.specs.Prelude.{◌≡◌, ◌^◌, ◌<◌, [], ◌∷◌, ◌++◌, length, IfOk, OnOk, IsOkUnless, IsTrue, drop};
 ghost use Rattle.squawk_events.specs.Kinds.{is_trivia_kind, has_no_trivia};
 ghost use Rattle.squawk_events.specs.declared.error.FrontError.TheVariants.{OutOfMemory};
-ghost use Rattle.squawk_woven.specs.Woven.{kept, kept_kind, bytes, are_sound};
+ghost use Rattle.squawk_woven.specs.Weave.{kinds_without_trivia, non_trivia_kind, total_len, are_sound};
 
 use squawk_events::{FrontError, Input};
 use squawk_kinds::SyntaxKind;
@@ -19,7 +19,7 @@ pub struct Fault {
 
 /// A token as a parse reads it.
 #[derive(Clone, Copy, Debug, PartialEq, Eq)]
-pub struct Lex {
+pub struct LexedToken {
     pub kind: SyntaxKind,
     pub len: u32,
     pub faults: [Option<Fault>; 2],
@@ -28,20 +28,20 @@ pub struct Lex {
 /// The tokens of a text.
 #[derive(Drop)]
 pub struct LexedStr {
-    tokens: Vec<Lex>,
+    tokens: Vec<LexedToken>,
 }
 
 impl Model for LexedStr {
     ghost use Rattle.std.specs.Prelude.{ℕ, List, ◌<◌, ◌^◌};
-    ghost use Rattle.squawk_woven.specs.declared.lex.Lex.{Lex};
-    ghost use Rattle.squawk_woven.specs.Woven.{bytes, are_sound};
+    ghost use Rattle.squawk_woven.specs.declared.lex.LexedToken.{LexedToken};
+    ghost use Rattle.squawk_woven.specs.Weave.{total_len, are_sound};
     ghost use Rattle.std.specs.Prelude.{IsTrue};
 
-    ghost Value = { List Lex };
+    ghost Value = { List LexedToken };
 
     ghost view = { λ l. l.tokens.items };
 
-    ghost invariant = { λ l. (bytes l.tokens.items < 2 ^ 32) × IsTrue (are_sound l.tokens.items) };
+    ghost invariant = { λ l. (total_len l.tokens.items < 2 ^ 32) × IsTrue (are_sound l.tokens.items) };
 }
 
 /// Whether the kind is white space or a comment.
@@ -54,7 +54,7 @@ pub(crate) fn is_trivia(kind: SyntaxKind) -> bool
 
 /// Appends a kind that is not trivia.
 fn push_kept(input: &mut Input, kind: SyntaxKind) -> Result<(), FrontError>
-    ensures ok { OnOk result (input.new ≡ input.old ++ kept_kind kind) }
+    ensures ok { OnOk result (input.new ≡ input.old ++ non_trivia_kind kind) }
     ensures refusal { IsOkUnless result OutOfMemory }
 {
     if is_trivia(kind) {
@@ -65,8 +65,8 @@ fn push_kept(input: &mut Input, kind: SyntaxKind) -> Result<(), FrontError>
 
 impl LexedStr {
     /// These tokens.
-    pub fn new(tokens: Vec<Lex>) -> LexedStr
-        requires small { bytes tokens.items < 2 ^ 32 }
+    pub fn new(tokens: Vec<LexedToken>) -> LexedStr
+        requires small { total_len tokens.items < 2 ^ 32 }
         requires sound { IsTrue (are_sound tokens.items) }
         ensures { result ≡ tokens.items }
     {
@@ -74,9 +74,9 @@ impl LexedStr {
     }
 
     /// All of them.
-    pub fn tokens(&self) -> &[Lex]
+    pub fn tokens(&self) -> &[LexedToken]
         ensures tokens { result.now ≡ self.now }
-        ensures small { bytes self.now < 2 ^ 32 }
+        ensures small { total_len self.now < 2 ^ 32 }
         ensures sound { IsTrue (are_sound self.now) }
     {
         &self.tokens
@@ -84,7 +84,7 @@ impl LexedStr {
 
     /// The kinds that are not trivia.
     pub fn to_input(&self, alloc: Global) -> Result<Input, FrontError>
-        ensures ok { IfOk result (λ input. input ≡ kept self.now) }
+        ensures ok { IfOk result (λ input. input ≡ kinds_without_trivia self.now) }
         ensures no_trivia { IfOk result (λ input. IsTrue (has_no_trivia input)) }
         ensures refusal { IsOkUnless result OutOfMemory }
     {

@@ -1,5 +1,5 @@
 use Rattle.std.proofs.Common.{refl, ◌∙◌}
-use Rattle.squawk_lexer.specs.Stops.{is_other}
+use Rattle.squawk_lexer.specs.Stops.{is_neither}
 use Rattle.squawk_lexer.proofs.ByteRuns.{search_run}
 use Rattle.squawk_lexer.proofs.StopSteps.{other_one}
 use Rattle.squawk_lexer.proofs.scan.far_others_len.Goals as goal
@@ -9,6 +9,6 @@ pub returns : goal.returns
 returns c =
     c.unwrap_or.ensures
     ∙ elim c.if-a-b.branch [
-      | then-a-b w ↦ rw w.found-is (search_run _ (is_other c.args.a c.args.b) (λ x. other_one c.args.a c.args.b x w.if-a-b.true) c.args.bytes.now _ w.memchr-found.ensures)
-      | else-a-b w ↦ rw w.found-is (search_run _ (is_other c.args.a c.args.b) (λ x. refl) c.args.bytes.now _ w.memchr2-found.ensures)
+      | then-a-b w ↦ rw w.found-is (search_run _ (is_neither c.args.a c.args.b) (λ x. other_one c.args.a c.args.b x w.if-a-b.true) c.args.bytes.now _ w.memchr-found.ensures)
+      | else-a-b w ↦ rw w.found-is (search_run _ (is_neither c.args.a c.args.b) (λ x. refl) c.args.bytes.now _ w.memchr2-found.ensures)
     ]

@@ -1,7 +1,7 @@
 use Rattle.std.proofs.Common.{◌≡◌, ◌-◌, length, take, drop, length-drop, arith}
 use Rattle.std.proofs.lemmas.List.{length-take-le}
 use Rattle.std.proofs.lemmas.List.Sums.{prefix_len-le-length}
-use Rattle.squawk_lexer.specs.Stops.{is_inside}
+use Rattle.squawk_lexer.specs.Stops.{is_neither_on_line}
 use Rattle.squawk_lexer.proofs.scan.inside_len.Goals as goal
 
 pub overflow_add-result : goal.overflow_add-result
@@ -10,4 +10,4 @@ overflow_add-result c =
     let near = c.near_inside_len-near.result in
     let rest = take (length bytes - near) (drop near bytes) in
     let size : length rest ≡ length bytes - near = length-take-le (length bytes - near) (drop near bytes) (omega (arith, length-drop near bytes)) in
-    omega (arith, size, c.near_inside_len-near.ensures.within, c.far_inside_len.ensures, prefix_len-le-length (is_inside c.args.a c.args.b) rest)
+    omega (arith, size, c.near_inside_len-near.ensures.within, c.far_inside_len.ensures, prefix_len-le-length (is_neither_on_line c.args.a c.args.b) rest)

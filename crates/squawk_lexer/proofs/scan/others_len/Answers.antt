@@ -1,7 +1,7 @@
 use Rattle.std.proofs.Common.{◌≡◌, ◌-◌, length, take, drop, length-drop, arith}
 use Rattle.std.proofs.lemmas.List.{length-take-le}
 use Rattle.std.proofs.lemmas.List.Sums.{prefix_len-le-length}
-use Rattle.squawk_lexer.specs.Stops.{is_other}
+use Rattle.squawk_lexer.specs.Stops.{is_neither}
 use Rattle.squawk_lexer.proofs.scan.others_len.Goals as goal
 
 pub overflow_add-result : goal.overflow_add-result
@@ -10,4 +10,4 @@ overflow_add-result c =
     let near = c.near_others_len-near.result in
     let rest = take (length bytes - near) (drop near bytes) in
     let size : length rest ≡ length bytes - near = length-take-le (length bytes - near) (drop near bytes) (omega (arith, length-drop near bytes)) in
-    omega (arith, size, c.near_others_len-near.ensures.within, c.far_others_len.ensures, prefix_len-le-length (is_other c.args.a c.args.b) rest)
+    omega (arith, size, c.near_others_len-near.ensures.within, c.far_others_len.ensures, prefix_len-le-length (is_neither c.args.a c.args.b) rest)

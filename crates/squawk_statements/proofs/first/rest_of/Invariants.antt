@@ -1,5 +1,5 @@
 use Rattle.std.proofs.Common.{◌≡◌, ◌≤◌, ◌+◌, map, drop}
-use Rattle.squawk_statements.specs.Children.{closing, solid_len}
+use Rattle.squawk_statements.specs.Children.{statement_end, trimmed_len}
 use Rattle.squawk_statements.specs.Kinds.{form}
 use Rattle.squawk_statements.proofs.StatementLen.{later, solid_at}
 use Rattle.squawk_statements.proofs.first.rest_of.Given as goal
@@ -7,8 +7,8 @@ use Rattle.squawk_statements.proofs.first.rest_of.Given as goal
 -- what is left closes where the whole list does, and has its last solid form where the whole list has
 abbrev pub invariant-loop-i : goal.invariant-loop-i
 invariant-loop-i l = record {
-  closes : later l.i (closing l.division l.opened (map form (drop l.i l.kinds))) ≡ closing l.division l.groups (map form l.kinds);
-  solid : solid_at l.solid l.i (solid_len (map form (drop l.i l.kinds))) ≡ solid_len (map form l.kinds);
+  closes : later l.i (statement_end l.division l.opened (map form (drop l.i l.kinds))) ≡ statement_end l.division l.groups (map form l.kinds);
+  solid : solid_at l.solid l.i (trimmed_len (map form (drop l.i l.kinds))) ≡ trimmed_len (map form l.kinds);
   groups_within : l.opened ≤ l.i + 1;
   solid_within : l.solid ≤ l.i;
 }

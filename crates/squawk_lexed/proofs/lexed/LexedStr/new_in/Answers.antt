@@ -3,7 +3,7 @@ use Rattle.std.proofs.lemmas.Grind.{common_steps}
 use Rattle.std.proofs.lemmas.Str.{IsCharBoundary-start}
 use Rattle.std.specs.Str.{chars}
 use Rattle.squawk_lexer.specs.Cut.{tokens}
-use Rattle.squawk_lexed.specs.Lexes.{lexes_of}
+use Rattle.squawk_lexed.specs.LexedText.{lexed_tokens}
 use Rattle.squawk_lexed.proofs.StoredLemmas.{stored, kept_as, all_kept}
 use Rattle.squawk_lexed.proofs.lexed.LexedStr.new_in.Goals as goal
 
@@ -23,7 +23,7 @@ pub invariant_of-result : goal.invariant_of-result
 invariant_of-result c =
     let none : c.loop-token.token-iterator ≡ [] = grind (arith, common_steps) in
     let fits : length c.args.text.now < 2 ^ 32 = grind (arith, common_steps) in
-    stored _ _ _ _ (lexes_of c.args.text.now 0 (tokens c.args.strings (chars c.args.text.now)))
+    stored _ _ _ _ (lexed_tokens c.args.text.now 0 (tokens c.args.strings (chars c.args.text.now)))
     (all_kept c.flags_lie_within.ensures.within c.args.text.now (tokens c.args.strings (chars c.args.text.now))
     (c.flags_lie_within.ensures.cut c.args.strings (chars c.args.text.now)) (rw c.tokenize_in-token-items.ensures.tokens at c.tokenize_in-token-items.ensures.tiles)
     (IsCharBoundary-start c.args.text.now c.utf8.text) fits c.loop-token.at c.loop-token.token-iterator _ _ _ _ none
@@ -33,7 +33,7 @@ pub returns-clause-lexed : goal.returns-clause-lexed
 returns-clause-lexed c =
     let none : c.loop-token.token-iterator ≡ [] = grind (arith, common_steps) in
     let fits : length c.args.text.now < 2 ^ 32 = grind (arith, common_steps) in
-    ap (λ ts. record { text = c.args.text.now; tokens = ts }) (kept_as c.args.text.now _ _ _ (lexes_of c.args.text.now 0 (tokens c.args.strings (chars c.args.text.now)))
+    ap (λ ts. record { text = c.args.text.now; tokens = ts }) (kept_as c.args.text.now _ _ _ (lexed_tokens c.args.text.now 0 (tokens c.args.strings (chars c.args.text.now)))
     (all_kept c.flags_lie_within.ensures.within c.args.text.now (tokens c.args.strings (chars c.args.text.now))
     (c.flags_lie_within.ensures.cut c.args.strings (chars c.args.text.now)) (rw c.tokenize_in-token-items.ensures.tokens at c.tokenize_in-token-items.ensures.tiles)
     (IsCharBoundary-start c.args.text.now c.utf8.text) fits c.loop-token.at c.loop-token.token-iterator _ _ _ _ none

@@ -1,11 +1,11 @@
 use Rattle.std.proofs.Common.{◌≡◌, ◌-◌, length}
-use Rattle.squawk_lexer.specs.PsqlParts.{args}
+use Rattle.squawk_lexer.specs.PsqlParts.{arguments_end}
 use Rattle.squawk_lexer.proofs.cursor.Cursor.eat_arguments.Given as goal
 
 abbrev pub invariant-loop-c : goal.invariant-loop-c
 invariant-loop-c l = record {
   text : l.self.text ≡ l.fn.self.text;
-  end : args l.self.text l.self.at ≡ args l.fn.self.text l.fn.self.at;
+  end : arguments_end l.self.text l.self.at ≡ arguments_end l.fn.self.text l.fn.self.at;
 }
 
 abbrev pub decreases-loop-c : goal.decreases-loop-c

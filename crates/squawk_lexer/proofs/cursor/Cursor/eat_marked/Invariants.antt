@@ -1,12 +1,12 @@
 use Rattle.std.proofs.Common.{◌≡◌, ◌-◌, length, None}
-use Rattle.squawk_lexer.specs.PsqlParts.{args}
+use Rattle.squawk_lexer.specs.PsqlParts.{arguments_end}
 use Rattle.squawk_lexer.proofs.PsqlSteps.{marked_end}
 use Rattle.squawk_lexer.proofs.cursor.Cursor.eat_marked.Given as goal
 
 abbrev pub invariant-loop-c : goal.invariant-loop-c
 invariant-loop-c l = record {
   text : l.self.text ≡ l.fn.self.text;
-  end : args l.self.text l.self.at ≡ args l.fn.self.text l.fn.self.at;
+  end : arguments_end l.self.text l.self.at ≡ arguments_end l.fn.self.text l.fn.self.at;
   marked : marked_end l.mark l.self.text l.self.at ≡ marked_end None l.fn.self.text l.fn.self.at;
 }
 

@@ -1,6 +1,6 @@
 use Rattle.std.proofs.Common.{◌≡◌, true, false, get_or, sym, ◌∙◌}
-use Rattle.squawk_lexer.specs.Place.{behind}
-use Rattle.squawk_lexer.specs.PsqlParts.{is_pair}
+use Rattle.squawk_lexer.specs.Position.{position_after}
+use Rattle.squawk_lexer.specs.PsqlParts.{is_escape_pair}
 use Rattle.squawk_lexer.proofs.PsqlSteps.{piece_one, piece_two}
 use Rattle.squawk_lexer.proofs.cursor.Cursor.eat_piece.Goals as goal
 
@@ -8,8 +8,8 @@ pub returns-then-is_pair-clause-close : goal.returns-then-is_pair-clause-close
 returns-then-is_pair-clause-close c =
     let u = c.args.self.now.text in
     let i = c.args.self.now.at in
-    let read : is_pair c.args.quote c.first-first.result c.first.result ≡ true = sym c.is_pair.ensures ∙ c.if-is_pair.true in
-    let pair : is_pair c.args.quote (get_or u i 0) (get_or u (behind u i) 0) ≡ true =
+    let read : is_escape_pair c.args.quote c.first-first.result c.first.result ≡ true = sym c.is_pair.ensures ∙ c.if-is_pair.true in
+    let pair : is_escape_pair c.args.quote (get_or u i 0) (get_or u (position_after u i) 0) ≡ true =
     rw (← c.first-first.ensures, ← c.bump.ensures.at, ← c.bump.ensures.text, ← c.first.ensures) read in
     rw (c.bump-then-is_pair.ensures.text, c.bump-then-is_pair.ensures.at, c.bump.ensures.text, c.bump.ensures.at)
     (piece_two c.args.quote u i c.requires.some c.requires.plain c.requires.other pair)
@@ -18,7 +18,7 @@ pub returns-else-is_pair-clause-close : goal.returns-else-is_pair-clause-close
 returns-else-is_pair-clause-close c =
     let u = c.args.self.now.text in
     let i = c.args.self.now.at in
-    let read : is_pair c.args.quote c.first-first.result c.first.result ≡ false = sym c.is_pair.ensures ∙ c.if-is_pair.false in
-    let single : is_pair c.args.quote (get_or u i 0) (get_or u (behind u i) 0) ≡ false =
+    let read : is_escape_pair c.args.quote c.first-first.result c.first.result ≡ false = sym c.is_pair.ensures ∙ c.if-is_pair.false in
+    let single : is_escape_pair c.args.quote (get_or u i 0) (get_or u (position_after u i) 0) ≡ false =
     rw (← c.first-first.ensures, ← c.bump.ensures.at, ← c.bump.ensures.text, ← c.first.ensures) read in
     rw (c.bump.ensures.text, c.bump.ensures.at) (piece_one c.args.quote u i c.requires.some c.requires.plain c.requires.other single)

@@ -1,7 +1,7 @@
 use Rattle.std.proofs.Common.{◌≡◌, ◌<◌, ◌≤◌, false, take, sym, ◌∙◌, ap, arith}
 use Rattle.squawk_lexer.specs.Classes.{is_line_end}
 use Rattle.squawk_lexer.specs.PsqlQuotes.{last_before}
-use Rattle.squawk_lexer.specs.Text.{bytes}
+use Rattle.squawk_lexer.specs.Text.{utf8_len}
 use Rattle.squawk_lexer.proofs.PsqlSteps.{quote_closed, passed, smaller}
 use Rattle.squawk_lexer.proofs.Steps.{within_some, get_some}
 use Rattle.squawk_lexer.proofs.cursor.Cursor.eat_quote.Goals as goal
@@ -26,8 +26,8 @@ returns-then-c-quote-clause-last c =
     let plain : is_line_end c.in-Some.c ≡ false = sym c.is_line_end.ensures ∙ c.if-not-is_line_end.true in
     let e = quote_closed c.args.quote c.args.self.now.text c.args.self.now.at c.loop-c.self.text c.loop-c.self.at c.in-Some.c
     c.loop-c.invariant.text c.loop-c.invariant.close c.in-Some.ensures plain c.if-c-quote.true in
-    let start : c.position-start.result ≡ bytes (take c.args.self.now.at c.loop-c.self.text) =
-    c.position-start.ensures ∙ ap (λ x. bytes (take c.args.self.now.at x)) (sym c.loop-c.invariant.text) in
+    let start : c.position-start.result ≡ utf8_len (take c.args.self.now.at c.loop-c.self.text) =
+    c.position-start.ensures ∙ ap (λ x. utf8_len (take c.args.self.now.at x)) (sym c.loop-c.invariant.text) in
     c.last_since-last.ensures c.args.self.now.at c.loop-c.invariant.on start
     ∙ ap (λ x. last_before x c.args.self.now.at c.loop-c.self.at) c.loop-c.invariant.text ∙ e.1
 

@@ -1,5 +1,5 @@
 use Rattle.std.proofs.Common.{◌≡◌, ◌-◌, ◌≤◌, length}
-use Rattle.squawk_lexer.specs.Runs.{line}
+use Rattle.squawk_lexer.specs.Runs.{line_end}
 use Rattle.squawk_lexer.specs.PsqlQuotes.{close_end}
 use Rattle.squawk_lexer.proofs.cursor.Cursor.eat_quote.Given as goal
 
@@ -8,7 +8,7 @@ invariant-loop-c l = record {
   text : l.self.text ≡ l.fn.self.text;
   on : l.fn.self.at ≤ l.self.at;
   close : close_end l.quote l.self.text l.self.at ≡ close_end l.fn.quote l.fn.self.text l.fn.self.at;
-  line : line l.self.text l.self.at ≡ line l.fn.self.text l.fn.self.at;
+  line_end : line_end l.self.text l.self.at ≡ line_end l.fn.self.text l.fn.self.at;
 }
 
 abbrev pub decreases-loop-c : goal.decreases-loop-c

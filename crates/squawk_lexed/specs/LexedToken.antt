@@ -3,7 +3,7 @@ use Rattle.std.specs.Prelude.{ℕ, List}
 use Rattle.squawk_lexed.specs.declared.fault.Fault.{Fault}
 
 -- its leaf kind, its length in bytes, and its faults by places in it
-pub record Lex : Type 0 where
+pub record LexedToken : Type 0 where
   pub kind : ℕ
   pub len : ℕ
   pub faults : List Fault
