@@ -31,7 +31,8 @@ has_lawful_numbers [] = true
 has_lawful_numbers (Enter kind ∷ xs) = has_lawful_numbers xs
 has_lawful_numbers (Token kind ∷ xs) = has_lawful_numbers xs
 has_lawful_numbers (Exit ∷ xs) = has_lawful_numbers xs
-has_lawful_numbers (Error number ∷ xs) = nat_le 1 number && (nat_le number 10 && has_lawful_numbers xs)
+has_lawful_numbers (Error number ∷ xs) = nat_le 1 number
+    && (nat_le number 10 && has_lawful_numbers xs)
 
 -- the steps are a tree, and its tokens are these kinds
 pub record IsLawful (kinds : List ℕ) (steps : List Step) : Type 0 where

@@ -1,4 +1,5 @@
-//! The steps of a tree over a text, and the errors in the text. Places are in bytes from the text's start.
+//! The steps of a tree over a text, and the errors in the text. Places are in bytes from the text's
+//! start.
 use squawk_kinds::SyntaxKind;
 
 /// A step of a tree, without places.
@@ -14,7 +15,8 @@ pub enum Step {
     Error { number: u8 },
 }
 
-/// A step of a tree over a text: the tree is what its steps enter and leave, in the order of the text.
+/// A step of a tree over a text: the tree is what its steps enter and leave, in the order of the
+/// text.
 #[derive(Clone, Copy, Debug, PartialEq, Eq)]
 pub enum StrStep {
     /// A node of this kind begins.

@@ -2,25 +2,32 @@
 use Rattle.std.proofs.Common.{◌≡◌, ℕ, zero, suc, ◌==◌, ◌≤◌, Bool, true, false, ◌&&◌, cond, List, [], ◌∷◌, length, take, drop, map, ap, refl, sym, ◌∙◌, arith}
 use Rattle.std.proofs.lemmas.List.{length-take-le, take_all, drop_all, take-map}
 use Rattle.std.specs.Prelude.{Option, Some, None, option_map}
-use Rattle.squawk_join.specs.Join.{lex_form}
+use Rattle.squawk_join.specs.Join.{lexed_role}
 use Rattle.squawk_join.specs.ParseOf.{parse_of, child_of, join}
 use Rattle.squawk_woven.specs.Weave.{are_sound}
 use Rattle.squawk_woven.specs.declared.lex.LexedToken.{LexedToken}
-use Rattle.squawk_lexer.specs.Cut.{Form, is_trivia, Trivia, Semicolon, Terminator, Command, Open, Close, Other}
+use Rattle.squawk_kinds.specs.Role.{Role, is_trivia, Trivia, Semicolon, Terminator, Command, Open, Close, Other}
 use Rattle.squawk_statements.specs.Children.{ends_statement, open_groups_after, statement_end, trimmed_len, statement, child_from, more_of, parts, parts_from}
-use Rattle.squawk_statements.specs.Kinds.{form}
+use Rattle.squawk_kinds.specs.Role.{role}
 use Rattle.squawk_statements.specs.declared.division.Division.{Division}
 use Rattle.squawk_join.proofs.JoinIsParse.{parse-joined}
 use Rattle.squawk_join.proofs.JoinLemmas.{skip}
 use Rattle.squawk_join.proofs.RootLemmas.{first-within}
 
--- the first forms up to the one that closes
-closing-take : (d : Division) (g : ℕ) (fs : List Form) (k : ℕ) → statement_end d g fs ≡ Some k → statement_end d g (take k fs) ≡ Some k
+-- the first roles up to the one that closes
+closing-take : (d : Division) (g : ℕ) (fs : List Role) (k : ℕ) → statement_end d g fs ≡ Some k
+    → statement_end d g (take k fs) ≡ Some k
 closing-take d g [] k h = cc
-closing-take d g (f ∷ fs) k h = by (ends_statement d g f) refl (statement_end d (open_groups_after g f) fs) refl h (λ j e. closing-take d (open_groups_after g f) fs j e)
+closing-take d g (f ∷ fs) k h =
+    by (ends_statement d g f) refl (statement_end d (open_groups_after g f) fs) refl h (λ j e.
+    closing-take d (open_groups_after g f) fs j e)
   where
-    by : (b : Bool) → ends_statement d g f ≡ b → (o : Option ℕ) → statement_end d (open_groups_after g f) fs ≡ o → cond b (Some 1) (option_map suc o) ≡ Some k
-        → ((j : ℕ) → statement_end d (open_groups_after g f) fs ≡ Some j → statement_end d (open_groups_after g f) (take j fs) ≡ Some j) → statement_end d g (take k (f ∷ fs)) ≡ Some k
+    by : (b : Bool) → ends_statement d g f ≡ b → (o : Option ℕ)
+        → statement_end d (open_groups_after g f) fs ≡ o
+        → cond b (Some 1) (option_map suc o) ≡ Some k
+        → ((j : ℕ) → statement_end d (open_groups_after g f) fs ≡ Some j
+        → statement_end d (open_groups_after g f) (take j fs) ≡ Some j)
+        → statement_end d g (take k (f ∷ fs)) ≡ Some k
     by true is o found e more =
         let one : k ≡ 1 = cc in
         rw one (rw is refl)
@@ -30,33 +37,51 @@ closing-take d g (f ∷ fs) k h = by (ends_statement d g f) refl (statement_end 
         rw next (rw is (ap (option_map suc) (more j found)))
 
 -- where nothing closes, nothing does among the first
-none-take : (d : Division) (g n : ℕ) (fs : List Form) → statement_end d g fs ≡ None → statement_end d g (take n fs) ≡ None
+none-take : (d : Division) (g n : ℕ) (fs : List Role) → statement_end d g fs ≡ None
+    → statement_end d g (take n fs) ≡ None
 none-take d g zero fs h = refl
 none-take d g (suc n) [] h = refl
-none-take d g (suc n) (f ∷ fs) h = by (ends_statement d g f) (statement_end d (open_groups_after g f) fs) refl h (λ e. none-take d (open_groups_after g f) n fs e)
+none-take d g (suc n) (f ∷ fs) h =
+    by (ends_statement d g f) (statement_end d (open_groups_after g f) fs) refl h (λ e.
+    none-take d (open_groups_after g f) n fs e)
   where
-    by : (b : Bool) (o : Option ℕ) → statement_end d (open_groups_after g f) fs ≡ o → cond b (Some 1) (option_map suc o) ≡ None
-        → (statement_end d (open_groups_after g f) fs ≡ None → statement_end d (open_groups_after g f) (take n fs) ≡ None) → cond b (Some 1) (option_map suc (statement_end d (open_groups_after g f) (take n fs))) ≡ None
+    by : (b : Bool) (o : Option ℕ) → statement_end d (open_groups_after g f) fs ≡ o
+        → cond b (Some 1) (option_map suc o) ≡ None
+        → (statement_end d (open_groups_after g f) fs ≡ None
+        → statement_end d (open_groups_after g f) (take n fs) ≡ None)
+        → cond b (Some 1) (option_map suc (statement_end d (open_groups_after g f) (take n fs)))
+        ≡ None
     by true o found e more = cc
     by false None found e more = ap (option_map suc) (more found)
     by false (Some j) found e more = cc
 
-solid-take : (fs : List Form) → trimmed_len (take (trimmed_len fs) fs) ≡ trimmed_len fs
+solid-take : (fs : List Role) → trimmed_len (take (trimmed_len fs) fs) ≡ trimmed_len fs
 solid-take [] = refl
 solid-take (f ∷ fs) = by (is_trivia f && trimmed_len fs == 0) refl (solid-take fs)
   where
-    by : (b : Bool) → (is_trivia f && trimmed_len fs == 0) ≡ b → trimmed_len (take (trimmed_len fs) fs) ≡ trimmed_len fs → trimmed_len (take (cond b 0 (suc (trimmed_len fs))) (f ∷ fs)) ≡ cond b 0 (suc (trimmed_len fs))
+    by : (b : Bool) → (is_trivia f && trimmed_len fs == 0) ≡ b
+        → trimmed_len (take (trimmed_len fs) fs) ≡ trimmed_len fs
+        → trimmed_len (take (cond b 0 (suc (trimmed_len fs))) (f ∷ fs))
+        ≡ cond b 0 (suc (trimmed_len fs))
     by true is more = refl
-    by false is more = ap (λ n. cond (is_trivia f && n == 0) 0 (suc n)) more ∙ ap (λ b. cond b 0 (suc (trimmed_len fs))) is
+    by false is more = ap (λ n. cond (is_trivia f && n == 0) 0 (suc n)) more
+        ∙ ap (λ b. cond b 0 (suc (trimmed_len fs))) is
 
-statement-alone : (d : Division) (g : ℕ) (fs : List Form) → (statement (statement_end d g (take (statement (statement_end d g fs) fs).more fs)) (take (statement (statement_end d g fs) fs).more fs)).more ≡ (statement (statement_end d g fs) fs).more
+statement-alone : (d : Division) (g : ℕ) (fs : List Role)
+    → (statement (statement_end d g (take (statement (statement_end d g fs) fs).more fs))
+    (take (statement (statement_end d g fs) fs).more fs)).more
+    ≡ (statement (statement_end d g fs) fs).more
 statement-alone d g fs = by (statement_end d g fs) refl
   where
-    by : (o : Option ℕ) → statement_end d g fs ≡ o → (statement (statement_end d g (take (statement o fs).more fs)) (take (statement o fs).more fs)).more ≡ (statement o fs).more
-    by None is = ap (λ o. (statement o (take (trimmed_len fs) fs)).more) (none-take d g (trimmed_len fs) fs is) ∙ solid-take fs
+    by : (o : Option ℕ) → statement_end d g fs ≡ o
+        → (statement (statement_end d g (take (statement o fs).more fs))
+        (take (statement o fs).more fs)).more ≡ (statement o fs).more
+    by None is = ap (λ o. (statement o (take (trimmed_len fs) fs)).more)
+        (none-take d g (trimmed_len fs) fs is) ∙ solid-take fs
     by (Some k) is = ap (λ o. (statement o (take k fs)).more) (closing-take d g fs k is)
 
-first-alone : (d : Division) (f : Form) (fs : List Form) → (child_from d f (take (child_from d f fs).more fs)).more ≡ (child_from d f fs).more
+first-alone : (d : Division) (f : Role) (fs : List Role)
+    → (child_from d f (take (child_from d f fs).more fs)).more ≡ (child_from d f fs).more
 first-alone d Trivia fs = refl
 first-alone d Semicolon fs = refl
 first-alone d Terminator fs = refl
@@ -65,20 +90,29 @@ first-alone d Open fs = statement-alone d 1 fs
 first-alone d Close fs = statement-alone d 0 fs
 first-alone d Other fs = statement-alone d 0 fs
 
-pub parts-alone : (d : Division) (t : LexedToken) (ts : List LexedToken) → parts lex_form d (t ∷ take (more_of lex_form d t ts) ts) ≡ (t ∷ take (more_of lex_form d t ts) ts) ∷ []
+pub parts-alone : (d : Division) (t : LexedToken) (ts : List LexedToken)
+    → parts lexed_role d (t ∷ take (more_of lexed_role d t ts) ts)
+    ≡ (t ∷ take (more_of lexed_role d t ts) ts) ∷ []
 parts-alone d t ts =
-    let m = more_of lex_form d t ts in
+    let m = more_of lexed_role d t ts in
     let us = take m ts in
     let fits : m ≤ length ts = first-within d t ts in
     let size : length us ≡ m = length-take-le m ts fits in
-    let forms : map lex_form us ≡ take m (map lex_form ts) = sym (take-map lex_form m ts) in
-    let same : more_of lex_form d t us ≡ m = ap (λ fs. (child_from d (form t.kind) fs).more) forms ∙ first-alone d (form t.kind) (map lex_form ts) in
-    let whole : take (more_of lex_form d t us) us ≡ us = take_all (more_of lex_form d t us) us (omega arith) in
-    let none : drop (more_of lex_form d t us) us ≡ [] = drop_all (more_of lex_form d t us) us (omega arith) in
-    ap (λ xs. (t ∷ xs) ∷ parts_from lex_form (more_of lex_form d t us) d us) whole
-    ∙ ap (λ rest. (t ∷ us) ∷ rest) (skip lex_form (more_of lex_form d t us) d us ∙ ap (parts_from lex_form 0 d) none)
+    let forms : map lexed_role us ≡ take m (map lexed_role ts) = sym (take-map lexed_role m ts) in
+    let same : more_of lexed_role d t us ≡ m = ap (λ fs. (child_from d (role t.kind) fs).more) forms
+    ∙ first-alone d (role t.kind) (map lexed_role ts) in
+    let whole : take (more_of lexed_role d t us) us ≡ us =
+    take_all (more_of lexed_role d t us) us (omega arith) in
+    let none : drop (more_of lexed_role d t us) us ≡ [] =
+    drop_all (more_of lexed_role d t us) us (omega arith) in
+    ap (λ xs. (t ∷ xs) ∷ parts_from lexed_role (more_of lexed_role d t us) d us) whole
+    ∙ ap (λ rest. (t ∷ us) ∷ rest) (skip lexed_role (more_of lexed_role d t us) d us
+    ∙ ap (parts_from lexed_role 0 d) none)
 
 -- a child parsed by itself is itself under a root
-pub parse-alone : (d : Division) (t : LexedToken) (ts : List LexedToken) → are_sound (t ∷ take (more_of lex_form d t ts) ts) ≡ true
-    → parse_of d (t ∷ take (more_of lex_form d t ts) ts) ≡ join (child_of d (t ∷ take (more_of lex_form d t ts) ts) ∷ [])
-parse-alone d t ts sound = parse-joined d (t ∷ take (more_of lex_form d t ts) ts) sound ∙ ap (λ ps. join (map (child_of d) ps)) (parts-alone d t ts)
+pub parse-alone : (d : Division) (t : LexedToken) (ts : List LexedToken)
+    → are_sound (t ∷ take (more_of lexed_role d t ts) ts) ≡ true
+    → parse_of d (t ∷ take (more_of lexed_role d t ts) ts)
+    ≡ join (child_of d (t ∷ take (more_of lexed_role d t ts) ts) ∷ [])
+parse-alone d t ts sound = parse-joined d (t ∷ take (more_of lexed_role d t ts) ts) sound
+    ∙ ap (λ ps. join (map (child_of d) ps)) (parts-alone d t ts)

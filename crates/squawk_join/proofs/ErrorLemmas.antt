@@ -24,44 +24,68 @@ runs at ts (out.Error number place ∷ xs) = place == at && runs at ts xs
 runs at [] (out.Token kind start end ∷ xs) = false
 runs at (t ∷ ts) (out.Token kind start end ∷ xs) = runs (at + t.len) ts xs
 
-runs_front : (at : ℕ) (ts : List LexedToken) (ys : List StrStep) → runs at ts (leading_trivia at ts ++ ys) ≡ runs (leading_trivia_end at ts) (after_leading_trivia ts) ys
+runs_front : (at : ℕ) (ts : List LexedToken) (ys : List StrStep)
+    → runs at ts (leading_trivia at ts ++ ys)
+    ≡ runs (leading_trivia_end at ts) (after_leading_trivia ts) ys
 runs_front at [] ys = refl
 runs_front at (t ∷ ts) ys = by (is_trivia_kind t.kind) (runs_front (at + t.len) ts ys)
   where
-    by : (b : Bool) → runs (at + t.len) ts (leading_trivia (at + t.len) ts ++ ys) ≡ runs (leading_trivia_end (at + t.len) ts) (after_leading_trivia ts) ys
-        → runs at (t ∷ ts) (cond b (out.Token t.kind at (at + t.len) ∷ leading_trivia (at + t.len) ts) [] ++ ys) ≡ runs (cond b (leading_trivia_end (at + t.len) ts) at) (cond b (after_leading_trivia ts) (t ∷ ts)) ys
+    by : (b : Bool) → runs (at + t.len) ts (leading_trivia (at + t.len) ts ++ ys)
+        ≡ runs (leading_trivia_end (at + t.len) ts) (after_leading_trivia ts) ys
+        → runs at (t ∷ ts) (cond b (out.Token t.kind at (at + t.len)
+        ∷ leading_trivia (at + t.len) ts) [] ++ ys)
+        ≡ runs (cond b (leading_trivia_end (at + t.len) ts) at)
+        (cond b (after_leading_trivia ts) (t ∷ ts)) ys
     by true rest = rest
     by false rest = refl
 
-runs_front_step : (at : ℕ) (ts : List LexedToken) (y : StrStep) (ys : List StrStep) → runs at ts ((leading_trivia at ts ++ y ∷ []) ++ ys) ≡ runs (leading_trivia_end at ts) (after_leading_trivia ts) (y ∷ ys)
-runs_front_step at ts y ys = ap (runs at ts) (append_assoc (leading_trivia at ts) (y ∷ []) ys) ∙ runs_front at ts (y ∷ ys)
+runs_front_step : (at : ℕ) (ts : List LexedToken) (y : StrStep) (ys : List StrStep)
+    → runs at ts ((leading_trivia at ts ++ y ∷ []) ++ ys)
+    ≡ runs (leading_trivia_end at ts) (after_leading_trivia ts) (y ∷ ys)
+runs_front_step at ts y ys = ap (runs at ts) (append_assoc (leading_trivia at ts) (y ∷ []) ys)
+    ∙ runs_front at ts (y ∷ ys)
 
 pub same_place : (at : ℕ) (b : Bool) → (at == at && b) ≡ b
 same_place at b = grind (arith, nat_tests)
 
-runs_woven : (d at : ℕ) (ts : List LexedToken) (xs : List Step) → closes (suc d) xs ≡ true → kinds_without_trivia ts ≡ token_kinds xs → runs at ts (weave_from at ts xs) ≡ true
+runs_woven : (d at : ℕ) (ts : List LexedToken) (xs : List Step) → closes (suc d) xs ≡ true
+    → kinds_without_trivia ts ≡ token_kinds xs → runs at ts (weave_from at ts xs) ≡ true
 runs_woven d at ts [] h e = never_closed d h
 runs_woven d at ts (Enter kind ∷ xs) h e =
-    runs_front_step at ts (out.Enter kind) (weave_from (leading_trivia_end at ts) (after_leading_trivia ts) xs) ∙ runs_woven (suc d) (leading_trivia_end at ts) (after_leading_trivia ts) xs h (kept_behind ts ∙ e)
+    runs_front_step at ts (out.Enter kind) (weave_from (leading_trivia_end at ts)
+    (after_leading_trivia ts) xs)
+    ∙ runs_woven (suc d) (leading_trivia_end at ts) (after_leading_trivia ts) xs h
+    (kept_behind ts ∙ e)
 runs_woven d at ts (Token kind ∷ xs) h e =
     let next = next_of ts kind (token_kinds xs) e in
-    let kinds : kinds_without_trivia (drop 1 (after_leading_trivia ts)) ≡ token_kinds xs = rw next.is next.kinds_are in
+    let kinds : kinds_without_trivia (drop 1 (after_leading_trivia ts)) ≡ token_kinds xs =
+    rw next.is next.kinds_are in
     let end : ℕ = leading_trivia_end at ts + next_len (after_leading_trivia ts) in
-    let rest : List StrStep = weave_from (leading_trivia_end at ts + next_len (after_leading_trivia ts)) (drop 1 (after_leading_trivia ts)) xs in
-    let more = runs_woven d (leading_trivia_end at ts + next_len (after_leading_trivia ts)) (drop 1 (after_leading_trivia ts)) xs h kinds in
-    let here : runs (leading_trivia_end at ts) (after_leading_trivia ts) (out.Token kind (leading_trivia_end at ts) end ∷ rest) ≡ runs end (drop 1 (after_leading_trivia ts)) rest =
-    first_token (leading_trivia_end at ts) (after_leading_trivia ts) next.token next.rest kind (leading_trivia_end at ts) end rest next.is in
+    let rest : List StrStep =
+    weave_from (leading_trivia_end at ts + next_len (after_leading_trivia ts))
+    (drop 1 (after_leading_trivia ts)) xs in
+    let more = runs_woven d (leading_trivia_end at ts + next_len (after_leading_trivia ts))
+    (drop 1 (after_leading_trivia ts)) xs h kinds in
+    let here : runs (leading_trivia_end at ts) (after_leading_trivia ts)
+    (out.Token kind (leading_trivia_end at ts) end ∷ rest)
+    ≡ runs end (drop 1 (after_leading_trivia ts)) rest =
+    first_token (leading_trivia_end at ts) (after_leading_trivia ts) next.token next.rest kind
+    (leading_trivia_end at ts) end rest next.is in
     runs_front_step at ts (out.Token kind (leading_trivia_end at ts) end) rest ∙ here ∙ more
   where
-    first_token : (at : ℕ) (us : List LexedToken) (t : LexedToken) (vs : List LexedToken) (kind start end : ℕ) (ys : List StrStep) → us ≡ t ∷ vs → runs at us (out.Token kind start end ∷ ys) ≡ runs (at + next_len us) (drop 1 us) ys
+    first_token : (at : ℕ) (us : List LexedToken) (t : LexedToken) (vs : List LexedToken)
+        (kind start end : ℕ) (ys : List StrStep) → us ≡ t ∷ vs
+        → runs at us (out.Token kind start end ∷ ys) ≡ runs (at + next_len us) (drop 1 us) ys
     first_token at [] t vs kind start end ys e = absurd (cc)
     first_token at (u ∷ us) t vs kind start end ys e = refl
 runs_woven d at ts (Exit ∷ []) h e =
     let none = none_behind ts e in
-    runs_front_step at ts out.Exit [] ∙ ap (λ u. runs (leading_trivia_end at ts) u (out.Exit ∷ [])) none
+    runs_front_step at ts out.Exit []
+    ∙ ap (λ u. runs (leading_trivia_end at ts) u (out.Exit ∷ [])) none
 runs_woven zero at ts (Exit ∷ x ∷ xs) h e = absurd (cc)
 runs_woven (suc d) at ts (Exit ∷ x ∷ xs) h e = runs_woven d at ts (x ∷ xs) h e
-runs_woven d at ts (Error number ∷ xs) h e = same_place at (runs at ts (weave_from at ts xs)) ∙ runs_woven d at ts xs h e
+runs_woven d at ts (Error number ∷ xs) h e = same_place at (runs at ts (weave_from at ts xs))
+    ∙ runs_woven d at ts xs h e
 
 pub split : (a b : Bool) → (a && b) ≡ true → (a ≡ true) × (b ≡ true)
 split true b h = (refl, h)
@@ -80,7 +104,8 @@ some_len : (n : ℕ) → nat_lt 0 n ≡ true → 0 < n
 some_len n h = grind (arith, nat_tests)
 
 -- no Error stands before the place
-none_before : (q at : ℕ) (ts : List LexedToken) (xs : List StrStep) → q < at → runs at ts xs ≡ true → numbers_at q xs ≡ []
+none_before : (q at : ℕ) (ts : List LexedToken) (xs : List StrStep) → q < at → runs at ts xs ≡ true
+    → numbers_at q xs ≡ []
 none_before q at ts [] h r = refl
 none_before q at ts (out.Enter kind ∷ xs) h r = none_before q at ts xs h r
 none_before q at ts (out.Exit ∷ xs) h r = none_before q at ts xs h r
@@ -89,33 +114,45 @@ none_before q at ts (out.Error number place ∷ xs) h r =
     let is = is_place place at s.0 in
     rw (not_place_back place q (omega arith)) (none_before q at ts xs h s.1)
 none_before q at [] (out.Token kind start end ∷ xs) h r = absurd (cc)
-none_before q at (t ∷ ts) (out.Token kind start end ∷ xs) h r = none_before q (at + t.len) ts xs (omega arith) r
+none_before q at (t ∷ ts) (out.Token kind start end ∷ xs) h r =
+    none_before q (at + t.len) ts xs (omega arith) r
 
 -- the errors from a place on are those of any list with the same numbers from there on
-same_errors : (p : ℕ) (ts : List LexedToken) (xs ys : List StrStep) → ((q : ℕ) → p ≤ q → numbers_at q xs ≡ numbers_at q ys) → errors_from p ts xs ≡ errors_from p ts ys
+same_errors : (p : ℕ) (ts : List LexedToken) (xs ys : List StrStep)
+    → ((q : ℕ) → p ≤ q → numbers_at q xs ≡ numbers_at q ys)
+    → errors_from p ts xs ≡ errors_from p ts ys
 same_errors p [] xs ys h = ap (map (error p p)) (h p (omega arith))
 same_errors p (t ∷ ts) xs ys h =
-    ap (λ ns. map (error p (p + t.len)) ns ++ errors_at p t.faults ++ errors_from (p + t.len) ts xs) (h p (omega arith))
-    ∙ ap (λ es. map (error p (p + t.len)) (numbers_at p ys) ++ errors_at p t.faults ++ es) (same_errors (p + t.len) ts xs ys (λ q le. h q (omega arith)))
+    ap (λ ns. map (error p (p + t.len)) ns ++ errors_at p t.faults
+    ++ errors_from (p + t.len) ts xs) (h p (omega arith))
+    ∙ ap (λ es. map (error p (p + t.len)) (numbers_at p ys) ++ errors_at p t.faults
+    ++ es) (same_errors (p + t.len) ts xs ys (λ q le. h q (omega arith)))
 
 at_place : (at : ℕ) → (at == at) ≡ true
 at_place at = grind (arith, nat_tests)
 
-pub errors_walked : (at : ℕ) (ts : List LexedToken) (xs : List StrStep) → runs at ts xs ≡ true → are_sound ts ≡ true → errors_from at ts xs ≡ walked at ts xs
+pub errors_walked : (at : ℕ) (ts : List LexedToken) (xs : List StrStep) → runs at ts xs ≡ true
+    → are_sound ts ≡ true → errors_from at ts xs ≡ walked at ts xs
 errors_walked at [] [] r s = refl
 errors_walked at (t ∷ ts) [] r s = absurd (cc)
-errors_walked at ts (out.Enter kind ∷ xs) r s = same_errors at ts (out.Enter kind ∷ xs) xs (λ q le. refl) ∙ errors_walked at ts xs r s
-errors_walked at ts (out.Exit ∷ xs) r s = same_errors at ts (out.Exit ∷ xs) xs (λ q le. refl) ∙ errors_walked at ts xs r s
+errors_walked at ts (out.Enter kind ∷ xs) r s =
+    same_errors at ts (out.Enter kind ∷ xs) xs (λ q le. refl) ∙ errors_walked at ts xs r s
+errors_walked at ts (out.Exit ∷ xs) r s = same_errors at ts (out.Exit ∷ xs) xs (λ q le. refl)
+    ∙ errors_walked at ts xs r s
 errors_walked at [] (out.Error number place ∷ xs) r s =
     let p = split (place == at) (runs at [] xs) r in
     let end : at ≡ at + 0 = omega arith in
-    rw p.0 (ap (λ m. error at m number ∷ map (error at at) (numbers_at at xs)) end ∙ ap (λ es. error at (at + 0) number ∷ es) (errors_walked at [] xs p.1 s))
+    rw p.0 (ap (λ m. error at m number ∷ map (error at at) (numbers_at at xs)) end
+    ∙ ap (λ es. error at (at + 0) number ∷ es) (errors_walked at [] xs p.1 s))
 errors_walked at (t ∷ ts) (out.Error number place ∷ xs) r s =
     let p = split (place == at) (runs at (t ∷ ts) xs) r in
     let is = is_place place at p.0 in
-    let some = some_len t.len (split (nat_lt 0 t.len) (faults_within t.len t.faults && are_sound ts) s).0 in
-    let rest = same_errors (at + t.len) ts (out.Error number place ∷ xs) xs (λ q le. let e = not_place place q (omega arith) in rw e refl) in
-    rw (p.0, rest) (ap (λ es. error at (at + t.len) number ∷ es) (errors_walked at (t ∷ ts) xs p.1 s))
+    let some = some_len t.len (split (nat_lt 0 t.len) (faults_within t.len t.faults
+    && are_sound ts) s).0 in
+    let rest = same_errors (at + t.len) ts (out.Error number place ∷ xs) xs (λ q le. let e =
+    not_place place q (omega arith) in rw e refl) in
+    rw (p.0, rest) (ap (λ es. error at (at + t.len) number
+    ∷ es) (errors_walked at (t ∷ ts) xs p.1 s))
 errors_walked at [] (out.Token kind start end ∷ xs) r s = absurd (cc)
 errors_walked at (t ∷ ts) (out.Token kind start end ∷ xs) r s =
     let s1 = split (nat_lt 0 t.len) (faults_within t.len t.faults && are_sound ts) s in
@@ -123,25 +160,38 @@ errors_walked at (t ∷ ts) (out.Token kind start end ∷ xs) r s =
     let some = some_len t.len s1.0 in
     let none = none_before at (at + t.len) ts xs (omega arith) r in
     let rest = same_errors (at + t.len) ts (out.Token kind start end ∷ xs) xs (λ q le. refl) in
-    rw (none, rest) (ap (λ es. errors_at at t.faults ++ es) (errors_walked (at + t.len) ts xs r s2.1))
+    rw (none, rest) (ap (λ es. errors_at at t.faults
+    ++ es) (errors_walked (at + t.len) ts xs r s2.1))
 
-pub errors_whole : (ts : List LexedToken) (xs : List Step) → is_balanced xs ≡ true → token_kinds xs ≡ kinds_without_trivia ts → are_sound ts ≡ true → errors ts (weave ts xs) ≡ walked 0 ts (weave ts xs)
+pub errors_whole : (ts : List LexedToken) (xs : List Step) → is_balanced xs ≡ true
+    → token_kinds xs ≡ kinds_without_trivia ts → are_sound ts ≡ true
+    → errors ts (weave ts xs) ≡ walked 0 ts (weave ts xs)
 errors_whole ts [] h e s = absurd (cc)
-errors_whole ts (Enter kind ∷ xs) h e s = errors_walked 0 ts (weave ts (Enter kind ∷ xs)) (runs_woven 0 0 ts xs h (sym e)) s
+errors_whole ts (Enter kind ∷ xs) h e s =
+    errors_walked 0 ts (weave ts (Enter kind ∷ xs)) (runs_woven 0 0 ts xs h (sym e)) s
 errors_whole ts (Token kind ∷ xs) h e s = absurd (cc)
 errors_whole ts (Exit ∷ xs) h e s = absurd (cc)
 errors_whole ts (Error number ∷ xs) h e s = absurd (cc)
 
-pub errors_of_parse : {E : Type 0} (r : Result Tree E) (ts us : List LexedToken) (kinds : List ℕ) (told : List ℕ → List Step) (xs : List Step) (fresh taken last : Tree) → us ≡ ts → are_sound ts ≡ true
-    → kinds ≡ kinds_without_trivia ts → xs ≡ told kinds → IsLawful kinds xs → fresh ≡ record { steps = []; errors = [] } → taken.steps ≡ fresh.steps ++ weave ts xs → taken.errors ≡ fresh.errors
+pub errors_of_parse : {E : Type 0} (r : Result Tree E) (ts us : List LexedToken) (kinds : List ℕ)
+    (told : List ℕ → List Step) (xs : List Step) (fresh taken last : Tree) → us ≡ ts
+    → are_sound ts ≡ true
+    → kinds ≡ kinds_without_trivia ts → xs ≡ told kinds → IsLawful kinds xs
+    → fresh ≡ record { steps = []; errors = [] } → taken.steps ≡ fresh.steps ++ weave ts xs
+    → taken.errors ≡ fresh.errors
     → last ≡ record { steps = taken.steps; errors = taken.errors ++ walked 0 us taken.steps }
-    → IfOk r (λ parse. parse ≡ record { steps = without_errors last.steps; errors = last.errors }) → IfOk r (λ parse. parse.errors ≡ errors ts (weave ts (told (kinds_without_trivia ts))))
-errors_of_parse (Err e) ts us kinds told xs fresh taken last same sound kinds_are xs_are lawful none steps no_errors last_is is = tt
-errors_of_parse (Ok parse) ts us kinds told xs fresh taken last same sound kinds_are xs_are lawful none steps no_errors last_is is =
-    let whole : taken.steps ≡ weave ts xs = steps ∙ ap (λ (t : Tree). t.steps ++ weave ts xs) none in
+    → IfOk r (λ parse. parse ≡ record { steps = without_errors last.steps; errors = last.errors })
+    → IfOk r (λ parse. parse.errors ≡ errors ts (weave ts (told (kinds_without_trivia ts))))
+errors_of_parse (Err e) ts us kinds told xs fresh taken last same sound kinds_are xs_are lawful none
+    steps no_errors last_is is = tt
+errors_of_parse (Ok parse) ts us kinds told xs fresh taken last same sound kinds_are xs_are lawful
+    none steps no_errors last_is is =
+    let whole : taken.steps ≡ weave ts xs = steps ∙ ap (λ (t : Tree). t.steps ++ weave ts xs) none
+    in
     let clean : taken.errors ≡ [] = no_errors ∙ ap (λ (t : Tree). t.errors) none in
     let given : xs ≡ told (kinds_without_trivia ts) = xs_are ∙ ap told kinds_are in
     ap (λ (t : Tree). t.errors) is ∙ ap (λ (t : Tree). t.errors) last_is
-    ∙ ap (λ es. es ++ walked 0 us taken.steps) clean ∙ ap (λ zs. walked 0 us zs) whole ∙ ap (λ vs. walked 0 vs (weave ts xs)) same
+    ∙ ap (λ es. es ++ walked 0 us taken.steps) clean ∙ ap (λ zs. walked 0 us zs) whole
+    ∙ ap (λ vs. walked 0 vs (weave ts xs)) same
     ∙ sym (errors_whole ts xs lawful.balanced (lawful.tokens ∙ kinds_are) sound)
     ∙ ap (λ zs. errors ts (weave ts zs)) given

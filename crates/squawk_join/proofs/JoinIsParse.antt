@@ -10,44 +10,58 @@ use Rattle.squawk_statements.specs.Plain.{plain}
 use Rattle.squawk_statements.specs.PlainIsLawful.{plain_lawful}
 use Rattle.squawk_statements.specs.declared.division.Division.{Division}
 use Rattle.squawk_join.specs.Errors.{errors}
-use Rattle.squawk_join.specs.Join.{child_woven, shifted, moved, joined_from, joined_errors, lex_form}
+use Rattle.squawk_join.specs.Join.{child_woven, shifted, moved, joined_from, joined_errors, lexed_role}
 use Rattle.squawk_join.specs.ParseOf.{parse_of, child_of, steps_from, errors_of, join}
 use Rattle.squawk_join.specs.Tree.{without_errors}
 use Rattle.squawk_join.proofs.ErrorLemmas.{errors_whole}
 use Rattle.squawk_join.proofs.JoinLemmas.{join_law}
 use Rattle.squawk_join.proofs.JoinErrorLemmas.{join_errors_law, has_no_trivia_kept}
 
-pub without-append : (xs ys : List StrStep) → without_errors (xs ++ ys) ≡ without_errors xs ++ without_errors ys
+pub without-append : (xs ys : List StrStep) → without_errors (xs ++ ys)
+    ≡ without_errors xs ++ without_errors ys
 without-append [] ys = refl
 without-append (Enter kind ∷ xs) ys = ap (λ zs. Enter kind ∷ zs) (without-append xs ys)
-without-append (Token kind start end ∷ xs) ys = ap (λ zs. Token kind start end ∷ zs) (without-append xs ys)
+without-append (Token kind start end ∷ xs) ys =
+    ap (λ zs. Token kind start end ∷ zs) (without-append xs ys)
 without-append (Exit ∷ xs) ys = ap (λ zs. Exit ∷ zs) (without-append xs ys)
 without-append (Error number at ∷ xs) ys = without-append xs ys
 
-without-shifted : (n : ℕ) (xs : List StrStep) → without_errors (map (shifted n) xs) ≡ map (shifted n) (without_errors xs)
+without-shifted : (n : ℕ) (xs : List StrStep)
+    → without_errors (map (shifted n) xs) ≡ map (shifted n) (without_errors xs)
 without-shifted n [] = refl
 without-shifted n (Enter kind ∷ xs) = ap (λ zs. Enter kind ∷ zs) (without-shifted n xs)
-without-shifted n (Token kind start end ∷ xs) = ap (λ zs. Token kind (start + n) (end + n) ∷ zs) (without-shifted n xs)
+without-shifted n (Token kind start end ∷ xs) =
+    ap (λ zs. Token kind (start + n) (end + n) ∷ zs) (without-shifted n xs)
 without-shifted n (Exit ∷ xs) = ap (λ zs. Exit ∷ zs) (without-shifted n xs)
 without-shifted n (Error number at ∷ xs) = without-shifted n xs
 
-steps-joined : (d : Division) (at : ℕ) (ps : List (List LexedToken)) → without_errors (joined_from d at ps) ≡ steps_from at (map (child_of d) ps)
+steps-joined : (d : Division) (at : ℕ) (ps : List (List LexedToken))
+    → without_errors (joined_from d at ps) ≡ steps_from at (map (child_of d) ps)
 steps-joined d at [] = refl
 steps-joined d at (p ∷ ps) =
     without-append (map (shifted at) (child_woven d 0 p)) (joined_from d (at + total_len p) ps)
-    ∙ ap (λ zs. zs ++ without_errors (joined_from d (at + total_len p) ps)) (without-shifted at (child_woven d 0 p))
-    ∙ ap (λ zs. map (shifted at) (without_errors (child_woven d 0 p)) ++ zs) (steps-joined d (at + total_len p) ps)
+    ∙ ap (λ zs. zs ++ without_errors (joined_from d (at + total_len p) ps))
+    (without-shifted at (child_woven d 0 p))
+    ∙ ap (λ zs. map (shifted at) (without_errors (child_woven d 0 p))
+    ++ zs) (steps-joined d (at + total_len p) ps)
 
-errors-joined : (d : Division) (at : ℕ) (ps : List (List LexedToken)) → joined_errors d at ps ≡ errors_of at (map (child_of d) ps)
+errors-joined : (d : Division) (at : ℕ) (ps : List (List LexedToken))
+    → joined_errors d at ps ≡ errors_of at (map (child_of d) ps)
 errors-joined d at [] = refl
-errors-joined d at (p ∷ ps) = ap (λ es. map (moved at) (errors p (child_woven d 0 p)) ++ es) (errors-joined d (at + total_len p) ps)
+errors-joined d at (p ∷ ps) = ap (λ es. map (moved at) (errors p (child_woven d 0 p))
+    ++ es) (errors-joined d (at + total_len p) ps)
 
-pub parse-joined : (d : Division) (ts : List LexedToken) → are_sound ts ≡ true → parse_of d ts ≡ join (map (child_of d) (parts lex_form d ts))
+pub parse-joined : (d : Division) (ts : List LexedToken) → are_sound ts ≡ true
+    → parse_of d ts ≡ join (map (child_of d) (parts lexed_role d ts))
 parse-joined d ts sound =
     let lawful = plain_lawful d (kinds_without_trivia ts) (has_no_trivia_kept ts) in
-    let steps : without_errors (weave ts (plain d (kinds_without_trivia ts))) ≡ Enter SOURCE_FILE ∷ steps_from 0 (map (child_of d) (parts lex_form d ts)) ++ Exit ∷ [] =
+    let steps : without_errors (weave ts (plain d (kinds_without_trivia ts)))
+    ≡ Enter SOURCE_FILE ∷ steps_from 0 (map (child_of d) (parts lexed_role d ts)) ++ Exit ∷ [] =
     ap without_errors (join_law d ts)
-    ∙ ap (λ zs. Enter SOURCE_FILE ∷ zs) (without-append (joined_from d 0 (parts lex_form d ts)) (Exit ∷ []) ∙ ap (λ zs. zs ++ Exit ∷ []) (steps-joined d 0 (parts lex_form d ts))) in
-    let own : errors ts (weave ts (plain d (kinds_without_trivia ts))) ≡ errors_of 0 (map (child_of d) (parts lex_form d ts)) =
-    join_errors_law d ts sound (errors_whole ts (plain d (kinds_without_trivia ts)) lawful.balanced lawful.tokens sound) ∙ errors-joined d 0 (parts lex_form d ts) in
+    ∙ ap (λ zs. Enter SOURCE_FILE ∷ zs) (without-append (joined_from d 0 (parts lexed_role d ts))
+    (Exit ∷ []) ∙ ap (λ zs. zs ++ Exit ∷ []) (steps-joined d 0 (parts lexed_role d ts))) in
+    let own : errors ts (weave ts (plain d (kinds_without_trivia ts)))
+    ≡ errors_of 0 (map (child_of d) (parts lexed_role d ts)) =
+    join_errors_law d ts sound (errors_whole ts (plain d (kinds_without_trivia ts)) lawful.balanced
+    lawful.tokens sound) ∙ errors-joined d 0 (parts lexed_role d ts) in
     rw (steps, own) refl

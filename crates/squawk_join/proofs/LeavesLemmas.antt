@@ -26,32 +26,43 @@ begins_with_of xs ys is = rw is (begins_with_same xs)
 leaves_append : (xs ys : List StrStep) → leaves (xs ++ ys) ≡ leaves xs ++ leaves ys
 leaves_append [] ys = refl
 leaves_append (out.Enter kind ∷ xs) ys = leaves_append xs ys
-leaves_append (out.Token kind start end ∷ xs) ys = ap (λ ls. record { kind = kind; start = start; end = end } ∷ ls) (leaves_append xs ys)
+leaves_append (out.Token kind start end ∷ xs) ys =
+    ap (λ ls. record { kind = kind; start = start; end = end } ∷ ls) (leaves_append xs ys)
 leaves_append (out.Exit ∷ xs) ys = leaves_append xs ys
 leaves_append (out.Error number at ∷ xs) ys = leaves_append xs ys
 
 pub leaves_kept : (xs : List StrStep) → leaves (without_errors xs) ≡ leaves xs
 leaves_kept [] = refl
 leaves_kept (out.Enter kind ∷ xs) = leaves_kept xs
-leaves_kept (out.Token kind start end ∷ xs) = ap (λ ls. record { kind = kind; start = start; end = end } ∷ ls) (leaves_kept xs)
+leaves_kept (out.Token kind start end ∷ xs) =
+    ap (λ ls. record { kind = kind; start = start; end = end } ∷ ls) (leaves_kept xs)
 leaves_kept (out.Exit ∷ xs) = leaves_kept xs
 leaves_kept (out.Error number at ∷ xs) = leaves_kept xs
 
 -- the trivia at the front, and then what is behind them
-front_laid : (at : ℕ) (ts : List LexedToken) → leaves (leading_trivia at ts) ++ laid (leading_trivia_end at ts) (after_leading_trivia ts) ≡ laid at ts
+front_laid : (at : ℕ) (ts : List LexedToken) → leaves (leading_trivia at ts)
+    ++ laid (leading_trivia_end at ts) (after_leading_trivia ts) ≡ laid at ts
 front_laid at [] = refl
 front_laid at (t ∷ ts) = by (is_trivia_kind t.kind) (front_laid (at + t.len) ts)
   where
-    by : (b : Bool) → leaves (leading_trivia (at + t.len) ts) ++ laid (leading_trivia_end (at + t.len) ts) (after_leading_trivia ts) ≡ laid (at + t.len) ts
-        → leaves (cond b (out.Token t.kind at (at + t.len) ∷ leading_trivia (at + t.len) ts) []) ++ laid (cond b (leading_trivia_end (at + t.len) ts) at) (cond b (after_leading_trivia ts) (t ∷ ts)) ≡ laid at (t ∷ ts)
+    by : (b : Bool) → leaves (leading_trivia (at + t.len) ts)
+        ++ laid (leading_trivia_end (at + t.len) ts) (after_leading_trivia ts)
+        ≡ laid (at + t.len) ts
+        → leaves (cond b (out.Token t.kind at (at + t.len) ∷ leading_trivia (at + t.len) ts) [])
+        ++ laid (cond b (leading_trivia_end (at + t.len) ts) at)
+        (cond b (after_leading_trivia ts) (t ∷ ts)) ≡ laid at (t ∷ ts)
     by true rest = ap (λ ls. record { kind = t.kind; start = at; end = at + t.len } ∷ ls) rest
     by false rest = refl
 
-pub kept_behind : (ts : List LexedToken) → kinds_without_trivia (after_leading_trivia ts) ≡ kinds_without_trivia ts
+pub kept_behind : (ts : List LexedToken) → kinds_without_trivia (after_leading_trivia ts)
+    ≡ kinds_without_trivia ts
 kept_behind [] = refl
 kept_behind (t ∷ ts) = by (is_trivia_kind t.kind) refl (kept_behind ts)
   where
-    by : (b : Bool) → is_trivia_kind t.kind ≡ b → kinds_without_trivia (after_leading_trivia ts) ≡ kinds_without_trivia ts → kinds_without_trivia (cond b (after_leading_trivia ts) (t ∷ ts)) ≡ cond b [] (t.kind ∷ []) ++ kinds_without_trivia ts
+    by : (b : Bool) → is_trivia_kind t.kind ≡ b
+        → kinds_without_trivia (after_leading_trivia ts) ≡ kinds_without_trivia ts
+        → kinds_without_trivia (cond b (after_leading_trivia ts) (t ∷ ts))
+        ≡ cond b [] (t.kind ∷ []) ++ kinds_without_trivia ts
     by true is rest = rest
     by false is rest = rw is refl
 
@@ -63,63 +74,117 @@ pub record Next (behind : List LexedToken) (kind : ℕ) (kinds : List ℕ) : Typ
   pub kind_is : token.kind ≡ kind
   pub kinds_are : kinds_without_trivia rest ≡ kinds
 
-pub next_of : (ts : List LexedToken) (kind : ℕ) (kinds : List ℕ) → kinds_without_trivia ts ≡ kind ∷ kinds → Next (after_leading_trivia ts) kind kinds
+pub next_of : (ts : List LexedToken) (kind : ℕ) (kinds : List ℕ)
+    → kinds_without_trivia ts ≡ kind ∷ kinds → Next (after_leading_trivia ts) kind kinds
 next_of [] kind kinds e = absurd (cc)
 next_of (t ∷ ts) kind kinds e = by (is_trivia_kind t.kind) e (next_of ts kind kinds)
   where
-    by : (b : Bool) → cond b [] (t.kind ∷ []) ++ kinds_without_trivia ts ≡ kind ∷ kinds → (kinds_without_trivia ts ≡ kind ∷ kinds → Next (after_leading_trivia ts) kind kinds) → Next (cond b (after_leading_trivia ts) (t ∷ ts)) kind kinds
+    by : (b : Bool) → cond b [] (t.kind ∷ []) ++ kinds_without_trivia ts ≡ kind ∷ kinds
+        → (kinds_without_trivia ts ≡ kind ∷ kinds → Next (after_leading_trivia ts) kind kinds)
+        → Next (cond b (after_leading_trivia ts) (t ∷ ts)) kind kinds
     by true e rest = rest e
     by false e rest = record { token = t; rest = ts; is = refl; kind_is = cc; kinds_are = cc }
 
-pub none_behind : (ts : List LexedToken) → kinds_without_trivia ts ≡ [] → after_leading_trivia ts ≡ []
+pub none_behind : (ts : List LexedToken) → kinds_without_trivia ts ≡ []
+    → after_leading_trivia ts ≡ []
 none_behind [] e = refl
 none_behind (t ∷ ts) e = by (is_trivia_kind t.kind) e (none_behind ts)
   where
-    by : (b : Bool) → cond b [] (t.kind ∷ []) ++ kinds_without_trivia ts ≡ [] → (kinds_without_trivia ts ≡ [] → after_leading_trivia ts ≡ []) → cond b (after_leading_trivia ts) (t ∷ ts) ≡ []
+    by : (b : Bool) → cond b [] (t.kind ∷ []) ++ kinds_without_trivia ts ≡ []
+        → (kinds_without_trivia ts ≡ [] → after_leading_trivia ts ≡ [])
+        → cond b (after_leading_trivia ts) (t ∷ ts) ≡ []
     by true e rest = rest e
     by false e rest = absurd (cc)
 
 pub never_closed : (d : ℕ) {P : Type 0} → closes (suc d) [] ≡ true → P
 never_closed d h = absurd (let e : suc d ≡ 0 = grind (arith, nat_tests) in omega arith)
 
-pub leaves_woven : (d at : ℕ) (ts : List LexedToken) (xs : List Step) → closes (suc d) xs ≡ true → kinds_without_trivia ts ≡ token_kinds xs → leaves (weave_from at ts xs) ≡ laid at ts
+pub leaves_woven : (d at : ℕ) (ts : List LexedToken) (xs : List Step) → closes (suc d) xs ≡ true
+    → kinds_without_trivia ts ≡ token_kinds xs → leaves (weave_from at ts xs) ≡ laid at ts
 leaves_woven d at ts [] h e = never_closed d h
 leaves_woven d at ts (Enter kind ∷ xs) h e =
-    leaves_append (leading_trivia at ts ++ out.Enter kind ∷ []) (weave_from (leading_trivia_end at ts) (after_leading_trivia ts) xs)
-    ∙ ap (λ ls. ls ++ leaves (weave_from (leading_trivia_end at ts) (after_leading_trivia ts) xs)) (leaves_append (leading_trivia at ts) (out.Enter kind ∷ []) ∙ append-nil (leaves (leading_trivia at ts)))
-    ∙ ap (λ ls. leaves (leading_trivia at ts) ++ ls) (leaves_woven (suc d) (leading_trivia_end at ts) (after_leading_trivia ts) xs h (kept_behind ts ∙ e))
+    leaves_append (leading_trivia at ts ++ out.Enter kind
+    ∷ []) (weave_from (leading_trivia_end at ts) (after_leading_trivia ts) xs)
+    ∙ ap (λ ls. ls ++ leaves (weave_from (leading_trivia_end at ts) (after_leading_trivia ts) xs))
+    (leaves_append (leading_trivia at ts) (out.Enter kind ∷ [])
+    ∙ append-nil (leaves (leading_trivia at ts)))
+    ∙ ap (λ ls. leaves (leading_trivia at ts)
+    ++ ls) (leaves_woven (suc d) (leading_trivia_end at ts) (after_leading_trivia ts) xs h
+    (kept_behind ts ∙ e))
     ∙ front_laid at ts
 leaves_woven d at ts (Token kind ∷ xs) h e =
     let next = next_of ts kind (token_kinds xs) e in
-    let here : laid (leading_trivia_end at ts) (after_leading_trivia ts) ≡ record { kind = kind; start = leading_trivia_end at ts; end = leading_trivia_end at ts + next_len (after_leading_trivia ts) } ∷ laid (leading_trivia_end at ts + next_len (after_leading_trivia ts)) (drop 1 (after_leading_trivia ts)) = rw (next.is, next.kind_is) refl in
-    let kinds : kinds_without_trivia (drop 1 (after_leading_trivia ts)) ≡ token_kinds xs = rw next.is next.kinds_are in
-    let more = leaves_woven d (leading_trivia_end at ts + next_len (after_leading_trivia ts)) (drop 1 (after_leading_trivia ts)) xs h kinds in
-    leaves_append (leading_trivia at ts ++ out.Token kind (leading_trivia_end at ts) (leading_trivia_end at ts + next_len (after_leading_trivia ts)) ∷ []) (weave_from (leading_trivia_end at ts + next_len (after_leading_trivia ts)) (drop 1 (after_leading_trivia ts)) xs)
-    ∙ ap (λ ls. ls ++ leaves (weave_from (leading_trivia_end at ts + next_len (after_leading_trivia ts)) (drop 1 (after_leading_trivia ts)) xs)) (leaves_append (leading_trivia at ts) (out.Token kind (leading_trivia_end at ts) (leading_trivia_end at ts + next_len (after_leading_trivia ts)) ∷ []))
-    ∙ append_assoc (leaves (leading_trivia at ts)) (record { kind = kind; start = leading_trivia_end at ts; end = leading_trivia_end at ts + next_len (after_leading_trivia ts) } ∷ []) _
-    ∙ ap (λ ls. leaves (leading_trivia at ts) ++ record { kind = kind; start = leading_trivia_end at ts; end = leading_trivia_end at ts + next_len (after_leading_trivia ts) } ∷ ls) more
+    let here : laid (leading_trivia_end at ts) (after_leading_trivia ts)
+    ≡ record {
+      kind = kind;
+      start = leading_trivia_end at ts;
+      end =
+          leading_trivia_end at ts + next_len (after_leading_trivia ts);
+    }
+    ∷ laid (leading_trivia_end at ts + next_len (after_leading_trivia ts))
+    (drop 1 (after_leading_trivia ts)) = rw (next.is, next.kind_is) refl in
+    let kinds : kinds_without_trivia (drop 1 (after_leading_trivia ts)) ≡ token_kinds xs =
+    rw next.is next.kinds_are in
+    let more = leaves_woven d (leading_trivia_end at ts + next_len (after_leading_trivia ts))
+    (drop 1 (after_leading_trivia ts)) xs h kinds in
+    leaves_append (leading_trivia at ts
+    ++ out.Token kind (leading_trivia_end at ts) (leading_trivia_end at ts
+    + next_len (after_leading_trivia ts))
+    ∷ []) (weave_from (leading_trivia_end at ts + next_len (after_leading_trivia ts))
+    (drop 1 (after_leading_trivia ts)) xs)
+    ∙ ap (λ ls. ls
+    ++ leaves (weave_from (leading_trivia_end at ts + next_len (after_leading_trivia ts))
+    (drop 1 (after_leading_trivia ts)) xs))
+    (leaves_append (leading_trivia at ts)
+    (out.Token kind (leading_trivia_end at ts) (leading_trivia_end at ts
+    + next_len (after_leading_trivia ts)) ∷ []))
+    ∙ append_assoc (leaves (leading_trivia at ts)) (record {
+      kind = kind;
+      start =
+          leading_trivia_end at ts;
+      end =
+          leading_trivia_end at ts + next_len (after_leading_trivia ts);
+    } ∷ []) _
+    ∙ ap (λ ls. leaves (leading_trivia at ts) ++ record {
+      kind = kind;
+      start =
+          leading_trivia_end at ts;
+      end =
+          leading_trivia_end at ts + next_len (after_leading_trivia ts);
+    } ∷ ls) more
     ∙ ap (λ ls. leaves (leading_trivia at ts) ++ ls) (sym here)
     ∙ front_laid at ts
 leaves_woven d at ts (Exit ∷ []) h e =
     let none = none_behind ts e in
     ap leaves (append-nil (leading_trivia at ts ++ out.Exit ∷ []))
     ∙ leaves_append (leading_trivia at ts) (out.Exit ∷ [])
-    ∙ ap (λ ls. leaves (leading_trivia at ts) ++ ls) (let e : [] ≡ laid (leading_trivia_end at ts) (after_leading_trivia ts) = rw none refl in e)
+    ∙ ap (λ ls. leaves (leading_trivia at ts) ++ ls) (let e : []
+    ≡ laid (leading_trivia_end at ts) (after_leading_trivia ts) = rw none refl in e)
     ∙ front_laid at ts
 leaves_woven zero at ts (Exit ∷ x ∷ xs) h e = absurd (cc)
 leaves_woven (suc d) at ts (Exit ∷ x ∷ xs) h e = leaves_woven d at ts (x ∷ xs) h e
 leaves_woven d at ts (Error number ∷ xs) h e = leaves_woven d at ts xs h e
 
-pub leaves_whole : (ts : List LexedToken) (xs : List Step) → is_balanced xs ≡ true → token_kinds xs ≡ kinds_without_trivia ts → leaves (without_errors (weave ts xs)) ≡ laid 0 ts
+pub leaves_whole : (ts : List LexedToken) (xs : List Step) → is_balanced xs ≡ true
+    → token_kinds xs ≡ kinds_without_trivia ts → leaves (without_errors (weave ts xs)) ≡ laid 0 ts
 leaves_whole ts [] h e = absurd (cc)
-leaves_whole ts (Enter kind ∷ xs) h e = leaves_kept (weave ts (Enter kind ∷ xs)) ∙ leaves_woven 0 0 ts xs h (sym e)
+leaves_whole ts (Enter kind ∷ xs) h e = leaves_kept (weave ts (Enter kind ∷ xs))
+    ∙ leaves_woven 0 0 ts xs h (sym e)
 leaves_whole ts (Token kind ∷ xs) h e = absurd (cc)
 leaves_whole ts (Exit ∷ xs) h e = absurd (cc)
 leaves_whole ts (Error number ∷ xs) h e = absurd (cc)
 
-pub leaves_of_parse : {E : Type 0} (r : Result Tree E) (ts : List LexedToken) (kinds : List ℕ) (xs : List Step) (fresh taken : Tree) → kinds ≡ kinds_without_trivia ts → IsLawful kinds xs
-    → fresh ≡ record { steps = []; errors = [] } → taken.steps ≡ fresh.steps ++ weave ts xs → IfOk r (λ parse. parse ≡ record { steps = without_errors taken.steps; errors = taken.errors }) → IfOk r (λ parse. leaves parse.steps ≡ laid 0 ts)
+pub leaves_of_parse : {E : Type 0} (r : Result Tree E) (ts : List LexedToken) (kinds : List ℕ)
+    (xs : List Step) (fresh taken : Tree) → kinds ≡ kinds_without_trivia ts → IsLawful kinds xs
+    → fresh ≡ record { steps = []; errors = [] } → taken.steps ≡ fresh.steps ++ weave ts xs
+    → IfOk r (λ parse. parse ≡ record {
+      steps = without_errors taken.steps;
+      errors =
+          taken.errors;
+    }) → IfOk r (λ parse. leaves parse.steps ≡ laid 0 ts)
 leaves_of_parse (Ok parse) ts kinds xs fresh taken kinds_are lawful none steps is =
-    let whole : taken.steps ≡ weave ts xs = steps ∙ ap (λ (t : Tree). t.steps ++ weave ts xs) none in
-    ap (λ (t : Tree). leaves t.steps) is ∙ ap (λ ys. leaves (without_errors ys)) whole ∙ leaves_whole ts xs lawful.balanced (lawful.tokens ∙ kinds_are)
+    let whole : taken.steps ≡ weave ts xs = steps ∙ ap (λ (t : Tree). t.steps ++ weave ts xs) none
+    in
+    ap (λ (t : Tree). leaves t.steps) is ∙ ap (λ ys. leaves (without_errors ys)) whole
+    ∙ leaves_whole ts xs lawful.balanced (lawful.tokens ∙ kinds_are)
 leaves_of_parse (Err e) ts kinds xs fresh taken kinds_are lawful none steps is = tt

@@ -7,14 +7,15 @@ use Rattle.squawk_events.specs.Kinds.{is_trivia_kind}
 use Rattle.squawk_events.specs.declared.steps.Step.TheVariants.{Exit}
 use Rattle.squawk_events.specs.declared.steps.StrStep.{StrStep}
 use Rattle.squawk_events.specs.declared.steps.StrStep.TheVariants as out
-use Rattle.squawk_join.specs.Join.{lex_form, child_woven}
+use Rattle.squawk_join.specs.Join.{lexed_role, child_woven}
 use Rattle.squawk_join.specs.Steps.{Node, closes, root_children_from, root_children, root_child}
 use Rattle.squawk_join.specs.Tree.{leaves, laid, without_errors}
 use Rattle.squawk_woven.specs.Weave.{kinds_without_trivia, total_len, weave_from, weave}
 use Rattle.squawk_woven.specs.declared.lex.LexedToken.{LexedToken}
-use Rattle.squawk_lexer.specs.Cut.{Form, is_trivia, Trivia, Semicolon, Terminator, Command, Open, Close, Other}
+use Rattle.squawk_kinds.specs.Role.{Role, is_trivia, Trivia, Semicolon, Terminator, Command, Open, Close, Other}
 use Rattle.squawk_statements.specs.Children.{Child, ends_statement, open_groups_after, statement_end, trimmed_len, statement, child_from, more_of, parts, parts_from, children, children_from}
-use Rattle.squawk_statements.specs.Kinds.{form, form_trivia}
+use Rattle.squawk_kinds.specs.Role.{role}
+use Rattle.squawk_statements.specs.Kinds.{role_trivia}
 use Rattle.squawk_statements.specs.Plain.{node_of, unknown_statement_error, body_steps, child_steps, plain}
 use Rattle.squawk_statements.specs.PlainIsLawful.{child_balanced, child_tokens}
 use Rattle.squawk_statements.specs.declared.division.Division.{Division}
@@ -25,20 +26,25 @@ use Rattle.squawk_join.proofs.JoinLemmas.{placed, placed_from, node_woven, leaf_
 use Rattle.squawk_join.proofs.LeavesLemmas.{leaves_woven, leaves_kept}
 
 -- from inside a node, up to its Exit
-inside : (d n : ℕ) (xs rest : List StrStep) → closes (suc d) xs ≡ true → root_children_from (suc d) n (xs ++ rest) ≡ Node (n + length (leaves xs)) ∷ root_children_from 0 0 rest
+inside : (d n : ℕ) (xs rest : List StrStep) → closes (suc d) xs ≡ true
+    → root_children_from (suc d) n (xs ++ rest)
+    ≡ Node (n + length (leaves xs)) ∷ root_children_from 0 0 rest
 inside d n [] rest h = absurd (no d h)
   where
     no : (d : ℕ) → (suc d == 0) ≡ true → ⊥
     no d h = let e : suc d ≡ 0 = eqb-true (suc d) 0 h in omega arith
 inside d n (out.Enter kind ∷ xs) rest h = inside (suc d) n xs rest h
 inside d n (out.Token kind start end ∷ xs) rest h =
-    inside d (n + 1) xs rest h ∙ ap (λ m. Node m ∷ root_children_from 0 0 rest) (let e : n + 1 + length (leaves xs) ≡ n + suc (length (leaves xs)) = omega arith in e)
-inside zero n (out.Exit ∷ []) rest h = ap (λ m. Node m ∷ root_children_from 0 0 rest) (let e : n ≡ n + 0 = omega arith in e)
+    inside d (n + 1) xs rest h ∙ ap (λ m. Node m
+    ∷ root_children_from 0 0 rest) (let e : n + 1 + length (leaves xs)
+    ≡ n + suc (length (leaves xs)) = omega arith in e)
+inside zero n (out.Exit ∷ []) rest h =
+    ap (λ m. Node m ∷ root_children_from 0 0 rest) (let e : n ≡ n + 0 = omega arith in e)
 inside zero n (out.Exit ∷ x ∷ xs) rest h = absurd (cc)
 inside (suc d) n (out.Exit ∷ xs) rest h = inside d n xs rest h
 inside d n (out.Error number at ∷ xs) rest h = inside d n xs rest h
 
-solid_len-le : (fs : List Form) → trimmed_len fs ≤ length fs
+solid_len-le : (fs : List Role) → trimmed_len fs ≤ length fs
 solid_len-le [] = omega arith
 solid_len-le (f ∷ fs) = by (is_trivia f && trimmed_len fs == 0) (solid_len-le fs)
   where
@@ -50,12 +56,15 @@ Within : Option ℕ → ℕ → Type 0
 Within None n = Unit {0}
 Within (Some m) n = m ≤ n
 
-closing-le : (d : Division) (g : ℕ) (fs : List Form) → Within (statement_end d g fs) (length fs)
+closing-le : (d : Division) (g : ℕ) (fs : List Role) → Within (statement_end d g fs) (length fs)
 unfolding Within
 closing-le d g [] = tt
-closing-le d g (f ∷ fs) = by (ends_statement d g f) (statement_end d (open_groups_after g f) fs) (closing-le d (open_groups_after g f) fs)
+closing-le d g (f ∷ fs) =
+    by (ends_statement d g f) (statement_end d (open_groups_after g f) fs)
+    (closing-le d (open_groups_after g f) fs)
   where
-    by : (b : Bool) (found : Option ℕ) → Within found (length fs) → Within (cond b (Some 1) (option_map suc found)) (suc (length fs))
+    by : (b : Bool) (found : Option ℕ) → Within found (length fs)
+        → Within (cond b (Some 1) (option_map suc found)) (suc (length fs))
     by true found h = omega arith
     by false None h = tt
     by false (Some m) h = omega arith
@@ -65,12 +74,14 @@ record Sized (c : Child) (n : ℕ) : Type 0 where
   within : c.more ≤ n
   node : c.is_node ≡ true
 
-statement-sized : (found : Option ℕ) (fs : List Form) → Within found (length fs) → Sized (statement found fs) (length fs)
+statement-sized : (found : Option ℕ) (fs : List Role) → Within found (length fs)
+    → Sized (statement found fs) (length fs)
 unfolding Within
 statement-sized None fs h = record { within = solid_len-le fs; node = refl }
 statement-sized (Some m) fs h = record { within = h; node = refl }
 
-first-sized : (d : Division) (f : Form) (fs : List Form) → is_trivia f ≡ false → Sized (child_from d f fs) (length fs)
+first-sized : (d : Division) (f : Role) (fs : List Role) → is_trivia f ≡ false
+    → Sized (child_from d f fs) (length fs)
 first-sized d Trivia fs h = cc
 first-sized d Semicolon fs h = record { within = omega arith; node = refl }
 first-sized d Terminator fs h = record { within = omega arith; node = refl }
@@ -84,69 +95,98 @@ length-laid at [] = refl
 length-laid at (t ∷ ts) = ap suc (length-laid (at + t.len) ts)
 
 -- a child that is a node
-node_root : (d : Division) (at : ℕ) (t : LexedToken) (ts : List LexedToken) (rest : List StrStep) → is_trivia_kind t.kind ≡ false
-    → root_children_from 0 0 (without_errors (child_woven d at (t ∷ ts)) ++ rest) ≡ Node (length (t ∷ ts)) ∷ root_children_from 0 0 rest
+node_root : (d : Division) (at : ℕ) (t : LexedToken) (ts : List LexedToken) (rest : List StrStep)
+    → is_trivia_kind t.kind ≡ false
+    → root_children_from 0 0 (without_errors (child_woven d at (t ∷ ts)) ++ rest)
+    ≡ Node (length (t ∷ ts)) ∷ root_children_from 0 0 rest
 node_root d at t ts rest is =
     let ks = kinds_without_trivia (t ∷ ts) in
     let xs = unknown_statement_error (node_of ks) ++ body_steps d 0 ks ++ Exit ∷ [] in
     let inner = weave_from at (t ∷ ts) xs in
-    let none : weave_from at (t ∷ ts) (child_steps d ks) ≡ out.Enter (node_of ks) ∷ inner = rw is refl in
-    let tree : closes 1 (without_errors inner) ≡ true = closes-woven 0 at (t ∷ ts) xs (child_balanced d ks) in
+    let none : weave_from at (t ∷ ts) (child_steps d ks) ≡ out.Enter (node_of ks) ∷ inner =
+    rw is refl in
+    let tree : closes 1 (without_errors inner) ≡ true =
+    closes-woven 0 at (t ∷ ts) xs (child_balanced d ks) in
     let count : length (leaves (without_errors inner)) ≡ length (t ∷ ts) =
-    ap length (leaves_kept inner ∙ leaves_woven 0 at (t ∷ ts) xs (child_balanced d ks) (sym (child_tokens d ks))) ∙ length-laid at (t ∷ ts) in
+    ap length (leaves_kept inner ∙ leaves_woven 0 at (t
+    ∷ ts) xs (child_balanced d ks) (sym (child_tokens d ks))) ∙ length-laid at (t ∷ ts) in
     ap (λ zs. root_children_from 0 0 (without_errors zs ++ rest)) (node_woven d at t ts is ∙ none)
     ∙ inside 0 0 (without_errors inner) rest tree
-    ∙ ap (λ m. Node m ∷ root_children_from 0 0 rest) (let e : 0 + length (leaves (without_errors inner)) ≡ length (leaves (without_errors inner)) = omega arith in e ∙ count)
+    ∙ ap (λ m. Node m ∷ root_children_from 0 0 rest)
+    (let e : 0 + length (leaves (without_errors inner))
+    ≡ length (leaves (without_errors inner)) = omega arith in e ∙ count)
 
 -- the first child
 child_root : (d : Division) (at : ℕ) (t : LexedToken) (ts : List LexedToken) (rest : List StrStep)
-    → root_children_from 0 0 (without_errors (child_woven d at (t ∷ take (more_of lex_form d t ts) ts)) ++ rest) ≡ root_child (child_from d (form t.kind) (map lex_form ts)) ∷ root_children_from 0 0 rest
+    → root_children_from 0 0 (without_errors (child_woven d at (t
+    ∷ take (more_of lexed_role d t ts) ts)) ++ rest)
+    ≡ root_child (child_from d (role t.kind) (map lexed_role ts)) ∷ root_children_from 0 0 rest
 child_root d at t ts rest = by (is_trivia_kind t.kind) refl
   where
     by : (b : Bool) → is_trivia_kind t.kind ≡ b
-        → root_children_from 0 0 (without_errors (child_woven d at (t ∷ take (more_of lex_form d t ts) ts)) ++ rest) ≡ root_child (child_from d (form t.kind) (map lex_form ts)) ∷ root_children_from 0 0 rest
+        → root_children_from 0 0 (without_errors
+        (child_woven d at (t ∷ take (more_of lexed_role d t ts) ts)) ++ rest)
+        ≡ root_child (child_from d (role t.kind) (map lexed_role ts))
+        ∷ root_children_from 0 0 rest
     by true is =
-        ap (λ zs. root_children_from 0 0 (without_errors zs ++ rest)) (leaf_woven d at t (take (more_of lex_form d t ts) ts) is)
-        ∙ ap (λ f. root_child (child_from d f (map lex_form ts)) ∷ root_children_from 0 0 rest) (sym (trivia_form (form t.kind) (form_trivia t.kind ∙ is)))
+        ap (λ zs. root_children_from 0 0 (without_errors zs ++ rest))
+        (leaf_woven d at t (take (more_of lexed_role d t ts) ts) is)
+        ∙ ap (λ f. root_child (child_from d f (map lexed_role ts))
+        ∷ root_children_from 0 0 rest) (sym (trivia_form (role t.kind) (role_trivia t.kind
+        ∙ is)))
     by false is =
-        let sized = first-sized d (form t.kind) (map lex_form ts) (form_trivia t.kind ∙ is) in
-        let all : length (map lex_form ts) ≡ length ts = length-map ts lex_form in
+        let sized = first-sized d (role t.kind) (map lexed_role ts) (role_trivia t.kind ∙ is) in
+        let all : length (map lexed_role ts) ≡ length ts = length-map ts lexed_role in
         let within = sized.within in
-        let taken : length (take (more_of lex_form d t ts) ts) ≡ more_of lex_form d t ts = length-take-le (more_of lex_form d t ts) ts (omega arith) in
-        let child : Node (length (t ∷ take (more_of lex_form d t ts) ts)) ≡ root_child (child_from d (form t.kind) (map lex_form ts)) =
-        rw sized.node (ap Node (let e : suc (length (take (more_of lex_form d t ts) ts)) ≡ more_of lex_form d t ts + 1 = omega arith in e)) in
-        node_root d at t (take (more_of lex_form d t ts) ts) rest is ∙ ap (λ c. c ∷ root_children_from 0 0 rest) child
+        let taken : length (take (more_of lexed_role d t ts) ts) ≡ more_of lexed_role d t ts =
+        length-take-le (more_of lexed_role d t ts) ts (omega arith) in
+        let child : Node (length (t ∷ take (more_of lexed_role d t ts) ts))
+        ≡ root_child (child_from d (role t.kind) (map lexed_role ts)) =
+        rw sized.node (ap Node (let e : suc (length (take (more_of lexed_role d t ts) ts))
+        ≡ more_of lexed_role d t ts + 1 = omega arith in e)) in
+        node_root d at t (take (more_of lexed_role d t ts) ts) rest is
+        ∙ ap (λ c. c ∷ root_children_from 0 0 rest) child
 
-placed-children : (d : Division) (skip at : ℕ) (ts : List LexedToken) → root_children_from 0 0 (without_errors (placed_from d at (parts_from lex_form skip d ts)) ++ out.Exit ∷ []) ≡ map root_child (children_from skip d (map lex_form ts))
+placed-children : (d : Division) (skip at : ℕ) (ts : List LexedToken)
+    → root_children_from 0 0 (without_errors (placed_from d at (parts_from lexed_role skip d ts))
+    ++ out.Exit ∷ []) ≡ map root_child (children_from skip d (map lexed_role ts))
 placed-children d zero at [] = refl
 placed-children d (suc skip) at [] = refl
 placed-children d (suc skip) at (t ∷ ts) = placed-children d skip at ts
 placed-children d zero at (t ∷ ts) =
-    let m = more_of lex_form d t ts in
+    let m = more_of lexed_role d t ts in
     let part = t ∷ take m ts in
     let next = at + total_len part in
-    let others = placed_from d next (parts_from lex_form m d ts) in
-    ap (λ zs. root_children_from 0 0 (zs ++ out.Exit ∷ [])) (without-append (child_woven d at part) others)
-    ∙ ap (root_children_from 0 0) (append_assoc (without_errors (child_woven d at part)) (without_errors others) (out.Exit ∷ []))
+    let others = placed_from d next (parts_from lexed_role m d ts) in
+    ap (λ zs. root_children_from 0 0 (zs ++ out.Exit ∷ []))
+    (without-append (child_woven d at part) others)
+    ∙ ap (root_children_from 0 0) (append_assoc (without_errors (child_woven d at part))
+    (without_errors others) (out.Exit ∷ []))
     ∙ child_root d at t ts (without_errors others ++ out.Exit ∷ [])
-    ∙ ap (λ cs. root_child (child_from d (form t.kind) (map lex_form ts)) ∷ cs) (placed-children d m next ts)
+    ∙ ap (λ cs. root_child (child_from d (role t.kind) (map lexed_role ts))
+    ∷ cs) (placed-children d m next ts)
 
 -- the root's children are those of the roles of the tokens
-pub root_children-woven : (d : Division) (ts : List LexedToken) → root_children (without_errors (weave ts (plain d (kinds_without_trivia ts)))) ≡ map root_child (children d (map lex_form ts))
+pub root_children-woven : (d : Division) (ts : List LexedToken)
+    → root_children (without_errors (weave ts (plain d (kinds_without_trivia ts))))
+    ≡ map root_child (children d (map lexed_role ts))
 root_children-woven d ts =
     ap (λ zs. root_children_from 0 0 (without_errors zs)) (placed (length ts) d 0 ts (omega arith))
-    ∙ ap (root_children_from 0 0) (without-append (placed_from d 0 (parts lex_form d ts)) (out.Exit ∷ []))
+    ∙ ap (root_children_from 0 0) (without-append (placed_from d 0 (parts lexed_role d ts))
+    (out.Exit ∷ []))
     ∙ placed-children d 0 0 ts
 
-pub first-within : (d : Division) (t : LexedToken) (ts : List LexedToken) → more_of lex_form d t ts ≤ length ts
-first-within d t ts = by (is_trivia (form t.kind)) refl
+pub first-within : (d : Division) (t : LexedToken) (ts : List LexedToken)
+    → more_of lexed_role d t ts ≤ length ts
+first-within d t ts = by (is_trivia (role t.kind)) refl
   where
-    by : (b : Bool) → is_trivia (form t.kind) ≡ b → more_of lex_form d t ts ≤ length ts
+    by : (b : Bool) → is_trivia (role t.kind) ≡ b → more_of lexed_role d t ts ≤ length ts
     by true is =
-        let none : more_of lex_form d t ts ≡ 0 = ap (λ f. (child_from d f (map lex_form ts)).more) (trivia_form (form t.kind) is) in
+        let none : more_of lexed_role d t ts ≡ 0 =
+        ap (λ f. (child_from d f (map lexed_role ts)).more) (trivia_form (role t.kind) is) in
         omega arith
     by false is =
-        let sized = first-sized d (form t.kind) (map lex_form ts) is in
+        let sized = first-sized d (role t.kind) (map lexed_role ts) is in
         let within = sized.within in
-        let all : length (map lex_form ts) ≡ length ts = length-map ts lex_form in
+        let all : length (map lexed_role ts) ≡ length ts = length-map ts lexed_role in
         omega arith

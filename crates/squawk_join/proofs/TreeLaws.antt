@@ -24,29 +24,41 @@ use Rattle.squawk_join.proofs.LeavesLemmas.{leaves_whole}
 
 -- ---- the tokens cover the text
 
-leaves-ranges : (xs : List StrStep) → leaves xs ≡ map (λ (l : tree.Leaf). (l.start, l.end)) (tree.leaves xs)
+leaves-ranges : (xs : List StrStep) → leaves xs
+    ≡ map (λ (l : tree.Leaf). (l.start, l.end)) (tree.leaves xs)
 leaves-ranges [] = refl
 leaves-ranges (out.Enter kind ∷ xs) = leaves-ranges xs
 leaves-ranges (out.Token kind start end ∷ xs) = ap (λ rs. (start, end) ∷ rs) (leaves-ranges xs)
 leaves-ranges (out.Exit ∷ xs) = leaves-ranges xs
 leaves-ranges (out.Error number at ∷ xs) = leaves-ranges xs
 
-one_tile : (at len : ℕ) (b : Bool) → 0 < len → b ≡ true → (nat_eq at at && (nat_lt at (at + len) && b)) ≡ true
+one_tile : (at len : ℕ) (b : Bool) → 0 < len → b ≡ true
+    → (nat_eq at at && (nat_lt at (at + len) && b)) ≡ true
 one_tile at len b some h = grind (arith, nat_tests)
 
 -- the parts of a sound token
 sound_len : (t : LexedToken) (ts : List LexedToken) → are_sound (t ∷ ts) ≡ true → 0 < t.len
-sound_len t ts s = ltb-true 0 t.len (and_parts (nat_lt 0 t.len) (faults_within t.len t.faults && are_sound ts) s).0
+sound_len t ts s =
+    ltb-true 0 t.len (and_parts (nat_lt 0 t.len) (faults_within t.len t.faults && are_sound ts) s).0
 
-sound_faults : (t : LexedToken) (ts : List LexedToken) → are_sound (t ∷ ts) ≡ true → faults_within t.len t.faults ≡ true
-sound_faults t ts s = (and_parts (faults_within t.len t.faults) (are_sound ts) (and_parts (nat_lt 0 t.len) (faults_within t.len t.faults && are_sound ts) s).1).0
+sound_faults : (t : LexedToken) (ts : List LexedToken) → are_sound (t ∷ ts) ≡ true
+    → faults_within t.len t.faults ≡ true
+sound_faults t ts s =
+    (and_parts (faults_within t.len t.faults) (are_sound ts)
+    (and_parts (nat_lt 0 t.len) (faults_within t.len t.faults && are_sound ts) s).1).0
 
-sound_rest : (t : LexedToken) (ts : List LexedToken) → are_sound (t ∷ ts) ≡ true → are_sound ts ≡ true
-sound_rest t ts s = (and_parts (faults_within t.len t.faults) (are_sound ts) (and_parts (nat_lt 0 t.len) (faults_within t.len t.faults && are_sound ts) s).1).1
+sound_rest : (t : LexedToken) (ts : List LexedToken) → are_sound (t ∷ ts) ≡ true
+    → are_sound ts ≡ true
+sound_rest t ts s =
+    (and_parts (faults_within t.len t.faults) (are_sound ts)
+    (and_parts (nat_lt 0 t.len) (faults_within t.len t.faults && are_sound ts) s).1).1
 
-tiles-laid : (at end : ℕ) (ts : List LexedToken) → are_sound ts ≡ true → at + total_len ts ≡ end → tiles at (map (λ (l : tree.Leaf). (l.start, l.end)) (tree.laid at ts)) end ≡ true
+tiles-laid : (at end : ℕ) (ts : List LexedToken) → are_sound ts ≡ true → at + total_len ts ≡ end
+    → tiles at (map (λ (l : tree.Leaf). (l.start, l.end)) (tree.laid at ts)) end ≡ true
 tiles-laid at end [] s e = grind (arith, nat_tests)
-tiles-laid at end (t ∷ ts) s e = one_tile at t.len _ (sound_len t ts s) (tiles-laid (at + t.len) end ts (sound_rest t ts s) (omega arith))
+tiles-laid at end (t ∷ ts) s e =
+    one_tile at t.len _ (sound_len t ts s) (tiles-laid (at + t.len) end ts (sound_rest t ts s)
+    (omega arith))
 
 -- ---- the numbers of errors
 
@@ -57,36 +69,49 @@ are_numbered (out.Token kind start end ∷ xs) = are_numbered xs
 are_numbered (out.Exit ∷ xs) = are_numbered xs
 are_numbered (out.Error number at ∷ xs) = nat_le 1 number && (nat_le number 10 && are_numbered xs)
 
-numbered-front : (at : ℕ) (ts : List LexedToken) (ys : List StrStep) → are_numbered (leading_trivia at ts ++ ys) ≡ are_numbered ys
+numbered-front : (at : ℕ) (ts : List LexedToken) (ys : List StrStep)
+    → are_numbered (leading_trivia at ts ++ ys) ≡ are_numbered ys
 unfolding are_numbered
 numbered-front at [] ys = refl
 numbered-front at (t ∷ ts) ys = by (is_trivia_kind t.kind) (numbered-front (at + t.len) ts ys)
   where
     by : (b : Bool) → are_numbered (leading_trivia (at + t.len) ts ++ ys) ≡ are_numbered ys
-        → are_numbered (cond b (out.Token t.kind at (at + t.len) ∷ leading_trivia (at + t.len) ts) [] ++ ys) ≡ are_numbered ys
+        → are_numbered (cond b (out.Token t.kind at (at + t.len)
+        ∷ leading_trivia (at + t.len) ts) [] ++ ys) ≡ are_numbered ys
     by true h = h
     by false h = refl
 
-numbered-step : (at : ℕ) (ts : List LexedToken) (y : StrStep) (ys : List StrStep) → are_numbered ((leading_trivia at ts ++ y ∷ []) ++ ys) ≡ are_numbered (y ∷ ys)
-numbered-step at ts y ys = ap are_numbered (append_assoc (leading_trivia at ts) (y ∷ []) ys) ∙ numbered-front at ts (y ∷ ys)
+numbered-step : (at : ℕ) (ts : List LexedToken) (y : StrStep) (ys : List StrStep)
+    → are_numbered ((leading_trivia at ts ++ y ∷ []) ++ ys) ≡ are_numbered (y ∷ ys)
+numbered-step at ts y ys = ap are_numbered (append_assoc (leading_trivia at ts) (y ∷ []) ys)
+    ∙ numbered-front at ts (y ∷ ys)
 
-numbered-woven : (at : ℕ) (ts : List LexedToken) (xs : List Step) → are_numbered (weave_from at ts xs) ≡ has_lawful_numbers xs
+numbered-woven : (at : ℕ) (ts : List LexedToken) (xs : List Step)
+    → are_numbered (weave_from at ts xs) ≡ has_lawful_numbers xs
 unfolding are_numbered
 numbered-woven at ts [] = refl
-numbered-woven at ts (Enter kind ∷ xs) = numbered-step at ts (out.Enter kind) _ ∙ numbered-woven (leading_trivia_end at ts) (after_leading_trivia ts) xs
-numbered-woven at ts (Token kind ∷ xs) = numbered-step at ts (out.Token kind (leading_trivia_end at ts) (leading_trivia_end at ts + next_len (after_leading_trivia ts))) _ ∙ numbered-woven (leading_trivia_end at ts + next_len (after_leading_trivia ts)) _ xs
+numbered-woven at ts (Enter kind ∷ xs) = numbered-step at ts (out.Enter kind) _
+    ∙ numbered-woven (leading_trivia_end at ts) (after_leading_trivia ts) xs
+numbered-woven at ts (Token kind ∷ xs) =
+    numbered-step at ts (out.Token kind (leading_trivia_end at ts) (leading_trivia_end at ts
+    + next_len (after_leading_trivia ts))) _
+    ∙ numbered-woven (leading_trivia_end at ts + next_len (after_leading_trivia ts)) _ xs
 numbered-woven at ts (Exit ∷ []) = numbered-step at ts out.Exit []
 numbered-woven at ts (Exit ∷ x ∷ xs) = numbered-woven at ts (x ∷ xs)
-numbered-woven at ts (Error number ∷ xs) = ap (λ b. nat_le 1 number && (nat_le number 10 && b)) (numbered-woven at ts xs)
+numbered-woven at ts (Error number ∷ xs) =
+    ap (λ b. nat_le 1 number && (nat_le number 10 && b)) (numbered-woven at ts xs)
 
 -- ---- the errors lie in the text
 
-placed-within : (end at len : ℕ) (fs : List (Option Fault)) → faults_within len fs ≡ true → at + len ≤ end → All (IsErrorWithin end) (errors_at at fs)
+placed-within : (end at len : ℕ) (fs : List (Option Fault)) → faults_within len fs ≡ true
+    → at + len ≤ end → All (IsErrorWithin end) (errors_at at fs)
 placed-within end at len [] h le = All-nil (IsErrorWithin end)
 placed-within end at len (None ∷ fs) h le = placed-within end at len fs h le
 placed-within end at len (Some f ∷ fs) h le =
-    let a = and_parts (nat_le 1 f.number) (nat_le f.number 9 && (nat_le f.start f.end && (nat_le f.end len && faults_within len fs))) h in
-    let b = and_parts (nat_le f.number 9) (nat_le f.start f.end && (nat_le f.end len && faults_within len fs)) a.1 in
+    let a = and_parts (nat_le 1 f.number) (nat_le f.number 9
+    && (nat_le f.start f.end && (nat_le f.end len && faults_within len fs))) h in
+    let b = and_parts (nat_le f.number 9) (nat_le f.start f.end
+    && (nat_le f.end len && faults_within len fs)) a.1 in
     let c = and_parts (nat_le f.start f.end) (nat_le f.end len && faults_within len fs) b.1 in
     let d = and_parts (nat_le f.end len) (faults_within len fs) c.1 in
     let one = leb-true 1 f.number a.0 in
@@ -94,18 +119,26 @@ placed-within end at len (Some f ∷ fs) h le =
     let order = leb-true f.start f.end c.0 in
     let inside = leb-true f.end len d.0 in
     All-cons (IsErrorWithin end) (error (at + f.start) (at + f.end) f.number) (errors_at at fs)
-    (record { first_number = one; last_number = omega arith; ordered = omega arith; within = omega arith })
+    (record {
+      first_number = one;
+      last_number = omega arith;
+      ordered = omega arith;
+      within =
+          omega arith;
+    })
     (placed-within end at len fs d.1 le)
 
 next-within : (ts : List LexedToken) → next_len ts ≤ total_len ts
 next-within [] = omega arith
 next-within (t ∷ ts) = omega arith
 
-walked-within : (end at : ℕ) (ts : List LexedToken) (xs : List StrStep) → at + total_len ts ≤ end → are_sound ts ≡ true → are_numbered xs ≡ true → All (IsErrorWithin end) (walked at ts xs)
+walked-within : (end at : ℕ) (ts : List LexedToken) (xs : List StrStep) → at + total_len ts ≤ end
+    → are_sound ts ≡ true → are_numbered xs ≡ true → All (IsErrorWithin end) (walked at ts xs)
 unfolding are_numbered
 walked-within end at ts [] le s h = All-nil (IsErrorWithin end)
 walked-within end at ts (out.Enter kind ∷ xs) le s h = walked-within end at ts xs le s h
-walked-within end at [] (out.Token kind start stop ∷ xs) le s h = walked-within end (at + 0) [] xs (omega arith) s h
+walked-within end at [] (out.Token kind start stop ∷ xs) le s h =
+    walked-within end (at + 0) [] xs (omega arith) s h
 walked-within end at (t ∷ ts) (out.Token kind start stop ∷ xs) le s h =
     All-append (IsErrorWithin end) (errors_at at t.faults) (walked (at + t.len) ts xs)
     (placed-within end at t.len t.faults (sound_faults t ts s) (omega arith))
@@ -121,7 +154,8 @@ walked-within end at ts (out.Error number place ∷ xs) le s h =
     (record { first_number = one; last_number = ten; ordered = omega arith; within = omega arith })
     (walked-within end at ts xs le s b.1)
 
-numbered-whole : (ts : List LexedToken) (xs : List Step) → has_lawful_numbers xs ≡ true → are_numbered (weave ts xs) ≡ true
+numbered-whole : (ts : List LexedToken) (xs : List Step) → has_lawful_numbers xs ≡ true
+    → are_numbered (weave ts xs) ≡ true
 unfolding are_numbered
 numbered-whole ts [] h = refl
 numbered-whole ts (Enter kind ∷ xs) h = numbered-woven 0 ts xs ∙ h
@@ -129,14 +163,19 @@ numbered-whole ts (Token kind ∷ xs) h = refl
 numbered-whole ts (Exit ∷ xs) h = refl
 numbered-whole ts (Error number ∷ xs) h = refl
 
-pub tree_of-lawful : (ts : List LexedToken) (xs : List Step) → are_sound ts ≡ true → IsLawful (kinds_without_trivia ts) xs → IsTree (total_len ts) (tree_of ts (weave ts xs))
+pub tree_of-lawful : (ts : List LexedToken) (xs : List Step) → are_sound ts ≡ true
+    → IsLawful (kinds_without_trivia ts) xs → IsTree (total_len ts) (tree_of ts (weave ts xs))
 tree_of-lawful ts xs sound lawful = record {
   balanced = balanced-woven ts xs lawful.balanced;
   no_errors = without-has_none (weave ts xs);
   tiled =
-      ap (λ rs. tiles 0 rs (total_len ts)) (leaves-ranges (tree.without_errors (weave ts xs)) ∙ ap (map (λ (l : tree.Leaf). (l.start, l.end))) (leaves_whole ts xs lawful.balanced lawful.tokens))
+      ap (λ rs. tiles 0 rs (total_len ts)) (leaves-ranges (tree.without_errors (weave ts xs))
+      ∙ ap (map (λ (l : tree.Leaf). (l.start, l.end)))
+      (leaves_whole ts xs lawful.balanced lawful.tokens))
       ∙ tiles-laid 0 (total_len ts) ts sound (omega arith);
   errors_within =
-      subst (All (IsErrorWithin (total_len ts))) (sym (errors_whole ts xs lawful.balanced lawful.tokens sound))
-      (walked-within (total_len ts) 0 ts (weave ts xs) (omega arith) sound (numbered-whole ts xs lawful.numbers));
+      subst (All (IsErrorWithin (total_len ts)))
+      (sym (errors_whole ts xs lawful.balanced lawful.tokens sound))
+      (walked-within (total_len ts) 0 ts (weave ts xs) (omega arith) sound
+      (numbered-whole ts xs lawful.numbers));
 }

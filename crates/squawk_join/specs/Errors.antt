@@ -22,13 +22,15 @@ numbers_at at [] = []
 numbers_at at (Enter kind ∷ xs) = numbers_at at xs
 numbers_at at (Token kind start end ∷ xs) = numbers_at at xs
 numbers_at at (Exit ∷ xs) = numbers_at at xs
-numbers_at at (Error number place ∷ xs) = if place == at then number ∷ numbers_at at xs else numbers_at at xs
+numbers_at at (Error number place ∷ xs) = if place == at then number ∷ numbers_at at xs
+    else numbers_at at xs
 
--- At each token the errors of the Error steps at its start, and then its faults; last the Error steps at the end. An Error
--- step has the range of the token that begins at its place.
+-- At each token the errors of the Error steps at its start, and then its faults; last the Error
+-- steps at the end. An Error step has the range of the token that begins at its place.
 abbrev pub errors_from : ℕ → List LexedToken → List StrStep → List ParseError
 errors_from at [] xs = map (error at at) (numbers_at at xs)
-errors_from at (t ∷ ts) xs = map (error at (at + t.len)) (numbers_at at xs) ++ errors_at at t.faults ++ errors_from (at + t.len) ts xs
+errors_from at (t ∷ ts) xs = map (error at (at + t.len)) (numbers_at at xs) ++ errors_at at t.faults
+    ++ errors_from (at + t.len) ts xs
 
 abbrev pub errors : List LexedToken → List StrStep → List ParseError
 errors ts xs = errors_from 0 ts xs
@@ -56,4 +58,5 @@ tokens_after_step ts (Error number place) = ts
 -- the errors, read off the steps
 abbrev pub walked : ℕ → List LexedToken → List StrStep → List ParseError
 walked at ts [] = []
-walked at ts (x ∷ xs) = step_errors at ts x ++ walked (offset_after_step at ts x) (tokens_after_step ts x) xs
+walked at ts (x ∷ xs) = step_errors at ts x
+    ++ walked (offset_after_step at ts x) (tokens_after_step ts x) xs

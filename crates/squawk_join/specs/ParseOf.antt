@@ -28,7 +28,12 @@ pub record Child : Type 0 where
 
 -- the child of these tokens
 abbrev pub child_of : Division → List LexedToken → Child
-child_of d ts = record { steps = without_errors (child_woven d 0 ts); errors = errors ts (child_woven d 0 ts); len = total_len ts }
+child_of d ts = record {
+  steps = without_errors (child_woven d 0 ts);
+  errors =
+      errors ts (child_woven d 0 ts);
+  len = total_len ts;
+}
 
 -- the steps of children, the first of which begins at a place
 abbrev pub steps_from : ℕ → List Child → List StrStep
@@ -42,4 +47,8 @@ errors_of at (child ∷ rest) = map (moved at) child.errors ++ errors_of (at + c
 
 -- children in order under one root
 abbrev pub join : List Child → Tree
-join children = record { steps = Enter SOURCE_FILE ∷ steps_from 0 children ++ Exit ∷ []; errors = errors_of 0 children }
+join children = record {
+  steps = Enter SOURCE_FILE ∷ steps_from 0 children ++ Exit ∷ [];
+  errors =
+      errors_of 0 children;
+}

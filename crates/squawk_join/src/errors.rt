@@ -54,7 +54,8 @@ fn push_fault(
 fn push_faults(errors: &mut Vec<ParseError>, token: &LexedToken, at: u32) -> Result<(), FrontError>
     requires small { at + token.now.len < 2 ^ 32 }
     requires sound { IsTrue (faults_within token.now.len token.now.faults) }
-    ensures ok { OnOk result (errors.new.items ≡ errors.old.items ++ errors_at at token.now.faults) }
+    ensures ok { OnOk result (errors.new.items
+        ≡ errors.old.items ++ errors_at at token.now.faults) }
     ensures refusal { IsOkUnless result OutOfMemory }
 {
     let faults = &token.faults[..];
@@ -74,10 +75,14 @@ fn push_of_step(
     requires within { from.index ≤ length tokens.now }
     requires small { from.at + total_len (drop from.index tokens.now) < 2 ^ 32 }
     requires sound { IsTrue (are_sound (drop from.index tokens.now)) }
-    ensures ok { OnOk result (errors.new.items ≡ errors.old.items ++ step_errors from.at (drop from.index tokens.now) step) }
-    ensures at { IfOk result (λ to. to.at ≡ offset_after_step from.at (drop from.index tokens.now) step) }
-    ensures left { IfOk result (λ to. drop to.index tokens.now ≡ tokens_after_step (drop from.index tokens.now) step) }
-    ensures same_end { IfOk result (λ to. to.at + total_len (drop to.index tokens.now) ≡ from.at + total_len (drop from.index tokens.now)) }
+    ensures ok { OnOk result (errors.new.items
+        ≡ errors.old.items ++ step_errors from.at (drop from.index tokens.now) step) }
+    ensures at { IfOk result (λ to.
+        to.at ≡ offset_after_step from.at (drop from.index tokens.now) step) }
+    ensures left { IfOk result (λ to. drop to.index tokens.now
+        ≡ tokens_after_step (drop from.index tokens.now) step) }
+    ensures same_end { IfOk result (λ to. to.at + total_len (drop to.index tokens.now)
+        ≡ from.at + total_len (drop from.index tokens.now)) }
     ensures within { IfOk result (λ to. to.index ≤ length tokens.now) }
     ensures sound { IfOk result (λ to. IsTrue (are_sound (drop to.index tokens.now))) }
     ensures refusal { IsOkUnless result OutOfMemory }
@@ -115,7 +120,8 @@ pub(crate) fn push_errors(
 ) -> Result<(), FrontError>
     requires small { total_len tokens.now < 2 ^ 32 }
     requires sound { IsTrue (are_sound tokens.now) }
-    ensures ok { OnOk result (errors.new.items ≡ errors.old.items ++ walked 0 tokens.now steps.now) }
+    ensures ok { OnOk result (errors.new.items
+        ≡ errors.old.items ++ walked 0 tokens.now steps.now) }
     ensures refusal { IsOkUnless result OutOfMemory }
 {
     let mut place = Place { index: 0, at: 0 };

@@ -4,7 +4,7 @@
 ghost use Rattle.std.specs.Prelude.{◌≡◌, ◌∷◌, [], IsTrue, List, map, take};
 ghost use Rattle.squawk_events.specs.Lawful.{IsLawful};
 ghost use Rattle.squawk_events.specs.declared.steps.Step.{Step};
-ghost use Rattle.squawk_join.specs.Join.{lex_form};
+ghost use Rattle.squawk_join.specs.Join.{lexed_role};
 ghost use Rattle.squawk_join.specs.Steps.{root_children, root_child};
 ghost use Rattle.squawk_join.specs.IsTree.{IsTree};
 ghost use Rattle.squawk_join.specs.ParseOf.{parse_of, tree_of, child_of, join};
@@ -22,16 +22,25 @@ pub use sink::TreeSink;
 
 /// The parse of a list of tokens is the join of its children's, each made of its own tokens.
 pub fn children_join()
-    ensures { (division : Division) (tokens : List LexedToken) → IsTrue (are_sound tokens) → parse_of division tokens ≡ join (map (child_of division) (parts lex_form division tokens)) }
+    ensures { (division : Division) (tokens : List LexedToken) → IsTrue (are_sound tokens)
+        → parse_of division tokens
+        ≡ join (map (child_of division) (parts lexed_role division tokens)) }
 {}
 
-/// What is given out for steps that are a tree is a tree, and the root's children are those of the division.
+/// What is given out for steps that are a tree is a tree, and the root's children are those of the
+/// division.
 pub fn parses_are_trees()
-    ensures lawful { (tokens : List LexedToken) (steps : List Step) → IsTrue (are_sound tokens) → IsLawful (kinds_without_trivia tokens) steps → IsTree (total_len tokens) (tree_of tokens (weave tokens steps)) }
-    ensures children { (division : Division) (tokens : List LexedToken) → root_children (parse_of division tokens).steps ≡ map root_child (children division (map lex_form tokens)) }
+    ensures lawful { (tokens : List LexedToken) (steps : List Step) → IsTrue (are_sound tokens)
+        → IsLawful (kinds_without_trivia tokens) steps
+        → IsTree (total_len tokens) (tree_of tokens (weave tokens steps)) }
+    ensures children { (division : Division) (tokens : List LexedToken)
+        → root_children (parse_of division tokens).steps
+        ≡ map root_child (children division (map lexed_role tokens)) }
 {}
 
 /// A child parsed by itself is itself under a root.
 pub fn children_stand_alone()
-    ensures { (division : Division) (token : LexedToken) (tokens : List LexedToken) → let own = token ∷ take (more_of lex_form division token tokens) tokens in IsTrue (are_sound own) → parse_of division own ≡ join (child_of division own ∷ []) }
+    ensures { (division : Division) (token : LexedToken) (tokens : List LexedToken) → let own =
+        token ∷ take (more_of lexed_role division token tokens) tokens in IsTrue (are_sound own)
+        → parse_of division own ≡ join (child_of division own ∷ []) }
 {}

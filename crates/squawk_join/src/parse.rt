@@ -6,7 +6,7 @@ ghost use Rattle.squawk_statements.specs.Children.{parts};
 ghost use Rattle.squawk_statements.specs.declared.division.Division.TheVariants.{Flat};
 ghost use Rattle.squawk_join.specs.Errors.{errors};
 ghost use Rattle.squawk_join.specs.Tree.{Tree, without_errors, leaves, laid};
-ghost use Rattle.squawk_join.specs.Join.{joined, joined_errors, lex_form};
+ghost use Rattle.squawk_join.specs.Join.{joined, joined_errors, lexed_role};
 
 use crate::TreeSink;
 use squawk_events::{EntryPoint, FrontError, Grammar, ParseError, StrStep};
@@ -58,8 +58,10 @@ pub fn parse_lexed<G: Grammar>(
     lexed: &LexedStr,
     grammar: &G,
 ) -> Result<Parse, FrontError>
-    ensures steps { IfOk result (λ parse. parse.steps ≡ without_errors (weave lexed.now (G.told grammar.now (kinds_without_trivia lexed.now)))) }
-    ensures errors { IfOk result (λ parse. parse.errors ≡ errors lexed.now (weave lexed.now (G.told grammar.now (kinds_without_trivia lexed.now)))) }
+    ensures steps { IfOk result (λ parse. parse.steps
+        ≡ without_errors (weave lexed.now (G.told grammar.now (kinds_without_trivia lexed.now)))) }
+    ensures errors { IfOk result (λ parse. parse.errors
+        ≡ errors lexed.now (weave lexed.now (G.told grammar.now (kinds_without_trivia lexed.now)))) }
     ensures leaves { IfOk result (λ parse. leaves parse.steps ≡ laid 0 lexed.now) }
     ensures refusal { IsOkUnless result OutOfMemory }
 {
@@ -74,8 +76,10 @@ pub fn parse_lexed<G: Grammar>(
 /// The tree of statements.
 pub fn parse_plain(alloc: Global, lexed: &LexedStr) -> Result<Parse, FrontError>
     // Each child's steps depend on its own tokens alone.
-    ensures joined { IfOk result (λ parse. parse.steps ≡ without_errors (joined Flat (parts lex_form Flat lexed.now))) }
-    ensures errors { IfOk result (λ parse. parse.errors ≡ joined_errors Flat 0 (parts lex_form Flat lexed.now)) }
+    ensures joined { IfOk result (λ parse. parse.steps
+        ≡ without_errors (joined Flat (parts lexed_role Flat lexed.now))) }
+    ensures errors { IfOk result (λ parse. parse.errors
+        ≡ joined_errors Flat 0 (parts lexed_role Flat lexed.now)) }
     ensures refusal { IsOkUnless result OutOfMemory }
 {
     let _tokens = lexed.tokens();

@@ -40,7 +40,11 @@ impl TreeSink {
 
     /// Appends an error.
     pub fn push_error(&mut self, error: ParseError) -> Result<(), FrontError>
-        ensures ok { OnOk result (self.new ≡ record { steps = self.old.steps; errors = self.old.errors ++ error ∷ [] }) }
+        ensures ok { OnOk result (self.new ≡ record {
+          steps = self.old.steps;
+          errors =
+              self.old.errors ++ error ∷ [];
+        }) }
         ensures err { OnErr result (self.new ≡ self.old) }
         ensures refusal { IsOkUnless result OutOfMemory }
     {
@@ -52,7 +56,11 @@ impl TreeSink {
     pub(crate) fn push_errors(&mut self, tokens: &[LexedToken]) -> Result<(), FrontError>
         requires small { total_len tokens.now < 2 ^ 32 }
         requires sound { IsTrue (are_sound tokens.now) }
-        ensures ok { OnOk result (self.new ≡ record { steps = self.old.steps; errors = self.old.errors ++ walked 0 tokens.now self.old.steps }) }
+        ensures ok { OnOk result (self.new ≡ record {
+          steps = self.old.steps;
+          errors =
+              self.old.errors ++ walked 0 tokens.now self.old.steps;
+        }) }
         ensures refusal { IsOkUnless result OutOfMemory }
     {
         push_errors(&mut self.errors, tokens, &self.steps)
@@ -60,7 +68,8 @@ impl TreeSink {
 
     /// The parse of the steps and errors.
     pub fn finish(self, alloc: Global) -> Result<Parse, FrontError>
-        ensures ok { IfOk result (λ parse. parse ≡ record { steps = without_errors self.steps; errors = self.errors }) }
+        ensures ok { IfOk result (λ parse. parse
+            ≡ record { steps = without_errors self.steps; errors = self.errors }) }
         ensures refusal { IsOkUnless result OutOfMemory }
     {
         let mut steps = Vec::new(alloc);

@@ -1,7 +1,9 @@
--- What a kind is to the division into statements and to groups.
+-- The role of a kind in the division into statements and in groups.
 use Rattle.std.specs.Prelude.{ℕ, ◌==◌, ◌||◌, Bool, true, false, if◌then◌else◌}
 use Rattle.squawk_kinds.specs.declared.numbers.TheConstants.Number as kind
 
+-- white space or a comment; a semicolon; a psql command that ends the query, or one that does not;
+-- `(`; `)`; any other kind
 pub data Role : Type 0 where
   Trivia : Role
   Semicolon : Role
@@ -11,7 +13,7 @@ pub data Role : Type 0 where
   Close : Role
   Other : Role
 
--- what a kind is to the division into statements
+-- the role of the kind with a number
 unfoldable pub role : ℕ → Role
 role k =
     if k == kind.WHITESPACE || k == kind.COMMENT then Trivia
@@ -22,7 +24,12 @@ role k =
     else if k == kind.R_PAREN then Close
     else Other
 
--- none of the roles that a statement or a group is told by
+-- whether the role is that of white space and comments
+abbrev pub is_trivia : Role → Bool
+is_trivia Trivia = true
+is_trivia _ = false
+
+-- whether the role neither divides statements nor makes a group
 abbrev pub is_other : Role → Bool
 is_other Trivia = false
 is_other Semicolon = false

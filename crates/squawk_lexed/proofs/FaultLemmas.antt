@@ -28,13 +28,19 @@ record Good (n len : ℕ) (fs : List Fault) : Type 0 where
   few : length fs ≤ n
   within : faults_within len fs ≡ true
 
-one_good : (number start end len : ℕ) → 1 ≤ number → number ≤ 9 → start < end → end ≤ len → Good 1 len (fault number start end ∷ [])
-one_good number start end len p q r s = record { few = omega arith; within = grind (arith, nat_tests) }
+one_good : (number start end len : ℕ) → 1 ≤ number → number ≤ 9 → start < end → end ≤ len
+    → Good 1 len (fault number start end ∷ [])
+one_good number start end len p q r s = record {
+  few = omega arith;
+  within =
+      grind (arith, nat_tests);
+}
 
 none_good : (n len : ℕ) → Good n len []
 none_good n len = record { few = omega arith; within = refl }
 
-row_good : (test : Bool) (number start end len : ℕ) → 1 ≤ number → number ≤ 9 → (test ≡ true → (start < end) × (end ≤ len)) → Good 1 len (row test (fault number start end))
+row_good : (test : Bool) (number start end len : ℕ) → 1 ≤ number → number ≤ 9
+    → (test ≡ true → (start < end) × (end ≤ len)) → Good 1 len (row test (fault number start end))
 row_good true number start end len p q h = one_good number start end len p q (h refl).0 (h refl).1
 row_good false number start end len p q h = none_good 1 len
 
@@ -47,36 +53,57 @@ more_good : (len : ℕ) (fs : List Fault) → Good 1 len fs → Good 2 len fs
 more_good len fs p = record { few = omega (arith, p.few); within = p.within }
 
 -- of the whole token
-whole_good : (test : Bool) (number len : ℕ) → 1 ≤ number → number ≤ 9 → 1 ≤ len → Good 2 len (row test (fault number 0 len))
-whole_good test number len p q some = more_good len _ (row_good test number 0 len len p q (λ t. (omega arith, omega arith)))
+whole_good : (test : Bool) (number len : ℕ) → 1 ≤ number → number ≤ 9 → 1 ≤ len
+    → Good 2 len (row test (fault number 0 len))
+whole_good test number len p q some =
+    more_good len _ (row_good test number 0 len len p q (λ t. (omega arith, omega arith)))
 
-junk_good : (number junk len : ℕ) → 1 ≤ number → number ≤ 9 → Good 1 len (row (nat_lt junk len) (fault number junk len))
-junk_good number junk len p q = row_good (nat_lt junk len) number junk len len p q (λ t. (grind (arith, nat_tests), omega arith))
+junk_good : (number junk len : ℕ) → 1 ≤ number → number ≤ 9
+    → Good 1 len (row (nat_lt junk len) (fault number junk len))
+junk_good number junk len p q = row_good (nat_lt junk len) number junk len len p q (λ t.
+    (grind (arith, nat_tests), omega arith))
 
-exponent_good : (place : Option ℕ) (junk len : ℕ) → ExponentBefore place junk → junk ≤ len → Good 1 len (exponent_row place junk)
+exponent_good : (place : Option ℕ) (junk len : ℕ) → ExponentBefore place junk → junk ≤ len
+    → Good 1 len (exponent_row place junk)
 exponent_good None junk len h le = none_good 1 len
-exponent_good (Some place) junk len h le = one_good 6 place junk len (omega arith) (omega arith) h le
+exponent_good (Some place) junk len h le =
+    one_good 6 place junk len (omega arith) (omega arith) h le
 
-literal_good : (kind : LiteralKind) (len : ℕ) → 1 ≤ len → LiteralFlagsWithin kind len → Good 2 len (literal_faults kind len)
+literal_good : (kind : LiteralKind) (len : ℕ) → 1 ≤ len → LiteralFlagsWithin kind len
+    → Good 2 len (literal_faults kind len)
 literal_good (Int base empty junk) len some flags =
-    both_good len _ _ (row_good empty 5 0 len len (omega arith) (omega arith) (λ t. (omega arith, omega arith))) (junk_good 7 junk len (omega arith) (omega arith))
+    both_good len _ _ (row_good empty 5 0 len len (omega arith) (omega arith) (λ t.
+    (omega arith, omega arith))) (junk_good 7 junk len (omega arith) (omega arith))
 literal_good (Numeric place junk) len some flags =
-    both_good len _ _ (exponent_good place junk len flags.0 flags.1.1) (junk_good 7 junk len (omega arith) (omega arith))
-literal_good (Str terminated) len some flags = whole_good (not terminated) 3 len (omega arith) (omega arith) some
-literal_good (NationalStr terminated) len some flags = whole_good (not terminated) 3 len (omega arith) (omega arith) some
-literal_good (ByteStr terminated) len some flags = whole_good (not terminated) 3 len (omega arith) (omega arith) some
-literal_good (BitStr terminated) len some flags = whole_good (not terminated) 3 len (omega arith) (omega arith) some
-literal_good (DollarQuotedString terminated) len some flags = whole_good (not terminated) 3 len (omega arith) (omega arith) some
-literal_good (UnicodeEscStr terminated) len some flags = whole_good (not terminated) 3 len (omega arith) (omega arith) some
-literal_good (EscStr terminated) len some flags = whole_good (not terminated) 3 len (omega arith) (omega arith) some
+    both_good len _ _ (exponent_good place junk len flags.0 flags.1.1)
+    (junk_good 7 junk len (omega arith) (omega arith))
+literal_good (Str terminated) len some flags =
+    whole_good (not terminated) 3 len (omega arith) (omega arith) some
+literal_good (NationalStr terminated) len some flags =
+    whole_good (not terminated) 3 len (omega arith) (omega arith) some
+literal_good (ByteStr terminated) len some flags =
+    whole_good (not terminated) 3 len (omega arith) (omega arith) some
+literal_good (BitStr terminated) len some flags =
+    whole_good (not terminated) 3 len (omega arith) (omega arith) some
+literal_good (DollarQuotedString terminated) len some flags =
+    whole_good (not terminated) 3 len (omega arith) (omega arith) some
+literal_good (UnicodeEscStr terminated) len some flags =
+    whole_good (not terminated) 3 len (omega arith) (omega arith) some
+literal_good (EscStr terminated) len some flags =
+    whole_good (not terminated) 3 len (omega arith) (omega arith) some
 
-kind_good : (kind : TokenKind) (len : ℕ) → 1 ≤ len → FlagsWithin kind len → Good 2 len (kind_faults kind len)
-kind_good token.Unknown len some flags = more_good len _ (one_good 1 0 len len (omega arith) (omega arith) (omega arith) (omega arith))
-kind_good (token.BlockComment terminated) len some flags = whole_good (not terminated) 2 len (omega arith) (omega arith) some
+kind_good : (kind : TokenKind) (len : ℕ) → 1 ≤ len → FlagsWithin kind len
+    → Good 2 len (kind_faults kind len)
+kind_good token.Unknown len some flags =
+    more_good len _ (one_good 1 0 len len (omega arith) (omega arith) (omega arith) (omega arith))
+kind_good (token.BlockComment terminated) len some flags =
+    whole_good (not terminated) 2 len (omega arith) (omega arith) some
 kind_good (token.Literal literal) len some flags = literal_good literal len some flags
-kind_good (token.QuotedIdent terminated uescape) len some flags = whole_good (not terminated) 4 len (omega arith) (omega arith) some
+kind_good (token.QuotedIdent terminated uescape) len some flags =
+    whole_good (not terminated) 4 len (omega arith) (omega arith) some
 kind_good (token.PositionalParam junk) len some flags =
-    both_good len _ _ (row_good (eqb junk 1) 8 0 1 len (omega arith) (omega arith) (λ t. (omega arith, omega arith))) (junk_good 9 junk len (omega arith) (omega arith))
+    both_good len _ _ (row_good (eqb junk 1) 8 0 1 len (omega arith) (omega arith) (λ t.
+    (omega arith, omega arith))) (junk_good 9 junk len (omega arith) (omega arith))
 kind_good (token.PsqlCommand ends) len some flags = none_good 2 len
 kind_good token.Whitespace len some flags = none_good 2 len
 kind_good token.Ident len some flags = none_good 2 len
@@ -114,5 +141,7 @@ kind_good token.Comma len some flags = none_good 2 len
 pub few_faults : FlagsLieWithin → (t : Token) → IsCut t → length (faults t) ≤ 2
 few_faults law t cut = let is = flagged law t cut in (kind_good t.kind t.len is.some is.flags).few
 
-pub faults_lie_within : FlagsLieWithin → (t : Token) → IsCut t → faults_within t.len (faults t) ≡ true
-faults_lie_within law t cut = let is = flagged law t cut in (kind_good t.kind t.len is.some is.flags).within
+pub faults_lie_within : FlagsLieWithin → (t : Token) → IsCut t
+    → faults_within t.len (faults t) ≡ true
+faults_lie_within law t cut = let is = flagged law t cut in
+    (kind_good t.kind t.len is.some is.flags).within

@@ -26,20 +26,25 @@ taken_off at n = omega arith
 
 -- ---- errors from a place on are none of a token that ends there
 
-none_before : (start end at : ℕ) (ts : List LexedToken) → end ≤ at → faults_before start end (errors_of at ts) ≡ []
+none_before : (start end at : ℕ) (ts : List LexedToken) → end ≤ at
+    → faults_before start end (errors_of at ts) ≡ []
 none_before start end at [] h = refl
-none_before start end at (t ∷ ts) h = by t.faults (none_before start end (at + t.len) ts (omega arith))
+none_before start end at (t ∷ ts) h =
+    by t.faults (none_before start end (at + t.len) ts (omega arith))
   where
-    by : (fs : List Fault) → faults_before start end (errors_of (at + t.len) ts) ≡ [] → faults_before start end (errors_at at fs ++ errors_of (at + t.len) ts) ≡ []
+    by : (fs : List Fault) → faults_before start end (errors_of (at + t.len) ts) ≡ []
+        → faults_before start end (errors_at at fs ++ errors_of (at + t.len) ts) ≡ []
     by [] rest = rest
     by (f ∷ fs) rest = rw (not_less (at + f.start) end (omega arith)) refl
 
-all_behind : (end at : ℕ) (ts : List LexedToken) → end ≤ at → errors_from end (errors_of at ts) ≡ errors_of at ts
+all_behind : (end at : ℕ) (ts : List LexedToken) → end ≤ at
+    → errors_from end (errors_of at ts) ≡ errors_of at ts
 all_behind end at [] h = refl
 all_behind end at (t ∷ ts) h = by t.faults (all_behind end (at + t.len) ts (omega arith))
   where
     by : (fs : List Fault) → errors_from end (errors_of (at + t.len) ts) ≡ errors_of (at + t.len) ts
-        → errors_from end (errors_at at fs ++ errors_of (at + t.len) ts) ≡ errors_at at fs ++ errors_of (at + t.len) ts
+        → errors_from end (errors_at at fs ++ errors_of (at + t.len) ts)
+        ≡ errors_at at fs ++ errors_of (at + t.len) ts
     by [] rest = rest
     by (f ∷ fs) rest = rw (not_less (at + f.start) end (omega arith)) refl
 
@@ -48,15 +53,22 @@ all_behind end at (t ∷ ts) h = by t.faults (all_behind end (at + t.len) ts (om
 begins_within : (len : ℕ) (f : Fault) → fault_within len f ≡ true → f.start < len
 begins_within len f h = grind (arith, nat_tests)
 
-own_before : (at len : ℕ) (fs : List Fault) (es : List ParseError) → faults_within len fs ≡ true → faults_before at (at + len) es ≡ []
+own_before : (at len : ℕ) (fs : List Fault) (es : List ParseError) → faults_within len fs ≡ true
+    → faults_before at (at + len) es ≡ []
     → faults_before at (at + len) (errors_at at fs ++ es) ≡ fs
 own_before at len [] es h none = none
 own_before at len (f ∷ fs) es h none =
     let parts = and_parts (fault_within len f) (faults_within len fs) h in
     let inside = begins_within len f parts.0 in
-    rw (is_less (at + f.start) (at + len) (omega arith), taken_off at f.start, taken_off at f.end, own_before at len fs es parts.1 none) refl
+    rw (
+      is_less (at + f.start) (at + len) (omega arith),
+      taken_off at f.start,
+      taken_off at f.end,
+      own_before at len fs es parts.1 none,
+    ) refl
 
-own_behind : (at len : ℕ) (fs : List Fault) (es : List ParseError) → faults_within len fs ≡ true → errors_from (at + len) es ≡ es
+own_behind : (at len : ℕ) (fs : List Fault) (es : List ParseError) → faults_within len fs ≡ true
+    → errors_from (at + len) es ≡ es
     → errors_from (at + len) (errors_at at fs ++ es) ≡ es
 own_behind at len [] es h all = all
 own_behind at len (f ∷ fs) es h all =
@@ -68,7 +80,8 @@ first_start : (at : ℕ) (ts : List LexedToken) → get_or (starts_of at ts) 0 0
 first_start at [] = refl
 first_start at (t ∷ ts) = refl
 
-pub read_back : (at : ℕ) (ts : List LexedToken) → are_sound ts ≡ true → lexed_tokens_from (kinds_of ts) (starts_of at ts) (errors_of at ts) ≡ ts
+pub read_back : (at : ℕ) (ts : List LexedToken) → are_sound ts ≡ true
+    → lexed_tokens_from (kinds_of ts) (starts_of at ts) (errors_of at ts) ≡ ts
 read_back at [] h = refl
 read_back at (t ∷ ts) h =
     let parts = and_parts (nat_lt 0 t.len) (faults_within t.len t.faults && are_sound ts) h in
@@ -76,33 +89,45 @@ read_back at (t ∷ ts) h =
     rw (
       first_start (at + t.len) ts,
       taken_off at t.len,
-      own_before at t.len t.faults (errors_of (at + t.len) ts) more.0 (none_before at (at + t.len) (at + t.len) ts (omega arith)),
-      own_behind at t.len t.faults (errors_of (at + t.len) ts) more.0 (all_behind (at + t.len) (at + t.len) ts (omega arith)),
+      own_before at t.len t.faults (errors_of (at + t.len) ts) more.0
+          (none_before at (at + t.len) (at + t.len) ts (omega arith)),
+      own_behind at t.len t.faults (errors_of (at + t.len) ts) more.0
+          (all_behind (at + t.len) (at + t.len) ts (omega arith)),
       read_back (at + t.len) ts more.1,
     ) refl
 
 -- ---- the tokens of a text
 
-pub lexes_sound : FlagsLieWithin → (text : List ℕ) (at : ℕ) (ts : List Token) → AreCut ts → are_sound (lexed_tokens text at ts) ≡ true
+pub lexes_sound : FlagsLieWithin → (text : List ℕ) (at : ℕ) (ts : List Token) → AreCut ts
+    → are_sound (lexed_tokens text at ts) ≡ true
 lexes_sound law text at [] cut = refl
 lexes_sound law text at (t ∷ ts) cut =
-    rw (is_less 0 t.len (flagged law t cut.0).some, faults_lie_within law t cut.0) (lexes_sound law text (at + t.len) ts cut.1)
+    rw (is_less 0 t.len (flagged law t cut.0).some, faults_lie_within law t cut.0)
+    (lexes_sound law text (at + t.len) ts cut.1)
 
-pub lexes_whole : (text : List ℕ) (at : ℕ) (ts : List Token) → Tiles text at ts → at + total_len (lexed_tokens text at ts) ≡ length text
+pub lexes_whole : (text : List ℕ) (at : ℕ) (ts : List Token) → Tiles text at ts
+    → at + total_len (lexed_tokens text at ts) ≡ length text
 lexes_whole text at [] tiles = omega arith
-lexes_whole text at (t ∷ ts) (some, real, boundary, more) = omega (arith, lexes_whole text (at + t.len) ts more)
+lexes_whole text at (t ∷ ts) (some, real, boundary, more) =
+    omega (arith, lexes_whole text (at + t.len) ts more)
 
-pub lexes_bounded : (text : List ℕ) (at : ℕ) (ts : List Token) → IsCharBoundary text at → Tiles text at ts → AreBoundaries text (starts_of at (lexed_tokens text at ts))
+pub lexes_bounded : (text : List ℕ) (at : ℕ) (ts : List Token) → IsCharBoundary text at
+    → Tiles text at ts → AreBoundaries text (starts_of at (lexed_tokens text at ts))
 lexes_bounded text at [] here tiles = (here, tt)
-lexes_bounded text at (t ∷ ts) here (some, real, boundary, more) = (here, lexes_bounded text (at + t.len) ts boundary more)
+lexes_bounded text at (t ∷ ts) here (some, real, boundary, more) =
+    (here, lexes_bounded text (at + t.len) ts boundary more)
 
 -- ---- what is kept is kept as its tokens
 
-pub kept_as : (text kinds starts : List ℕ) (errors : List ParseError) (ts : List LexedToken) → IsStoredAs text kinds starts errors ts → lexed_tokens_from kinds starts errors ≡ ts
-kept_as text kinds starts errors ts is = rw (is.kinds_are, is.starts_are, is.errors_are) (read_back 0 ts is.sound)
+pub kept_as : (text kinds starts : List ℕ) (errors : List ParseError) (ts : List LexedToken)
+    → IsStoredAs text kinds starts errors ts → lexed_tokens_from kinds starts errors ≡ ts
+kept_as text kinds starts errors ts is =
+    rw (is.kinds_are, is.starts_are, is.errors_are) (read_back 0 ts is.sound)
 
-pub stored : (text kinds starts : List ℕ) (errors : List ParseError) (ts : List LexedToken) → IsStoredAs text kinds starts errors ts → IsStored text kinds starts errors
-stored text kinds starts errors ts is = subst (IsStoredAs text kinds starts errors) (sym (kept_as text kinds starts errors ts is)) is
+pub stored : (text kinds starts : List ℕ) (errors : List ParseError) (ts : List LexedToken)
+    → IsStoredAs text kinds starts errors ts → IsStored text kinds starts errors
+stored text kinds starts errors ts is =
+    subst (IsStoredAs text kinds starts errors) (sym (kept_as text kinds starts errors ts is)) is
 
 -- ---- places
 
@@ -114,18 +139,21 @@ pub length-starts : (at : ℕ) (ts : List LexedToken) → length (starts_of at t
 length-starts at [] = refl
 length-starts at (t ∷ ts) = ap suc (length-starts (at + t.len) ts)
 
-pub start_at : (d at : ℕ) (ts : List LexedToken) (i : ℕ) → i ≤ length ts → get_or (starts_of at ts) i d ≡ at + total_len (take i ts)
+pub start_at : (d at : ℕ) (ts : List LexedToken) (i : ℕ) → i ≤ length ts
+    → get_or (starts_of at ts) i d ≡ at + total_len (take i ts)
 start_at d at [] zero h = omega arith
 start_at d at [] (suc i) h = absurd (omega arith)
 start_at d at (t ∷ ts) zero h = omega arith
 start_at d at (t ∷ ts) (suc i) h = omega (arith, start_at d (at + t.len) ts i (omega arith))
 
-pub bounded_at : (text places : List ℕ) (i : ℕ) → AreBoundaries text places → i < length places → IsCharBoundary text (get_or places i 0)
+pub bounded_at : (text places : List ℕ) (i : ℕ) → AreBoundaries text places → i < length places
+    → IsCharBoundary text (get_or places i 0)
 bounded_at text [] i all h = absurd (omega arith)
 bounded_at text (p ∷ places) zero all h = all.0
 bounded_at text (p ∷ places) (suc i) all h = bounded_at text places i all.1 (omega arith)
 
-pub rising : (ts : List LexedToken) (i j : ℕ) → i ≤ j → total_len (take i ts) ≤ total_len (take j ts)
+pub rising : (ts : List LexedToken) (i j : ℕ) → i ≤ j
+    → total_len (take i ts) ≤ total_len (take j ts)
 rising ts zero j h = omega arith
 rising ts (suc i) zero h = absurd (omega arith)
 rising [] (suc i) (suc j) h = omega arith
@@ -133,44 +161,56 @@ rising (t ∷ ts) (suc i) (suc j) h = omega (arith, rising ts i j (omega arith))
 
 -- ---- what a loop over all tokens leaves
 
-pub all_kept : FlagsLieWithin → (text : List ℕ) (ts : List Token) → AreCut ts → Tiles text 0 ts → IsCharBoundary text 0 → length text < 2 ^ 32
-    → (at : ℕ) (left : List Token) (kinds starts starts' : List ℕ) (errors : List ParseError) → left ≡ []
+pub all_kept : FlagsLieWithin → (text : List ℕ) (ts : List Token) → AreCut ts → Tiles text 0 ts
+    → IsCharBoundary text 0 → length text < 2 ^ 32
+    → (at : ℕ) (left : List Token) (kinds starts starts' : List ℕ) (errors : List ParseError)
+    → left ≡ []
     → kinds ++ kinds_of (lexed_tokens text at left) ≡ kinds_of (lexed_tokens text 0 ts)
-    → starts ++ starts_of at (lexed_tokens text at left) ≡ starts_of 0 (lexed_tokens text 0 ts) → starts' ≡ starts ++ at ∷ []
+    → starts ++ starts_of at (lexed_tokens text at left) ≡ starts_of 0 (lexed_tokens text 0 ts)
+    → starts' ≡ starts ++ at ∷ []
     → errors ++ errors_of at (lexed_tokens text at left) ≡ errors_of 0 (lexed_tokens text 0 ts)
     → IsStoredAs text kinds starts' errors (lexed_tokens text 0 ts)
-all_kept law text ts cut tiles here fits at left kinds starts starts' errors none k s s' e = record {
-  kinds_are = sym (append-nil kinds) ∙ rw none at k;
-  starts_are = s' ∙ rw none at s;
-  errors_are = sym (append-nil errors) ∙ rw none at e;
-  sound = lexes_sound law text 0 ts cut;
-  whole = omega (arith, lexes_whole text 0 ts tiles);
-  fits = fits;
-  boundaries = lexes_bounded text 0 ts here tiles;
-}
+all_kept law text ts cut tiles here fits at left kinds starts starts' errors none k s s' e =
+    record {
+      kinds_are = sym (append-nil kinds) ∙ rw none at k;
+      starts_are = s' ∙ rw none at s;
+      errors_are = sym (append-nil errors) ∙ rw none at e;
+      sound = lexes_sound law text 0 ts cut;
+      whole = omega (arith, lexes_whole text 0 ts tiles);
+      fits = fits;
+      boundaries = lexes_bounded text 0 ts here tiles;
+    }
 
 -- ---- what is read off what is kept
 
 -- the same of the tokens that are seen
-pub seen_as : (text kinds starts : List ℕ) (errors : List ParseError) (l : LexedText) → record { text = text; tokens = lexed_tokens_from kinds starts errors } ≡ l
+pub seen_as : (text kinds starts : List ℕ) (errors : List ParseError) (l : LexedText)
+    → record { text = text; tokens = lexed_tokens_from kinds starts errors } ≡ l
     → IsStored text kinds starts errors → IsStoredAs text kinds starts errors l.tokens
-seen_as text kinds starts errors l seen is = subst (λ m. IsStoredAs text kinds starts errors m.tokens) seen is
+seen_as text kinds starts errors l seen is =
+    subst (λ m. IsStoredAs text kinds starts errors m.tokens) seen is
 
-pub count : (text kinds starts : List ℕ) (errors : List ParseError) (ts : List LexedToken) → IsStoredAs text kinds starts errors ts → length kinds ≡ length ts
+pub count : (text kinds starts : List ℕ) (errors : List ParseError) (ts : List LexedToken)
+    → IsStoredAs text kinds starts errors ts → length kinds ≡ length ts
 count text kinds starts errors ts is = rw is.kinds_are (length-kinds ts)
 
-pub places : (text kinds starts : List ℕ) (errors : List ParseError) (ts : List LexedToken) → IsStoredAs text kinds starts errors ts → length starts ≡ suc (length ts)
+pub places : (text kinds starts : List ℕ) (errors : List ParseError) (ts : List LexedToken)
+    → IsStoredAs text kinds starts errors ts → length starts ≡ suc (length ts)
 places text kinds starts errors ts is = rw is.starts_are (length-starts 0 ts)
 
-pub place_at : (text kinds starts : List ℕ) (errors : List ParseError) (ts : List LexedToken) → IsStoredAs text kinds starts errors ts
+pub place_at : (text kinds starts : List ℕ) (errors : List ParseError) (ts : List LexedToken)
+    → IsStoredAs text kinds starts errors ts
     → (i d : ℕ) → i ≤ length ts → get_or starts i d ≡ total_len (take i ts)
-place_at text kinds starts errors ts is i d h = rw is.starts_are (omega (arith, start_at d 0 ts i h))
+place_at text kinds starts errors ts is i d h =
+    rw is.starts_are (omega (arith, start_at d 0 ts i h))
 
-pub boundary_at : (text kinds starts : List ℕ) (errors : List ParseError) (ts : List LexedToken) → IsStoredAs text kinds starts errors ts
+pub boundary_at : (text kinds starts : List ℕ) (errors : List ParseError) (ts : List LexedToken)
+    → IsStoredAs text kinds starts errors ts
     → (i : ℕ) → i ≤ length ts → IsCharBoundary text (total_len (take i ts))
 boundary_at text kinds starts errors ts is i h =
     let len = length-starts 0 ts in
-    subst (IsCharBoundary text) (omega (arith, start_at 0 0 ts i h)) (bounded_at text (starts_of 0 ts) i is.boundaries (omega arith))
+    subst (IsCharBoundary text) (omega (arith, start_at 0 0 ts i h))
+    (bounded_at text (starts_of 0 ts) i is.boundaries (omega arith))
 
 -- there are no more tokens than bytes
 pub few_tokens : (ts : List LexedToken) → are_sound ts ≡ true → length ts ≤ total_len ts
@@ -180,13 +220,17 @@ few_tokens (t ∷ ts) h =
     let some : 0 < t.len = grind (arith, nat_tests) in
     omega (arith, few_tokens ts (and_parts (faults_within t.len t.faults) (are_sound ts) parts.1).1)
 
-pub next_fits : (text kinds starts : List ℕ) (errors : List ParseError) (ts : List LexedToken) → IsStoredAs text kinds starts errors ts
+pub next_fits : (text kinds starts : List ℕ) (errors : List ParseError) (ts : List LexedToken)
+    → IsStoredAs text kinds starts errors ts
     → (i : ℕ) → i < length ts → i + 1 < 2 ^ 32
-next_fits text kinds starts errors ts is i h = omega (arith, few_tokens ts is.sound, is.whole, is.fits)
+next_fits text kinds starts errors ts is i h =
+    omega (arith, few_tokens ts is.sound, is.whole, is.fits)
 
 -- ---- the token at a place
 
-piece_in : (at : ℕ) (ts : List LexedToken) (i k s e : ℕ) → i < length ts → k ≡ get_or (kinds_of ts) i k → s ≡ get_or (starts_of at ts) i s → e ≡ get_or (starts_of at ts) (suc i) e
+piece_in : (at : ℕ) (ts : List LexedToken) (i k s e : ℕ) → i < length ts
+    → k ≡ get_or (kinds_of ts) i k → s ≡ get_or (starts_of at ts) i s
+    → e ≡ get_or (starts_of at ts) (suc i) e
     → drop i ts ≡ record { kind = k; len = e - s; faults = faults_at ts i } ∷ drop (suc i) ts
 piece_in at [] i k s e h p q r = absurd (omega arith)
 piece_in at (t ∷ ts) zero k s e h p q r =
@@ -197,17 +241,33 @@ piece_in at (t ∷ ts) (suc i) k s e h p q r = piece_in (at + t.len) ts i k s e 
 next : (i : ℕ) → i + 1 ≡ suc i
 next i = omega arith
 
-pub piece_at : (text kinds starts : List ℕ) (errors : List ParseError) (ts : List LexedToken) → IsStoredAs text kinds starts errors ts
-    → (i k s e : ℕ) → i < length ts → k ≡ get_or kinds i k → s ≡ get_or starts i s → e ≡ get_or starts (i + 1) e
+pub piece_at : (text kinds starts : List ℕ) (errors : List ParseError) (ts : List LexedToken)
+    → IsStoredAs text kinds starts errors ts
+    → (i k s e : ℕ) → i < length ts → k ≡ get_or kinds i k → s ≡ get_or starts i s
+    → e ≡ get_or starts (i + 1) e
     → drop i ts ≡ record { kind = k; len = e - s; faults = faults_at ts i } ∷ drop (i + 1) ts
 piece_at text kinds starts errors ts is i k s e h p q r =
-    rw (next i) (piece_in 0 ts i k s e h (rw is.kinds_are at p) (rw is.starts_are at q) (rw (is.starts_are, next i) at r))
+    rw (next i) (piece_in 0 ts i k s e h (rw is.kinds_are at p) (rw is.starts_are at q)
+    (rw (is.starts_are, next i) at r))
 
-pub starts_rise : (text kinds starts : List ℕ) (errors : List ParseError) (ts : List LexedToken) → IsStoredAs text kinds starts errors ts
+pub starts_rise : (text kinds starts : List ℕ) (errors : List ParseError) (ts : List LexedToken)
+    → IsStoredAs text kinds starts errors ts
     → (i s e : ℕ) → i < length ts → s ≡ get_or starts i s → e ≡ get_or starts (i + 1) e → s ≤ e
 starts_rise text kinds starts errors ts is i s e h q r =
-    omega (arith, q, r, place_at text kinds starts errors ts is i s (omega arith), place_at text kinds starts errors ts is (i + 1) e (omega arith), rising ts i (i + 1) (omega arith))
+    omega (
+      arith,
+      q,
+      r,
+      place_at text kinds starts errors ts is i s (omega arith),
+      place_at text
+          kinds starts errors ts is (i + 1) e (omega arith),
+      rising ts i (i + 1) (omega arith),
+    )
 
-pub seen_whole : (text kinds starts : List ℕ) (errors : List ParseError) (l : LexedText) → record { text = text; tokens = lexed_tokens_from kinds starts errors } ≡ l
-    → IsStored text kinds starts errors → (total_len l.tokens ≡ length l.text) × (length l.text < 2 ^ 32)
-seen_whole text kinds starts errors l seen is = subst (λ m. (total_len m.tokens ≡ length m.text) × (length m.text < 2 ^ 32)) seen (is.whole, is.fits)
+pub seen_whole : (text kinds starts : List ℕ) (errors : List ParseError) (l : LexedText)
+    → record { text = text; tokens = lexed_tokens_from kinds starts errors } ≡ l
+    → IsStored text kinds starts errors → (total_len l.tokens ≡ length l.text)
+    × (length l.text < 2 ^ 32)
+seen_whole text kinds starts errors l seen is =
+    subst (λ m. (total_len m.tokens ≡ length m.text)
+    × (length m.text < 2 ^ 32)) seen (is.whole, is.fits)

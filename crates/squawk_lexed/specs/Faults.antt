@@ -21,8 +21,10 @@ exponent_row None junk = []
 exponent_row (Some place) junk = fault 6 place junk ∷ []
 
 abbrev pub literal_faults : LiteralKind → ℕ → List Fault
-literal_faults (Int base empty_int junk) len = row empty_int (fault 5 0 len) ++ row (nat_lt junk len) (fault 7 junk len)
-literal_faults (Numeric empty_exponent junk) len = exponent_row empty_exponent junk ++ row (nat_lt junk len) (fault 7 junk len)
+literal_faults (Int base empty_int junk) len =
+    row empty_int (fault 5 0 len) ++ row (nat_lt junk len) (fault 7 junk len)
+literal_faults (Numeric empty_exponent junk) len =
+    exponent_row empty_exponent junk ++ row (nat_lt junk len) (fault 7 junk len)
 literal_faults (Str terminated) len = row (not terminated) (fault 3 0 len)
 literal_faults (NationalStr terminated) len = row (not terminated) (fault 3 0 len)
 literal_faults (ByteStr terminated) len = row (not terminated) (fault 3 0 len)
@@ -36,7 +38,8 @@ kind_faults token.Unknown len = fault 1 0 len ∷ []
 kind_faults (token.BlockComment terminated) len = row (not terminated) (fault 2 0 len)
 kind_faults (token.Literal literal) len = literal_faults literal len
 kind_faults (token.QuotedIdent terminated uescape) len = row (not terminated) (fault 4 0 len)
-kind_faults (token.PositionalParam junk) len = row (junk == 1) (fault 8 0 1) ++ row (nat_lt junk len) (fault 9 junk len)
+kind_faults (token.PositionalParam junk) len =
+    row (junk == 1) (fault 8 0 1) ++ row (nat_lt junk len) (fault 9 junk len)
 kind_faults _ len = []
 
 -- the faults of a token, by places in it
@@ -51,7 +54,8 @@ in_two (f ∷ g ∷ fs) = Some f ∷ Some g ∷ []
 
 -- the number is that of a token's fault, and the fault has a byte of the token at least
 abbrev pub fault_within : ℕ → Fault → Bool
-fault_within len f = nat_le 1 f.number && (nat_le f.number 9 && (nat_lt f.start f.end && nat_le f.end len))
+fault_within len f = nat_le 1 f.number && (nat_le f.number 9
+    && (nat_lt f.start f.end && nat_le f.end len))
 
 abbrev pub faults_within : ℕ → List Fault → Bool
 faults_within len [] = true

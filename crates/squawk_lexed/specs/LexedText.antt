@@ -12,7 +12,12 @@ use Rattle.squawk_lexed.specs.Faults.{faults, faults_within}
 abbrev pub lexed_tokens : List ℕ → ℕ → List Token → List LexedToken
 lexed_tokens text at [] = []
 lexed_tokens text at (t ∷ ts) =
-    record { kind = leaf_kind t.kind (slice_range text at (at + t.len)); len = t.len; faults = faults t } ∷ lexed_tokens text (at + t.len) ts
+    record {
+      kind = leaf_kind t.kind (slice_range text at (at + t.len));
+      len = t.len;
+      faults =
+          faults t;
+    } ∷ lexed_tokens text (at + t.len) ts
 
 -- a text, and its tokens
 pub record LexedText : Type 0 where
@@ -21,7 +26,11 @@ pub record LexedText : Type 0 where
 
 -- by a reading of its plain strings
 abbrev pub lexed_text : Strings → List ℕ → LexedText
-lexed_text strings text = record { text = text; tokens = lexed_tokens text 0 (tokens strings (chars text)) }
+lexed_text strings text = record {
+  text = text;
+  tokens =
+      lexed_tokens text 0 (tokens strings (chars text));
+}
 
 abbrev pub total_len : List LexedToken → ℕ
 total_len [] = 0
@@ -37,11 +46,17 @@ abbrev pub tokens_len : List Token → ℕ
 tokens_len [] = 0
 tokens_len (t ∷ ts) = t.len + tokens_len ts
 
--- the tokens, laid one after another from a place of the text on, end between two characters, and so none past its end
+-- the tokens, laid one after another from a place of the text on, end between two characters, and
+-- so none past its end
 abbrev pub EndAtBoundaries : List ℕ → ℕ → List Token → Type 0
 EndAtBoundaries text at [] = ⊤
-EndAtBoundaries text at (t ∷ ts) = IsCharBoundary text (at + t.len) × EndAtBoundaries text (at + t.len) ts
+EndAtBoundaries text at (t ∷ ts) = IsCharBoundary text (at + t.len)
+    × EndAtBoundaries text (at + t.len) ts
 
 -- the part of a text that tokens from a place on cover, and these tokens
 abbrev pub lexed_part : List ℕ → ℕ → List Token → LexedText
-lexed_part text at ts = record { text = slice_range text at (at + tokens_len ts); tokens = lexed_tokens text at ts }
+lexed_part text at ts = record {
+  text = slice_range text at (at + tokens_len ts);
+  tokens =
+      lexed_tokens text at ts;
+}

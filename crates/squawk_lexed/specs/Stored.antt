@@ -18,7 +18,8 @@ starts_of at (t ∷ ts) = at ∷ starts_of (at + t.len) ts
 -- faults of a token that begins at a place, as errors of the text
 abbrev pub errors_at : ℕ → List Fault → List ParseError
 errors_at at [] = []
-errors_at at (f ∷ fs) = record { start = at + f.start; end = at + f.end; number = f.number } ∷ errors_at at fs
+errors_at at (f ∷ fs) = record { start = at + f.start; end = at + f.end; number = f.number }
+    ∷ errors_at at fs
 
 -- the errors of all tokens
 abbrev pub errors_of : ℕ → List LexedToken → List ParseError
@@ -30,7 +31,8 @@ errors_of at (t ∷ ts) = errors_at at t.faults ++ errors_of (at + t.len) ts
 abbrev pub faults_before : ℕ → ℕ → List ParseError → List Fault
 faults_before at end [] = []
 faults_before at end (e ∷ es) =
-    if nat_lt e.start end then record { number = e.number; start = e.start - at; end = e.end - at } ∷ faults_before at end es else []
+    if nat_lt e.start end then record { number = e.number; start = e.start - at; end = e.end - at }
+    ∷ faults_before at end es else []
 
 abbrev pub errors_from : ℕ → List ParseError → List ParseError
 errors_from end [] = []
@@ -40,7 +42,12 @@ abbrev pub lexed_tokens_from : List ℕ → List ℕ → List ParseError → Lis
 lexed_tokens_from [] starts errors = []
 lexed_tokens_from (kind ∷ kinds) [] errors = []
 lexed_tokens_from (kind ∷ kinds) (start ∷ starts) errors =
-    record { kind = kind; len = slice_index starts 0 - start; faults = faults_before start (slice_index starts 0) errors }
+    record {
+      kind = kind;
+      len = slice_index starts 0 - start;
+      faults =
+          faults_before start (slice_index starts 0) errors;
+    }
     ∷ lexed_tokens_from kinds starts (errors_from (slice_index starts 0) errors)
 
 abbrev pub AreBoundaries : List ℕ → List ℕ → Type 0
@@ -48,7 +55,8 @@ AreBoundaries text [] = ⊤
 AreBoundaries text (at ∷ places) = IsCharBoundary text at × AreBoundaries text places
 
 -- these are the tokens, they tile the text, and each place is between two characters
-pub record IsStoredAs (text kinds starts : List ℕ) (errors : List ParseError) (ts : List LexedToken) : Type 0 where
+pub record IsStoredAs (text kinds starts : List ℕ) (errors : List ParseError)
+    (ts : List LexedToken) : Type 0 where
   pub kinds_are : kinds ≡ kinds_of ts
   pub starts_are : starts ≡ starts_of 0 ts
   pub errors_are : errors ≡ errors_of 0 ts
@@ -58,7 +66,8 @@ pub record IsStoredAs (text kinds starts : List ℕ) (errors : List ParseError) 
   pub boundaries : AreBoundaries text (starts_of 0 ts)
 
 abbrev pub IsStored : List ℕ → List ℕ → List ℕ → List ParseError → Type 0
-IsStored text kinds starts errors = IsStoredAs text kinds starts errors (lexed_tokens_from kinds starts errors)
+IsStored text kinds starts errors =
+    IsStoredAs text kinds starts errors (lexed_tokens_from kinds starts errors)
 
 -- the faults of the token at i
 abbrev pub faults_at : List LexedToken → ℕ → List Fault

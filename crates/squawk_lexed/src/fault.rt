@@ -103,7 +103,8 @@ fn kind_faults(kind: TokenKind, len: u32) -> [Option<Fault>; 2]
     }
 }
 
-/// The faults of a token of a text, in the order of their numbers: none, one or two, and a `None` is followed by `None`.
+/// The faults of a token of a text, in the order of their numbers: none, one or two, and a `None`
+/// is followed by `None`.
 ///
 /// Each has a byte of the token at least.
 pub fn faults_of(token: Token) -> [Option<Fault>; 2]

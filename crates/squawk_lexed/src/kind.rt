@@ -7,7 +7,8 @@ use squawk_kinds::SyntaxKind;
 use squawk_lexer::{LiteralKind, TokenKind};
 use squawk_words::from_keyword;
 
-/// The kind of a word: the keyword that it is without regard to the case of ASCII letters, else `IDENT`.
+/// The kind of a word: the keyword that it is without regard to the case of ASCII letters, else
+/// `IDENT`.
 #[tactic(auto, unfolding(squawk_kinds::specs::Role::role))]
 fn word_kind(word: &str) -> SyntaxKind
     ensures kind { result ≡ word_kind word.now }

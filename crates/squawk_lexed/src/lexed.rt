@@ -86,8 +86,10 @@ fn fault_pair(token: Token) -> (Option<Fault>, Option<Fault>)
 
 /// Appends the fault of a token that begins at a place, if there is one.
 fn push_fault(errors: &mut Vec<LexError>, at: u32, fault: Option<Fault>) -> Result<(), FrontError>
-    requires lies { IfSome fault (λ f. (1 ≤ f.number) × (f.number ≤ 9) × (f.start ≤ f.end) × (at + f.end < 2 ^ 32)) }
-    ensures errors_at { OnOk result (errors.new.items ≡ errors.old.items ++ errors_at at (list_of fault)) }
+    requires lies { IfSome fault (λ f. (1 ≤ f.number) × (f.number ≤ 9) × (f.start ≤ f.end)
+        × (at + f.end < 2 ^ 32)) }
+    ensures errors_at { OnOk result (errors.new.items
+        ≡ errors.old.items ++ errors_at at (list_of fault)) }
     ensures refusal { IsOkUnless result OutOfMemory }
 {
     if let Some(fault) = fault {
@@ -104,7 +106,8 @@ fn push_fault(errors: &mut Vec<LexError>, at: u32, fault: Option<Fault>) -> Resu
 fn push_faults(errors: &mut Vec<LexError>, at: u32, token: Token) -> Result<(), FrontError>
     requires cut { IsCut token }
     requires fits { at + token.len < 2 ^ 32 }
-    ensures errors_at { OnOk result (errors.new.items ≡ errors.old.items ++ errors_at at (faults token)) }
+    ensures errors_at { OnOk result (errors.new.items
+        ≡ errors.old.items ++ errors_at at (faults token)) }
     ensures refusal { IsOkUnless result OutOfMemory }
 {
     let (first, second) = fault_pair(token);
@@ -124,9 +127,11 @@ struct Lists {
 fn push_token(lists: &mut Lists, at: u32, token: Token, text: &str) -> Result<(), FrontError>
     requires cut { IsCut token }
     requires fits { at + token.len < 2 ^ 32 }
-    ensures kinds { OnOk result (lists.new.kinds.items ≡ lists.old.kinds.items ++ leaf_kind token.kind text.now ∷ []) }
+    ensures kinds { OnOk result (lists.new.kinds.items
+        ≡ lists.old.kinds.items ++ leaf_kind token.kind text.now ∷ []) }
     ensures starts { OnOk result (lists.new.starts.items ≡ lists.old.starts.items ++ at ∷ []) }
-    ensures errors { OnOk result (lists.new.errors.items ≡ lists.old.errors.items ++ errors_at at (faults token)) }
+    ensures errors { OnOk result (lists.new.errors.items
+        ≡ lists.old.errors.items ++ errors_at at (faults token)) }
     ensures refusal { IsOkUnless result OutOfMemory }
 {
     lists.kinds.push(kind_of(token.kind, text))?;
@@ -187,8 +192,8 @@ fn kept_of(alloc: Global, kinds: &[SyntaxKind]) -> Result<Input, FrontError>
 impl<'a> LexedStr<'a> {
     /// The tokens of a text, by a reading of its plain strings.
     ///
-    /// `TooLong` comes exactly where the text has more than 4294967295 bytes, before any memory is taken, and `OutOfMemory` where
-    /// there is no memory for the tokens.
+    /// `TooLong` comes exactly where the text has more than 4294967295 bytes, before any memory is
+    /// taken, and `OutOfMemory` where there is no memory for the tokens.
     pub fn new_in(
         alloc: Global,
         text: &'a str,
@@ -228,8 +233,8 @@ impl<'a> LexedStr<'a> {
 
     /// The tokens of a text, where a backslash in a plain string is a character like any other.
     ///
-    /// `TooLong` comes exactly where the text has more than 4294967295 bytes, before any memory is taken, and `OutOfMemory` where
-    /// there is no memory for the tokens.
+    /// `TooLong` comes exactly where the text has more than 4294967295 bytes, before any memory is
+    /// taken, and `OutOfMemory` where there is no memory for the tokens.
     pub fn new(alloc: Global, text: &'a str) -> Result<LexedStr<'a>, FrontError>
         ensures lexed { IfOk result (λ l. l ≡ lexed_text Standard text.now) }
         ensures too_long { IsErrOf result FrontError.TooLong ↔ (LIMIT < length text.now) }
@@ -237,8 +242,8 @@ impl<'a> LexedStr<'a> {
         LexedStr::new_in(alloc, text, Strings::Standard)
     }
 
-    /// Tokens that were cut before, the first of which begins at a place of a text: the part of the text that they cover, with
-    /// positions from its start. It cuts nothing.
+    /// Tokens that were cut before, the first of which begins at a place of a text: the part of the
+    /// text that they cover, with positions from its start. It cuts nothing.
     pub fn from_tokens(
         alloc: Global,
         text: &'a str,
@@ -330,7 +335,8 @@ impl<'a> LexedStr<'a> {
     /// The token's part of the text.
     pub fn text(&self, i: usize) -> &'a str
         requires { i < length self.now.tokens }
-        ensures { result.now ≡ slice_range self.now.text (total_len (take i self.now.tokens)) (total_len (take (i + 1) self.now.tokens)) }
+        ensures { result.now ≡ slice_range self.now.text (total_len (take i self.now.tokens))
+            (total_len (take (i + 1) self.now.tokens)) }
     {
         let range = self.text_range(i);
         &self.text[range.start..range.end]
@@ -347,7 +353,12 @@ impl<'a> LexedStr<'a> {
     pub(crate) fn piece(&self, i: usize) -> Piece
         requires { i < length self.now.tokens }
         ensures fits { i + 1 < 2 ^ 32 }
-        ensures at { drop i self.now.tokens ≡ record { kind = result.kind; len = result.len; faults = faults_at self.now.tokens i } ∷ drop (i + 1) self.now.tokens }
+        ensures at { drop i self.now.tokens ≡ record {
+          kind = result.kind;
+          len =
+              result.len;
+          faults = faults_at self.now.tokens i;
+        } ∷ drop (i + 1) self.now.tokens }
     {
         Piece {
             kind: self.kinds[i],

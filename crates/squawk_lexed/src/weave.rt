@@ -26,12 +26,17 @@ fn give_front<K: StepSink>(
 ) -> Result<Place, FrontError>
     requires within { from.index ≤ length lexed.now.tokens }
     requires small { from.at + total_len (drop from.index lexed.now.tokens) < 2 ^ 32 }
-    ensures ok { OnOk result (K.steps sink.new ≡ K.steps sink.old ++ leading_trivia from.at (drop from.index lexed.now.tokens)) }
-    ensures left { IfOk result (λ to. drop to.index lexed.now.tokens ≡ after_leading_trivia (drop from.index lexed.now.tokens)) }
-    ensures at { IfOk result (λ to. to.at ≡ leading_trivia_end from.at (drop from.index lexed.now.tokens)) }
-    ensures same_end { IfOk result (λ to. to.at + total_len (drop to.index lexed.now.tokens) ≡ from.at + total_len (drop from.index lexed.now.tokens)) }
+    ensures ok { OnOk result (K.steps sink.new
+        ≡ K.steps sink.old ++ leading_trivia from.at (drop from.index lexed.now.tokens)) }
+    ensures left { IfOk result (λ to. drop to.index lexed.now.tokens
+        ≡ after_leading_trivia (drop from.index lexed.now.tokens)) }
+    ensures at { IfOk result (λ to.
+        to.at ≡ leading_trivia_end from.at (drop from.index lexed.now.tokens)) }
+    ensures same_end { IfOk result (λ to. to.at + total_len (drop to.index lexed.now.tokens)
+        ≡ from.at + total_len (drop from.index lexed.now.tokens)) }
     ensures within { IfOk result (λ to. to.index ≤ length lexed.now.tokens) }
-    ensures front { OnErr result (AppendsPrefix (K.steps sink.old) (K.steps sink.new) (leading_trivia from.at (drop from.index lexed.now.tokens))) }
+    ensures front { OnErr result (AppendsPrefix (K.steps sink.old) (K.steps sink.new)
+        (leading_trivia from.at (drop from.index lexed.now.tokens))) }
     ensures errors { K.errors sink.new ≡ K.errors sink.old }
     ensures refusal { IsOkUnless result OutOfMemory }
 {
@@ -61,12 +66,17 @@ fn give_step<K: StepSink>(
     requires within { from.index ≤ length lexed.now.tokens }
     requires small { from.at + total_len (drop from.index lexed.now.tokens) < 2 ^ 32 }
     requires served { IsTrue (has_token_for (drop from.index lexed.now.tokens) step) }
-    ensures ok { OnOk result (K.steps sink.new ≡ K.steps sink.old ++ weave_step last from.at (drop from.index lexed.now.tokens) step) }
-    ensures left { IfOk result (λ to. drop to.index lexed.now.tokens ≡ tokens_after_step last (drop from.index lexed.now.tokens) step) }
-    ensures at { IfOk result (λ to. to.at ≡ offset_after_step last from.at (drop from.index lexed.now.tokens) step) }
-    ensures same_end { IfOk result (λ to. to.at + total_len (drop to.index lexed.now.tokens) ≡ from.at + total_len (drop from.index lexed.now.tokens)) }
+    ensures ok { OnOk result (K.steps sink.new
+        ≡ K.steps sink.old ++ weave_step last from.at (drop from.index lexed.now.tokens) step) }
+    ensures left { IfOk result (λ to. drop to.index lexed.now.tokens
+        ≡ tokens_after_step last (drop from.index lexed.now.tokens) step) }
+    ensures at { IfOk result (λ to.
+        to.at ≡ offset_after_step last from.at (drop from.index lexed.now.tokens) step) }
+    ensures same_end { IfOk result (λ to. to.at + total_len (drop to.index lexed.now.tokens)
+        ≡ from.at + total_len (drop from.index lexed.now.tokens)) }
     ensures within { IfOk result (λ to. to.index ≤ length lexed.now.tokens) }
-    ensures front { OnErr result (AppendsPrefix (K.steps sink.old) (K.steps sink.new) (weave_step last from.at (drop from.index lexed.now.tokens) step)) }
+    ensures front { OnErr result (AppendsPrefix (K.steps sink.old) (K.steps sink.new)
+        (weave_step last from.at (drop from.index lexed.now.tokens) step)) }
     ensures errors { K.errors sink.new ≡ K.errors sink.old }
     ensures refusal { IsOkUnless result OutOfMemory }
 {
@@ -115,9 +125,11 @@ fn give_rest<K: StepSink>(
     sink: &mut K,
 ) -> Result<bool, FrontError>
     requires served { IsTrue (have_tokens_for lexed.now.tokens rest.now) }
-    ensures ok { OnOk result (K.steps sink.new ≡ K.steps sink.old ++ weave_from 0 lexed.now.tokens rest.now) }
+    ensures ok { OnOk result (K.steps sink.new
+        ≡ K.steps sink.old ++ weave_from 0 lexed.now.tokens rest.now) }
     ensures all { IfOk result (λ all. all ≡ is_empty (remaining_from lexed.now.tokens rest.now)) }
-    ensures front { OnErr result (AppendsPrefix (K.steps sink.old) (K.steps sink.new) (weave_from 0 lexed.now.tokens rest.now)) }
+    ensures front { OnErr result (AppendsPrefix (K.steps sink.old) (K.steps sink.new)
+        (weave_from 0 lexed.now.tokens rest.now)) }
     ensures errors { K.errors sink.new ≡ K.errors sink.old }
     ensures refusal { IsOkUnless result OutOfMemory }
 {
@@ -149,10 +161,14 @@ impl<'a> LexedStr<'a> {
         sink: &mut K,
     ) -> Result<bool, FrontError>
         requires balanced { IsTrue (is_balanced output.now) }
-        requires tokens { IsTrue (begins_with (kinds_without_trivia self.now.tokens) (token_kinds output.now)) }
-        ensures ok { OnOk result (K.steps sink.new ≡ K.steps sink.old ++ weave self.now.tokens output.now) }
-        ensures all { IfOk result (λ all. all ≡ is_empty (remaining_tokens self.now.tokens output.now)) }
-        ensures front { OnErr result (AppendsPrefix (K.steps sink.old) (K.steps sink.new) (weave self.now.tokens output.now)) }
+        requires tokens { IsTrue (begins_with (kinds_without_trivia self.now.tokens)
+            (token_kinds output.now)) }
+        ensures ok { OnOk result (K.steps sink.new
+            ≡ K.steps sink.old ++ weave self.now.tokens output.now) }
+        ensures all { IfOk result (λ all. all
+            ≡ is_empty (remaining_tokens self.now.tokens output.now)) }
+        ensures front { OnErr result (AppendsPrefix (K.steps sink.old) (K.steps sink.new)
+            (weave self.now.tokens output.now)) }
         ensures errors { K.errors sink.new ≡ K.errors sink.old }
         ensures refusal { IsOkUnless result OutOfMemory }
     {

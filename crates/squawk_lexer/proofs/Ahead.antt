@@ -1,4 +1,5 @@
--- What a text is up to a place, and a little after it, decides what the definitions say of that part.
+-- What a text is up to a place, and a little after it, decides what the definitions say of that
+-- part.
 use Rattle.std.proofs.Common.{◌≡◌, ℕ, ◌+◌, ◌-◌, ◌<◌, ◌≤◌, Bool, true, false, List, ◌∷◌, ◌++◌, length, get_or, take, drop, get_or-take, length-drop, refl, sym, ap, ◌∙◌, inl, inr, ◌⊎◌, ◌&&◌, cond, arith}
 use Rattle.std.proofs.lemmas.Bool.{cases_lt}
 use Rattle.std.proofs.lemmas.List.{drop-take, drop-drop, drop_more, get_or-drop, take-append-drop, take-take, length-take, length-take-le}
@@ -6,27 +7,32 @@ use Rattle.squawk_lexer.specs.LookAhead.{Agrees}
 
 -- ---- what follows a token in two texts
 
--- Two texts go on with c and r, and with d and s. The tests that are `told` say the same of c and d, and those of
--- two characters that are `pairs` say the same of the first two.
-pub record Follows (told : (ℕ → Bool) → Type 0) (pairs : (ℕ → Bool) → (ℕ → Bool) → Type 0) (c d : ℕ) (r s : List ℕ) : Type 0 where
+-- Two texts go on with c and r, and with d and s. The tests that are `told` say the same of c and
+-- d, and those of two characters that are `pairs` say the same of the first two.
+pub record Follows (told : (ℕ → Bool) → Type 0) (pairs : (ℕ → Bool) → (ℕ → Bool)
+    → Type 0) (c d : ℕ) (r s : List ℕ) : Type 0 where
   pub one : (p : ℕ → Bool) → told p → p d ≡ p c
   pub two : (p q : ℕ → Bool) → pairs p q → (p d && q (get_or s 0 0)) ≡ (p c && q (get_or r 0 0))
 
 -- ---- lists that begin alike
 
 -- g is the same of two texts that begin with xs and go on alike, where m measures how far g reads
-abbrev pub Looks : {X : Type 0} → ((ℕ → Bool) → Type 0) → ((ℕ → Bool) → (ℕ → Bool) → Type 0) → (List ℕ → X) → (List ℕ → ℕ) → Type 0
+abbrev pub Looks : {X : Type 0} → ((ℕ → Bool) → Type 0) → ((ℕ → Bool) → (ℕ → Bool) → Type 0)
+    → (List ℕ → X) → (List ℕ → ℕ) → Type 0
 Looks told pairs g m =
-    (xs : List ℕ) (c d : ℕ) (r s : List ℕ) → Follows told pairs c d r s → m (xs ++ c ∷ r) ≤ length xs → g (xs ++ d ∷ s) ≡ g (xs ++ c ∷ r)
+    (xs : List ℕ) (c d : ℕ) (r s : List ℕ) → Follows told pairs c d r s
+    → m (xs ++ c ∷ r) ≤ length xs → g (xs ++ d ∷ s) ≡ g (xs ++ c ∷ r)
 
 -- of two branches that are taken alike
-pub branch : {X : Type 0} (m : X → ℕ) (b : Bool) (x y x' y' : X) (n : ℕ) → (b ≡ true → m x ≤ n → x' ≡ x) → (b ≡ false → m y ≤ n → y' ≡ y)
+pub branch : {X : Type 0} (m : X → ℕ) (b : Bool) (x y x' y' : X) (n : ℕ)
+    → (b ≡ true → m x ≤ n → x' ≡ x) → (b ≡ false → m y ≤ n → y' ≡ y)
     → m (cond b x y) ≤ n → cond b x' y' ≡ cond b x y
 branch m true x y x' y' n p q h = p refl h
 branch m false x y x' y' n p q h = q refl h
 
 -- the same, where the tests are alike
-pub pick : {X : Type 0} (m : X → ℕ) (b b' : Bool) (x y x' y' : X) (n : ℕ) → b' ≡ b → (b ≡ true → m x ≤ n → x' ≡ x) → (b ≡ false → m y ≤ n → y' ≡ y)
+pub pick : {X : Type 0} (m : X → ℕ) (b b' : Bool) (x y x' y' : X) (n : ℕ) → b' ≡ b
+    → (b ≡ true → m x ≤ n → x' ≡ x) → (b ≡ false → m y ≤ n → y' ≡ y)
     → m (cond b x y) ≤ n → cond b' x' y' ≡ cond b x y
 pick m b b' x y x' y' n e p q h = rw e (branch m b x y x' y' n p q h)
 
@@ -49,24 +55,33 @@ agrees_less m n u v h a = record {
   same = sym (take-take m n v h) ∙ ap (take m) a.same ∙ take-take m n u h;
 }
 
-pub agrees_read : (n : ℕ) (u v : List ℕ) (j : ℕ) → Agrees n u v → j < n → get_or v j 0 ≡ get_or u j 0
-agrees_read n u v j a h = sym (get_or-take n v j 0 h) ∙ ap (λ w. get_or w j 0) a.same ∙ get_or-take n u j 0 h
+pub agrees_read : (n : ℕ) (u v : List ℕ) (j : ℕ) → Agrees n u v → j < n
+    → get_or v j 0 ≡ get_or u j 0
+agrees_read n u v j a h = sym (get_or-take n v j 0 h) ∙ ap (λ w. get_or w j 0) a.same
+    ∙ get_or-take n u j 0 h
+    -- ---- texts that are alike up to the place k, which a token ends at: they agree before it, and go
+    on alike
 
--- ---- texts that are alike up to the place k, which a token ends at: they agree before it, and go on alike
-pub record Alike (told : (ℕ → Bool) → Type 0) (pairs : (ℕ → Bool) → (ℕ → Bool) → Type 0) (k : ℕ) (u v : List ℕ) : Type 0 where
+pub record Alike (told : (ℕ → Bool) → Type 0) (pairs : (ℕ → Bool) → (ℕ → Bool)
+    → Type 0) (k : ℕ) (u v : List ℕ) : Type 0 where
   pub left : k < length u
   pub right : k < length v
   pub same : take k v ≡ take k u
   pub follows : Follows told pairs (get_or u k 0) (get_or v k 0) (drop (k + 1) u) (drop (k + 1) v)
 
-pub take_same : {told : (ℕ → Bool) → Type 0} {pairs : (ℕ → Bool) → (ℕ → Bool) → Type 0} (k : ℕ) (u v : List ℕ) (n : ℕ) → Alike told pairs k u v → n ≤ k → take n v ≡ take n u
+pub take_same : {told : (ℕ → Bool) → Type 0} {pairs : (ℕ → Bool) → (ℕ → Bool)
+    → Type 0} (k : ℕ) (u v : List ℕ) (n : ℕ) → Alike told pairs k u v → n ≤ k → take n v ≡ take n u
 take_same k u v n a h = sym (take-take n k v h) ∙ ap (take n) a.same ∙ take-take n k u h
 
-pub read : {told : (ℕ → Bool) → Type 0} {pairs : (ℕ → Bool) → (ℕ → Bool) → Type 0} (k : ℕ) (u v : List ℕ) (j : ℕ) → Alike told pairs k u v → j < k → get_or v j 0 ≡ get_or u j 0
-read k u v j a h = sym (get_or-take k v j 0 h) ∙ ap (λ w. get_or w j 0) a.same ∙ get_or-take k u j 0 h
+pub read : {told : (ℕ → Bool) → Type 0} {pairs : (ℕ → Bool) → (ℕ → Bool)
+    → Type 0} (k : ℕ) (u v : List ℕ) (j : ℕ) → Alike told pairs k u v → j < k
+    → get_or v j 0 ≡ get_or u j 0
+read k u v j a h = sym (get_or-take k v j 0 h) ∙ ap (λ w. get_or w j 0) a.same
+    ∙ get_or-take k u j 0 h
 
 -- a test of a character up to k
-pub test : {told : (ℕ → Bool) → Type 0} {pairs : (ℕ → Bool) → (ℕ → Bool) → Type 0} (p : ℕ → Bool) → told p → (k : ℕ) (u v : List ℕ) (j : ℕ) → Alike told pairs k u v → j ≤ k
+pub test : {told : (ℕ → Bool) → Type 0} {pairs : (ℕ → Bool) → (ℕ → Bool) → Type 0} (p : ℕ → Bool)
+    → told p → (k : ℕ) (u v : List ℕ) (j : ℕ) → Alike told pairs k u v → j ≤ k
     → p (get_or v j 0) ≡ p (get_or u j 0)
 test p t k u v j a h = by (cases_lt j k)
   where
@@ -81,34 +96,52 @@ pub after : (k : ℕ) (u : List ℕ) → get_or (drop (k + 1) u) 0 0 ≡ get_or 
 after k u = get_or-drop (k + 1) u 0 0 ∙ ap (λ n. get_or u n 0) (omega arith)
 
 -- a test of two characters, of which the first is at k at most
-pub pair : {told : (ℕ → Bool) → Type 0} {pairs : (ℕ → Bool) → (ℕ → Bool) → Type 0} (p q : ℕ → Bool) → told q → pairs p q → (k : ℕ) (u v : List ℕ) (i j : ℕ) → Alike told pairs k u v → i ≤ k → j ≡ i + 1
+pub pair : {told : (ℕ → Bool) → Type 0} {pairs : (ℕ → Bool) → (ℕ → Bool) → Type 0} (p q : ℕ → Bool)
+    → told q → pairs p q → (k : ℕ) (u v : List ℕ) (i j : ℕ) → Alike told pairs k u v → i ≤ k
+    → j ≡ i + 1
     → (p (get_or v i 0) && q (get_or v j 0)) ≡ (p (get_or u i 0) && q (get_or u j 0))
 pair p q t s k u v i j a h e = by (cases_lt i k)
   where
-    by : (i < k) ⊎ (k ≤ i) → (p (get_or v i 0) && q (get_or v j 0)) ≡ (p (get_or u i 0) && q (get_or u j 0))
-    by (inl less) = ap (λ c. p c && q (get_or v j 0)) (read k u v i a less) ∙ ap (λ b. p (get_or u i 0) && b) (test q t k u v j a (omega arith))
+    by : (i < k) ⊎ (k ≤ i) → (p (get_or v i 0) && q (get_or v j 0))
+        ≡ (p (get_or u i 0) && q (get_or u j 0))
+    by (inl less) = ap (λ c. p c && q (get_or v j 0)) (read k u v i a less)
+        ∙ ap (λ b. p (get_or u i 0) && b) (test q t k u v j a (omega arith))
     by (inr end) =
         let at : k ≡ i = omega arith in
         let next : k + 1 ≡ j = omega arith in
-        let two = λ (w : List ℕ). ap (λ c. p (get_or w k 0) && q c) (after k w) ∙ ap (λ n. p (get_or w n 0) && q (get_or w (k + 1) 0)) at ∙ ap (λ n. p (get_or w i 0) && q (get_or w n 0)) next in
+        let two = λ (w : List ℕ). ap (λ c. p (get_or w k 0) && q c) (after k w)
+        ∙ ap (λ n. p (get_or w n 0) && q (get_or w (k + 1) 0)) at
+        ∙ ap (λ n. p (get_or w i 0) && q (get_or w n 0)) next in
         sym (two v) ∙ a.follows.two p q s ∙ two u
 
 -- a text from i on, up to k and from there
-up_to : (k : ℕ) (u : List ℕ) (i : ℕ) → i ≤ k → k < length u → take (k - i) (drop i u) ++ get_or u k 0 ∷ drop (k + 1) u ≡ drop i u
+up_to : (k : ℕ) (u : List ℕ) (i : ℕ) → i ≤ k → k < length u
+    → take (k - i) (drop i u) ++ get_or u k 0 ∷ drop (k + 1) u ≡ drop i u
 up_to k u i h within =
     let total : k - i + i ≡ k = omega arith in
     let here : drop k u ≡ get_or u k 0 ∷ drop (k + 1) u = drop_more u k 0 within in
-    sym (sym (take-append-drop (k - i) (drop i u)) ∙ ap (λ w. take (k - i) (drop i u) ++ w) (drop-drop (k - i) i u ∙ ap (λ n. drop n u) (omega arith) ∙ here))
+    sym (sym (take-append-drop (k - i) (drop i u))
+    ∙ ap (λ w. take (k - i) (drop i u) ++ w) (drop-drop (k - i) i u
+    ∙ ap (λ n. drop n u) (omega arith) ∙ here))
 
 -- what g says from a place on, where it ends at k at most
-pub seen : {X : Type 0} {told : (ℕ → Bool) → Type 0} {pairs : (ℕ → Bool) → (ℕ → Bool) → Type 0} (g : List ℕ → X) (m : List ℕ → ℕ) → Looks told pairs g m → (k : ℕ) (u v : List ℕ) (i : ℕ)
+pub seen : {X : Type 0} {told : (ℕ → Bool) → Type 0} {pairs : (ℕ → Bool) → (ℕ → Bool)
+    → Type 0} (g : List ℕ → X) (m : List ℕ → ℕ) → Looks told pairs g m
+    → (k : ℕ) (u v : List ℕ) (i : ℕ)
     → Alike told pairs k u v → i + m (drop i u) ≤ k → g (drop i v) ≡ g (drop i u)
 seen g m looks k u v i a h =
     let j : ℕ = k - i in
     let less : k < length u = a.left in
     let left = up_to k u i (omega arith) a.left in
-    let front : take j (drop i v) ≡ take j (drop i u) = sym (drop-take i j v) ∙ ap (drop i) (take_same k u v (i + j) a (omega arith)) ∙ drop-take i j u in
-    let right : take j (drop i u) ++ get_or v k 0 ∷ drop (k + 1) v ≡ drop i v = ap (λ w. w ++ get_or v k 0 ∷ drop (k + 1) v) (sym front) ∙ up_to k v i (omega arith) a.right in
-    let len : length (take j (drop i u)) ≡ j = length-take-le j (drop i u) (omega (arith, length-drop i u)) in
-    let known : m (take j (drop i u) ++ get_or u k 0 ∷ drop (k + 1) u) ≤ length (take j (drop i u)) = omega (arith, ap m left) in
-    sym (ap g right) ∙ looks (take j (drop i u)) (get_or u k 0) (get_or v k 0) (drop (k + 1) u) (drop (k + 1) v) a.follows known ∙ ap g left
+    let front : take j (drop i v) ≡ take j (drop i u) = sym (drop-take i j v)
+    ∙ ap (drop i) (take_same k u v (i + j) a (omega arith)) ∙ drop-take i j u in
+    let right : take j (drop i u) ++ get_or v k 0 ∷ drop (k + 1) v ≡ drop i v =
+    ap (λ w. w ++ get_or v k 0 ∷ drop (k + 1) v) (sym front) ∙ up_to k v i (omega arith) a.right
+    in
+    let len : length (take j (drop i u)) ≡ j =
+    length-take-le j (drop i u) (omega (arith, length-drop i u)) in
+    let known : m (take j (drop i u) ++ get_or u k 0 ∷ drop (k + 1) u)
+    ≤ length (take j (drop i u)) = omega (arith, ap m left) in
+    sym (ap g right)
+    ∙ looks (take j (drop i u)) (get_or u k 0) (get_or v k 0) (drop (k + 1) u) (drop (k + 1) v)
+    a.follows known ∙ ap g left

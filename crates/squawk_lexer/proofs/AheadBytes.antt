@@ -24,19 +24,27 @@ use Rattle.squawk_lexer.proofs.StatementLaws.{statements_stand_alone}
 -- ---- look-ahead
 
 -- as many bytes are as many characters
-same_place : (u : List ℕ) (m n : ℕ) → m ≤ length u → n ≤ length u → utf8_len (take m u) ≡ utf8_len (take n u) → m ≡ n
+same_place : (u : List ℕ) (m n : ℕ) → m ≤ length u → n ≤ length u
+    → utf8_len (take m u) ≡ utf8_len (take n u) → m ≡ n
 same_place [] m n h k e = omega arith
 same_place (c ∷ cs) zero zero h k e = refl
-same_place (c ∷ cs) zero (suc n) h k e = absurd (omega (arith, e, sum_by-cons len_utf8 c (take n cs), len_utf8_bounds c))
-same_place (c ∷ cs) (suc m) zero h k e = absurd (omega (arith, e, sum_by-cons len_utf8 c (take m cs), len_utf8_bounds c))
+same_place (c ∷ cs) zero (suc n) h k e =
+    absurd (omega (arith, e, sum_by-cons len_utf8 c (take n cs), len_utf8_bounds c))
+same_place (c ∷ cs) (suc m) zero h k e =
+    absurd (omega (arith, e, sum_by-cons len_utf8 c (take m cs), len_utf8_bounds c))
 same_place (c ∷ cs) (suc m) (suc n) h k e =
-    ap suc (same_place cs m n (omega arith) (omega arith) (omega (arith, e, sum_by-cons len_utf8 c (take m cs), sum_by-cons len_utf8 c (take n cs))))
+    ap suc (same_place cs m n (omega arith) (omega arith)
+    (omega (arith, e, sum_by-cons len_utf8 c (take m cs), sum_by-cons len_utf8 c (take n cs))))
 
--- where the first token has the bytes of `front`, and two characters follow, any other text with these has it too
-of_parts : (strings : Strings) (at_start : Bool) (front two rest other : List ℕ) → (token_at strings at_start (chars (front ++ (two ++ rest)))).len ≡ length front
+-- where the first token has the bytes of `front`, and two characters follow, any other text with
+-- these has it too
+of_parts : (strings : Strings) (at_start : Bool) (front two rest other : List ℕ)
+    → (token_at strings at_start (chars (front ++ (two ++ rest)))).len ≡ length front
     → IsUtf8 front → IsUtf8 two → 2 ≤ length (chars two)
-    → token_at strings at_start (chars (front ++ (two ++ other))) ≡ token_at strings at_start (chars (front ++ (two ++ rest)))
-of_parts strings at_start front two rest other len utf8 utf8_two some = tokens_look_ahead strings at_start u v agrees
+    → token_at strings at_start (chars (front ++ (two ++ other)))
+    ≡ token_at strings at_start (chars (front ++ (two ++ rest)))
+of_parts strings at_start front two rest other len utf8 utf8_two some =
+    tokens_look_ahead strings at_start u v agrees
   where
     u : List ℕ
     u = chars (front ++ (two ++ rest))
@@ -49,20 +57,27 @@ of_parts strings at_start front two rest other len utf8 utf8_two some = tokens_l
 
     -- both begin with the characters that are known
     split : (r : List ℕ) → chars (front ++ (two ++ r)) ≡ known ++ chars r
-    split r = chars-append front (two ++ r) utf8 ∙ ap (λ w. chars front ++ w) (chars-append two r utf8_two) ∙ sym (append_assoc (chars front) (chars two) (chars r))
+    split r = chars-append front (two ++ r) utf8
+        ∙ ap (λ w. chars front ++ w) (chars-append two r utf8_two)
+        ∙ sym (append_assoc (chars front) (chars two) (chars r))
 
     long : length u ≡ length (chars front) + length (chars two) + length (chars rest)
-    long = ap length (split rest) ∙ length-append known (chars rest) ∙ ap (λ n. n + length (chars rest)) (length-append (chars front) (chars two))
+    long = ap length (split rest) ∙ length-append known (chars rest)
+        ∙ ap (λ n. n + length (chars rest)) (length-append (chars front) (chars two))
 
     front_bytes : utf8_len (take (length (chars front)) u) ≡ length front
     front_bytes =
         let n = length (chars front) in
         let taken : take n u ≡ chars front =
-        ap (take n) (split rest) ∙ take-append-le n known (chars rest) (omega (arith, length-append (chars front) (chars two))) ∙ take-append_seam (chars front) (chars two) in
+        ap (take n) (split rest)
+        ∙ take-append-le n known (chars rest)
+        (omega (arith, length-append (chars front) (chars two)))
+        ∙ take-append_seam (chars front) (chars two) in
         ap utf8_len taken ∙ sym (length-bytes front (is_utf8-from_IsUtf8 front utf8))
 
     end : (lexeme_at strings at_start u).end ≡ length (chars front)
-    end = same_place u _ _ (tokens_within strings at_start u (omega (arith, long))) (omega (arith, long)) (len ∙ sym front_bytes)
+    end = same_place u _ _ (tokens_within strings at_start u (omega (arith, long)))
+        (omega (arith, long)) (len ∙ sym front_bytes)
 
     agrees : Agrees ((lexeme_at strings at_start u).end + 2) u v
     agrees =
@@ -70,19 +85,23 @@ of_parts strings at_start front two rest other len utf8 utf8_two some = tokens_l
         let less : n ≤ length known = omega (arith, end, length-append (chars front) (chars two)) in
         record {
           within = omega (arith, end, long);
-          same = ap (take n) (split other) ∙ take-append-le n known (chars other) less ∙ sym (ap (take n) (split rest) ∙ take-append-le n known (chars rest) less);
+          same = ap (take n) (split other) ∙ take-append-le n known (chars other) less
+              ∙ sym (ap (take n) (split rest) ∙ take-append-le n known (chars rest) less);
         }
 
 pub texts_look_ahead : TextsLookAhead
 texts_look_ahead strings at_start text front two rest other e len utf8 utf8_two some =
     let same = ap (λ w. token_at strings at_start (chars w)) e in
-    of_parts strings at_start front two rest other (ap (λ (t : Token). t.len) (sym same) ∙ sym len) utf8 utf8_two some ∙ sym same
+    of_parts strings at_start front two rest other (ap (λ (t : Token). t.len) (sym same)
+    ∙ sym len) utf8 utf8_two some ∙ sym same
 
 -- ---- progress
 
 pub texts_progress : TextsProgress
-texts_progress strings at_start text utf8 some =
-    (token_positive strings at_start (chars text) (some_chars text utf8 some), (cut_behind text (lexeme_at strings at_start (chars text)).end utf8).boundary)
+texts_progress strings at_start text utf8 some = (
+  token_positive strings at_start (chars text) (some_chars text utf8 some),
+  (cut_behind text (lexeme_at strings at_start (chars text)).end utf8).boundary,
+)
 
 -- ---- restart
 
@@ -90,19 +109,26 @@ pub texts_restart : TextsRestart
 texts_restart strings at_start text utf8 some =
     let n = (lexeme_at strings at_start (chars text)).end in
     tokens_first strings at_start (chars text) (some_chars text utf8 some)
-    ∙ ap (λ w. token_at strings at_start (chars text) ∷ tokens_from strings 0 false w) (sym (cut_behind text n utf8).rest)
+    ∙ ap (λ w. token_at strings at_start (chars text)
+    ∷ tokens_from strings 0 false w) (sym (cut_behind text n utf8).rest)
 
-pub restarts_at : (strings : Strings) (text : List ℕ) (at : ℕ) → IsUtf8 text → RestartsAt strings text at
+pub restarts_at : (strings : Strings) (text : List ℕ) (at : ℕ) → IsUtf8 text
+    → RestartsAt strings text at
 restarts_at strings text at utf8 n some e =
     let p = chars_of_tokens strings true n (chars text) in
-    let here : at ≡ utf8_len (take p (chars text)) = e ∙ sym (places_add_up strings true n (chars text)) in
+    let here : at ≡ utf8_len (take p (chars text)) = e
+    ∙ sym (places_add_up strings true n (chars text)) in
     tokens_restart strings true n (chars text) some
-    ∙ ap (tokens_from strings 0 false) (sym (ap (λ m. chars (drop m text)) here ∙ (cut_behind text p utf8).rest))
+    ∙ ap (tokens_from strings 0 false) (sym (ap (λ m. chars (drop m text)) here
+    ∙ (cut_behind text p utf8).rest))
 
 -- ---- statements
 
-pub parts_at : (strings : Strings) (text : List ℕ) (at : ℕ) → IsUtf8 text → IsCharBoundary text at → SplitsAt strings text at
+pub parts_at : (strings : Strings) (text : List ℕ) (at : ℕ) → IsUtf8 text → IsCharBoundary text at
+    → SplitsAt strings text at
 parts_at strings text at utf8 boundary e =
     let both : chars text ≡ chars (take at text) ++ chars (drop at text) =
-    ap chars (sym (take-append-drop at text)) ∙ chars-append (take at text) (drop at text) (IsUtf8-take text at utf8 boundary) in
-    ap (tokens strings) both ∙ statements_stand_alone strings true (chars (take at text)) (chars (drop at text)) e
+    ap chars (sym (take-append-drop at text))
+    ∙ chars-append (take at text) (drop at text) (IsUtf8-take text at utf8 boundary) in
+    ap (tokens strings) both
+    ∙ statements_stand_alone strings true (chars (take at text)) (chars (drop at text)) e

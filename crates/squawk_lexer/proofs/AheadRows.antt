@@ -1,4 +1,5 @@
--- Worked rows of look-ahead: where one character behind a token does not decide it, and what ends with a `;`.
+-- Worked rows of look-ahead: where one character behind a token does not decide it, and what ends
+-- with a `;`.
 use Rattle.std.proofs.Common.{◌≡◌, true, false, [], ◌∷◌, ◌++◌, length, refl, codes}
 use Rattle.squawk_lexer.specs.declared.token.LiteralKind.TheVariants.{UnicodeEscStr, Int, Numeric}
 use Rattle.squawk_lexer.specs.declared.token.Base.TheVariants.{Decimal}

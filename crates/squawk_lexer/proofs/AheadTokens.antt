@@ -25,17 +25,23 @@ use Rattle.squawk_lexer.proofs.AheadPsql.{AsksPsql, psql_same}
 
 -- ---- words
 
-string_same : {told : (ℕ → Bool) → Type 0} {pairs : (ℕ → Bool) → (ℕ → Bool) → Type 0} → Asks told pairs → (kind : Bool → LiteralKind) (escapes : Bool) (k : ℕ) (u v : List ℕ) (i : ℕ) → Alike told pairs k u v → (string kind escapes u i).end ≤ k → string kind escapes v i ≡ string kind escapes u i
+string_same : {told : (ℕ → Bool) → Type 0} {pairs : (ℕ → Bool) → (ℕ → Bool) → Type 0}
+    → Asks told pairs → (kind : Bool → LiteralKind) (escapes : Bool) (k : ℕ) (u v : List ℕ) (i : ℕ)
+    → Alike told pairs k u v → (string kind escapes u i).end ≤ k
+    → string kind escapes v i ≡ string kind escapes u i
 string_same w kind escapes k u v i a h =
     let (found, ends) = quoted_same escapes apostrophe w.apostrophe k u v i a h in
     rw (ends, found) refl
 
-quoted_ident_same : {told : (ℕ → Bool) → Type 0} {pairs : (ℕ → Bool) → (ℕ → Bool) → Type 0} → Asks told pairs → (uescape : Bool) (k : ℕ) (u v : List ℕ) (i : ℕ) → Alike told pairs k u v → (quoted_ident uescape u i).end ≤ k → quoted_ident uescape v i ≡ quoted_ident uescape u i
+quoted_ident_same : {told : (ℕ → Bool) → Type 0} {pairs : (ℕ → Bool) → (ℕ → Bool) → Type 0}
+    → Asks told pairs → (uescape : Bool) (k : ℕ) (u v : List ℕ) (i : ℕ) → Alike told pairs k u v
+    → (quoted_ident uescape u i).end ≤ k → quoted_ident uescape v i ≡ quoted_ident uescape u i
 quoted_ident_same w uescape k u v i a h =
     let (found, ends) = quoted_same false quotation_mark w.quotation k u v i a h in
     rw (ends, found) refl
 
--- what the first three characters open, by two tests of the second one and two of the second and the third
+-- what the first three characters open, by two tests of the second one and two of the second and
+-- the third
 abbrev opening_by : ℕ → Bool → Bool → Bool → StringPrefix
 opening_by c quote string ident =
     cond (is_letter 110 c && quote) National
@@ -45,31 +51,49 @@ opening_by c quote string ident =
     (cond (is_letter 117 c && string) UnicodeString
     (cond (is_letter 117 c && ident) UnicodeIdent Plain)))))
 
-opening_is : (c d e : ℕ) → prefix_of c d e ≡ opening_by c (eqb d 39) (eqb d 38 && eqb e 39) (eqb d 38 && eqb e 34)
+opening_is : (c d e : ℕ) → prefix_of c d e
+    ≡ opening_by c (eqb d 39) (eqb d 38 && eqb e 39) (eqb d 38 && eqb e 34)
 unfolding prefix_of
-opening_is c d e = rw (and_assoc (is_letter 117 c) (eqb d 38) (eqb e 39), and_assoc (is_letter 117 c) (eqb d 38) (eqb e 34)) refl
+opening_is c d e =
+    rw (
+      and_assoc (is_letter 117 c) (eqb d 38) (eqb e 39),
+      and_assoc (is_letter 117 c) (eqb d 38)
+          (eqb e 34),
+    ) refl
 
-opening_same : {told : (ℕ → Bool) → Type 0} {pairs : (ℕ → Bool) → (ℕ → Bool) → Type 0} → Asks told pairs → (k : ℕ) (u v : List ℕ) → Alike told pairs k u v → 1 ≤ k → prefix_of (get_or v 0 0) (get_or v 1 0) (get_or v 2 0) ≡ prefix_of (get_or u 0 0) (get_or u 1 0) (get_or u 2 0)
+opening_same : {told : (ℕ → Bool) → Type 0} {pairs : (ℕ → Bool) → (ℕ → Bool) → Type 0}
+    → Asks told pairs → (k : ℕ) (u v : List ℕ) → Alike told pairs k u v → 1 ≤ k
+    → prefix_of (get_or v 0 0) (get_or v 1 0) (get_or v 2 0)
+    ≡ prefix_of (get_or u 0 0) (get_or u 1 0) (get_or u 2 0)
 opening_same w k u v a some =
     let first : get_or v 0 0 ≡ get_or u 0 0 = read k u v 0 a (omega arith) in
     let quote = test (λ c. eqb c 39) w.apostrophe k u v 1 a some in
-    let string = pair (λ c. eqb c 38) (λ c. eqb c 39) w.apostrophe w.and_string k u v 1 2 a some refl in
-    let ident = pair (λ c. eqb c 38) (λ c. eqb c 34) w.quotation w.and_ident k u v 1 2 a some refl in
+    let string = pair (λ c. eqb c 38) (λ c.
+    eqb c 39) w.apostrophe w.and_string k u v 1 2 a some refl in
+    let ident = pair (λ c. eqb c 38) (λ c. eqb c 34) w.quotation w.and_ident k u v 1 2 a some refl
+    in
     opening_is (get_or v 0 0) (get_or v 1 0) (get_or v 2 0)
-    ∙ ap (λ c. opening_by c (eqb (get_or v 1 0) 39) (eqb (get_or v 1 0) 38 && eqb (get_or v 2 0) 39) (eqb (get_or v 1 0) 38 && eqb (get_or v 2 0) 34)) first
-    ∙ ap (λ b. opening_by (get_or u 0 0) b (eqb (get_or v 1 0) 38 && eqb (get_or v 2 0) 39) (eqb (get_or v 1 0) 38 && eqb (get_or v 2 0) 34)) quote
-    ∙ ap (λ b. opening_by (get_or u 0 0) (eqb (get_or u 1 0) 39) b (eqb (get_or v 1 0) 38 && eqb (get_or v 2 0) 34)) string
-    ∙ ap (opening_by (get_or u 0 0) (eqb (get_or u 1 0) 39) (eqb (get_or u 1 0) 38 && eqb (get_or u 2 0) 39)) ident
+    ∙ ap (λ c. opening_by c (eqb (get_or v 1 0) 39) (eqb (get_or v 1 0) 38
+    && eqb (get_or v 2 0) 39) (eqb (get_or v 1 0) 38 && eqb (get_or v 2 0) 34)) first
+    ∙ ap (λ b. opening_by (get_or u 0 0) b (eqb (get_or v 1 0) 38
+    && eqb (get_or v 2 0) 39) (eqb (get_or v 1 0) 38 && eqb (get_or v 2 0) 34)) quote
+    ∙ ap (λ b. opening_by (get_or u 0 0) (eqb (get_or u 1 0) 39) b (eqb (get_or v 1 0) 38
+    && eqb (get_or v 2 0) 34)) string
+    ∙ ap (opening_by (get_or u 0 0) (eqb (get_or u 1 0) 39) (eqb (get_or u 1 0) 38
+    && eqb (get_or u 2 0) 39)) ident
     ∙ sym (opening_is (get_or u 0 0) (get_or u 1 0) (get_or u 2 0))
 
-opened_same : {told : (ℕ → Bool) → Type 0} {pairs : (ℕ → Bool) → (ℕ → Bool) → Type 0} → Asks told pairs → (s : StringPrefix) (k : ℕ) (u v : List ℕ) → Alike told pairs k u v → (lexeme_of_prefix s u).end ≤ k → lexeme_of_prefix s v ≡ lexeme_of_prefix s u
+opened_same : {told : (ℕ → Bool) → Type 0} {pairs : (ℕ → Bool) → (ℕ → Bool) → Type 0}
+    → Asks told pairs → (s : StringPrefix) (k : ℕ) (u v : List ℕ) → Alike told pairs k u v
+    → (lexeme_of_prefix s u).end ≤ k → lexeme_of_prefix s v ≡ lexeme_of_prefix s u
 opened_same w National k u v a h = string_same w NationalStr false k u v 2 a h
 opened_same w Bit k u v a h = string_same w BitStr false k u v 2 a h
 opened_same w Byte k u v a h = string_same w ByteStr false k u v 2 a h
 opened_same w Escape k u v a h = string_same w EscStr true k u v 2 a h
 opened_same w UnicodeString k u v a h = string_same w UnicodeEscStr false k u v 3 a h
 opened_same w UnicodeIdent k u v a h = quoted_ident_same w true k u v 3 a h
-opened_same w Plain k u v a h = ap (lexeme_until kinds.Ident) (run_same is_ident_cont w.id_cont k u v 1 a h)
+opened_same w Plain k u v a h =
+    ap (lexeme_until kinds.Ident) (run_same is_ident_cont w.id_cont k u v 1 a h)
 
 -- ---- every row
 
@@ -83,34 +107,45 @@ AsksOf told pairs DotDot = ⊤
 AsksOf told pairs Symbol = ⊤
 AsksOf told pairs _ = Asks told pairs
 
-pub begun_same : {told : (ℕ → Bool) → Type 0} {pairs : (ℕ → Bool) → (ℕ → Bool) → Type 0} (strings : Strings) (s : TokenForm) → AsksOf told pairs s → (k : ℕ) (u v : List ℕ) → Alike told pairs k u v → 1 ≤ k → (lexeme_of_form strings s u).end ≤ k → lexeme_of_form strings s v ≡ lexeme_of_form strings s u
-begun_same strings Whitespace w k u v a some h = ap (lexeme_until kinds.Whitespace) (run_same is_whitespace w k u v 0 a h)
-begun_same strings LineComment w k u v a some h = ap (lexeme_until kinds.LineComment) (run_same is_not_line_end w k u v 2 a h)
+pub begun_same : {told : (ℕ → Bool) → Type 0} {pairs : (ℕ → Bool) → (ℕ → Bool)
+    → Type 0} (strings : Strings) (s : TokenForm) → AsksOf told pairs s → (k : ℕ) (u v : List ℕ)
+    → Alike told pairs k u v → 1 ≤ k → (lexeme_of_form strings s u).end ≤ k
+    → lexeme_of_form strings s v ≡ lexeme_of_form strings s u
+begun_same strings Whitespace w k u v a some h =
+    ap (lexeme_until kinds.Whitespace) (run_same is_whitespace w k u v 0 a h)
+begun_same strings LineComment w k u v a some h =
+    ap (lexeme_until kinds.LineComment) (run_same is_not_line_end w k u v 2 a h)
 begun_same strings BlockComment w k u v a some h =
     let (found, ends) = comment_same 0 k u v 2 a h in
     rw (ends, found) refl
 begun_same strings String w k u v a some h = string_same w Str (has_escapes strings) k u v 1 a h
 begun_same strings QuotedIdent w k u v a some h = quoted_ident_same w false k u v 1 a h
 begun_same strings Word w k u v a some h =
-    ap (λ s. lexeme_of_prefix s v) (opening_same w k u v a some) ∙ opened_same w (prefix_of (get_or u 0 0) (get_or u 1 0) (get_or u 2 0)) k u v a h
+    ap (λ s. lexeme_of_prefix s v) (opening_same w k u v a some)
+    ∙ opened_same w (prefix_of (get_or u 0 0) (get_or u 1 0) (get_or u 2 0)) k u v a h
 begun_same strings Dollar w k u v a some h = dollar_same w k u v a some h
 begun_same strings Number w k u v a some h = number_same w k u v a h
 begun_same strings DotDot w k u v a some h = refl
 begun_same strings Fraction w k u v a some h = fractional_same w k u v 1 a h
 begun_same strings Psql w k u v a some h = psql_same w k u v a h
-begun_same strings Symbol w k u v a some h = ap (λ c. lexeme_until (symbol c) 1) (read k u v 0 a (omega arith))
+begun_same strings Symbol w k u v a some h =
+    ap (λ c. lexeme_until (symbol c) 1) (read k u v 0 a (omega arith))
 
 -- the row that a text begins with
 abbrev pub row : List ℕ → TokenForm
 row u = token_form (get_or u 0 0) (get_or u 1 0)
 
 -- a token is the same in texts that are alike up to its end
-pub lexeme_same : {told : (ℕ → Bool) → Type 0} {pairs : (ℕ → Bool) → (ℕ → Bool) → Type 0} (strings : Strings) (s : Bool) (k : ℕ) (u v : List ℕ) → Alike told pairs k u v → row v ≡ row u → AsksOf told pairs (row u) → (lexeme_at strings s u).end ≡ k
+pub lexeme_same : {told : (ℕ → Bool) → Type 0} {pairs : (ℕ → Bool) → (ℕ → Bool)
+    → Type 0} (strings : Strings) (s : Bool) (k : ℕ) (u v : List ℕ) → Alike told pairs k u v
+    → row v ≡ row u → AsksOf told pairs (row u) → (lexeme_at strings s u).end ≡ k
     → lexeme_at strings s v ≡ lexeme_at strings s u
 lexeme_same strings s k u v a rows w e =
-    pick (λ (x : Lexeme). x.end) _ _ (lexeme_until kinds.Whitespace 1) (lexeme_of strings u) (lexeme_until kinds.Whitespace 1) (lexeme_of strings v) k
+    pick (λ (x : Lexeme). x.end) _ _ (lexeme_until kinds.Whitespace 1) (lexeme_of strings u)
+    (lexeme_until kinds.Whitespace 1) (lexeme_of strings v) k
     (ap (λ c. s && eqb c byte_order_mark) first) (λ t h. refl)
-    (λ t h. ap (λ x. lexeme_of_form strings x v) rows ∙ begun_same strings (row u) w k u v a some h) (omega (arith, e))
+    (λ t h. ap (λ x. lexeme_of_form strings x v) rows
+    ∙ begun_same strings (row u) w k u v a some h) (omega (arith, e))
   where
     within : k < length u
     within = a.left
@@ -125,8 +160,16 @@ abbrev pub token_from : Lexeme → List ℕ → Token
 token_from x u = record { kind = x.kind; len = utf8_len (take x.end u) }
 
 -- and its bytes are the same
-pub token_of : {told : (ℕ → Bool) → Type 0} {pairs : (ℕ → Bool) → (ℕ → Bool) → Type 0} (strings : Strings) (s : Bool) (k : ℕ) (u v : List ℕ) → Alike told pairs k u v → (lexeme_at strings s u).end ≡ k → lexeme_at strings s v ≡ lexeme_at strings s u → token_at strings s v ≡ token_at strings s u
-token_of strings s k u v a e same = ap (λ x. token_from x v) same ∙ ap (λ w. record { kind = (lexeme_at strings s u).kind; len = utf8_len w }) (take_same k u v (lexeme_at strings s u).end a (omega (arith, e)))
+pub token_of : {told : (ℕ → Bool) → Type 0} {pairs : (ℕ → Bool) → (ℕ → Bool)
+    → Type 0} (strings : Strings) (s : Bool) (k : ℕ) (u v : List ℕ) → Alike told pairs k u v
+    → (lexeme_at strings s u).end ≡ k → lexeme_at strings s v ≡ lexeme_at strings s u
+    → token_at strings s v ≡ token_at strings s u
+token_of strings s k u v a e same = ap (λ x. token_from x v) same
+    ∙ ap (λ w. record {
+      kind = (lexeme_at strings s u).kind;
+      len =
+          utf8_len w;
+    }) (take_same k u v (lexeme_at strings s u).end a (omega (arith, e)))
 
 -- ---- texts whose next character is the same: every test says the same of it
 
@@ -161,7 +204,15 @@ asks_any : (s : TokenForm) → AsksOf Any PastSemi s
 asks_any Whitespace = tt
 asks_any LineComment = tt
 asks_any BlockComment = tt
-asks_any Psql = record { line_end = tt; not_line_end = tt; blank = tt; command_word = tt; ends = tt; other = λ x e. tt }
+asks_any Psql = record {
+  line_end = tt;
+  not_line_end = tt;
+  blank = tt;
+  command_word = tt;
+  ends =
+      tt;
+  other = λ x e. tt;
+}
 asks_any DotDot = tt
 asks_any Symbol = tt
 asks_any String = any
@@ -172,7 +223,8 @@ asks_any Number = any
 asks_any Fraction = any
 
 -- the texts agree on the next character, and on the one after it, unless the next is `;`
-pub alike_next : (k : ℕ) (u v : List ℕ) → Agrees (k + 1) u v → Agrees (k + 2) u v ⊎ (get_or u k 0 ≡ 59) → Alike Any PastSemi k u v
+pub alike_next : (k : ℕ) (u v : List ℕ) → Agrees (k + 1) u v → Agrees (k + 2) u v
+    ⊎ (get_or u k 0 ≡ 59) → Alike Any PastSemi k u v
 alike_next k u v a more = record {
   left = let w : k + 1 ≤ length u = a.within in omega arith;
   right = let w : k + 1 ≤ length v = agrees_right (k + 1) u v a in omega arith;
@@ -184,19 +236,25 @@ alike_next k u v a more = record {
     here = agrees_read (k + 1) u v k a (omega arith)
 
     by : (p q : ℕ → Bool) → PastSemi p q → Agrees (k + 2) u v ⊎ (get_or u k 0 ≡ 59)
-        → (p (get_or v k 0) && q (get_or (drop (k + 1) v) 0 0)) ≡ (p (get_or u k 0) && q (get_or (drop (k + 1) u) 0 0))
+        → (p (get_or v k 0) && q (get_or (drop (k + 1) v) 0 0))
+        ≡ (p (get_or u k 0) && q (get_or (drop (k + 1) u) 0 0))
     by p q t (inl two) =
-        let next : get_or (drop (k + 1) v) 0 0 ≡ get_or (drop (k + 1) u) 0 0 = after k v ∙ agrees_read (k + 2) u v (k + 1) two (omega arith) ∙ sym (after k u) in
-        ap (λ c. p c && q (get_or (drop (k + 1) v) 0 0)) here ∙ ap (λ c. p (get_or u k 0) && q c) next
+        let next : get_or (drop (k + 1) v) 0 0 ≡ get_or (drop (k + 1) u) 0 0 = after k v
+        ∙ agrees_read (k + 2) u v (k + 1) two (omega arith) ∙ sym (after k u) in
+        ap (λ c. p c && q (get_or (drop (k + 1) v) 0 0)) here
+        ∙ ap (λ c. p (get_or u k 0) && q c) next
     by p q t (inr semi) = rw (here, semi, t) refl
 
 -- so a token is the same in such texts
-pub lexeme_next : (strings : Strings) (s : Bool) (k : ℕ) (u v : List ℕ) → Agrees (k + 1) u v → Agrees (k + 2) u v ⊎ (get_or u k 0 ≡ 59) → (lexeme_at strings s u).end ≡ k
+pub lexeme_next : (strings : Strings) (s : Bool) (k : ℕ) (u v : List ℕ) → Agrees (k + 1) u v
+    → Agrees (k + 2) u v ⊎ (get_or u k 0 ≡ 59) → (lexeme_at strings s u).end ≡ k
     → lexeme_at strings s v ≡ lexeme_at strings s u
 lexeme_next strings s k u v a more e =
     let within : k + 1 ≤ length u = a.within in
     let some : 1 ≤ k = omega (arith, lexeme_at_some strings s u (omega arith), e) in
-    let rows : row v ≡ row u = ap (λ c. token_form c (get_or v 1 0)) (agrees_read (k + 1) u v 0 a (omega arith)) ∙ ap (token_form (get_or u 0 0)) (agrees_read (k + 1) u v 1 a (omega arith)) in
+    let rows : row v ≡ row u =
+    ap (λ c. token_form c (get_or v 1 0)) (agrees_read (k + 1) u v 0 a (omega arith))
+    ∙ ap (token_form (get_or u 0 0)) (agrees_read (k + 1) u v 1 a (omega arith)) in
     lexeme_same strings s k u v (alike_next k u v a more) rows (asks_any (row u)) e
 
 -- ---- the laws
@@ -212,4 +270,5 @@ lexemes_look_ahead strings s u v a =
 pub tokens_look_ahead : TokensLookAhead
 tokens_look_ahead strings s u v a =
     let k = (lexeme_at strings s u).end in
-    token_of strings s k u v (alike_next k u v (agrees_two k u v a) (inl a)) refl (lexemes_look_ahead strings s u v a)
+    token_of strings s k u v (alike_next k u v (agrees_two k u v a) (inl a)) refl
+    (lexemes_look_ahead strings s u v a)

@@ -13,7 +13,8 @@ use Rattle.squawk_lexer.proofs.Chars.{none_left}
 use Rattle.squawk_lexer.proofs.ByteRuns.{some_bytes}
 use Rattle.squawk_lexer.proofs.ByteReads.{lead_first}
 
-pick : (b1 b2 b3 : Bool) (c x y z : ℕ) (xs ys zs : List ℕ) → (b1 ≡ true → c < 128) → 192 ≤ x → 192 ≤ y → 192 ≤ z
+pick : (b1 b2 b3 : Bool) (c x y z : ℕ) (xs ys zs : List ℕ) → (b1 ≡ true → c < 128) → 192 ≤ x
+    → 192 ≤ y → 192 ≤ z
     → 128 ≤ get_or (cond b1 (c ∷ []) (cond b2 (x ∷ xs) (cond b3 (y ∷ ys) (z ∷ zs)))) 0 0
     → 192 ≤ get_or (cond b1 (c ∷ []) (cond b2 (x ∷ xs) (cond b3 (y ∷ ys) (z ∷ zs)))) 0 0
 pick true b2 b3 c x y z xs ys zs small p q r h = absurd (let l = small refl in omega arith)
@@ -28,14 +29,18 @@ is_small c t = grind (arith, nat_tests)
 lead_big : (c : ℕ) → 128 ≤ first_byte c → 192 ≤ first_byte c
 unfolding first_byte encode_utf8
 lead_big c big =
-    pick (ltb c 128) (ltb c 2048) (ltb c 65536) c (192 + c / 64) (224 + c / 4096) (240 + c / 262144) _ _ _ (is_small c) (omega arith) (omega arith) (omega arith) big
+    pick (ltb c 128) (ltb c 2048) (ltb c 65536) c (192 + c / 64) (224 + c / 4096) (240 + c / 262144)
+    _ _ _ (is_small c) (omega arith) (omega arith) (omega arith) big
 
 last_boundary : (bs r : List ℕ) (c : ℕ) → bs ≡ r ++ encode_utf8 c → IsCharBoundary bs (length r)
 last_boundary bs r c e =
-    let all : length bs ≡ length r + length (encode_utf8 c) = ap length e ∙ length-append r (encode_utf8 c) in
+    let all : length bs ≡ length r + length (encode_utf8 c) = ap length e
+    ∙ length-append r (encode_utf8 c) in
     let none : length r - length r ≡ 0 = omega arith in
     let read : get_or bs (length r) 0 ≡ first_byte c =
-    ap (λ x. get_or x (length r) 0) e ∙ get_or-append_right r (encode_utf8 c) (length r) 0 (omega arith) ∙ rw none (sym (ap (λ x. get_or x 0 0) (append-nil (encode_utf8 c))) ∙ lead_first c []) in
+    ap (λ x. get_or x (length r) 0) e
+    ∙ get_or-append_right r (encode_utf8 c) (length r) 0 (omega arith)
+    ∙ rw none (sym (ap (λ x. get_or x 0 0) (append-nil (encode_utf8 c))) ∙ lead_first c []) in
     (omega arith, λ _ h. rw read (lead_big c (rw read at h)))
 
 only : (cs : List ℕ) (c : ℕ) → encode_utf8_all cs ≡ encode_utf8 c → cs ≡ c ∷ []
@@ -45,17 +50,24 @@ only cs c e =
   where
     by : (es : List ℕ) → encode_utf8_all es ≡ [] → es ≡ []
     by [] h = refl
-    by (x ∷ es) h = absurd (let some = some_bytes x in let len : length (encode_utf8 x) + length (encode_utf8_all es) ≡ 0 = sym (length-append (encode_utf8 x) (encode_utf8_all es)) ∙ ap length h in omega arith)
+    by (x ∷ es) h = absurd (let some = some_bytes x in
+        let len : length (encode_utf8 x) + length (encode_utf8_all es) ≡ 0 =
+        sym (length-append (encode_utf8 x) (encode_utf8_all es)) ∙ ap length h in omega arith)
 
 -- the characters of a text that ends with the bytes of c
-chars_end : (bs r : List ℕ) (c : ℕ) → IsUtf8 bs → bs ≡ r ++ encode_utf8 c → chars bs ≡ chars r ++ c ∷ []
+chars_end : (bs r : List ℕ) (c : ℕ) → IsUtf8 bs → bs ≡ r ++ encode_utf8 c
+    → chars bs ≡ chars r ++ c ∷ []
 chars_end bs r c utf8 e =
     let boundary = last_boundary bs r c e in
-    let front : take (length r) bs ≡ r = ap (take (length r)) e ∙ take-append_seam r (encode_utf8 c) in
-    let back : drop (length r) bs ≡ encode_utf8 c = ap (drop (length r)) e ∙ drop-append_seam r (encode_utf8 c) in
+    let front : take (length r) bs ≡ r = ap (take (length r)) e ∙ take-append_seam r (encode_utf8 c)
+    in
+    let back : drop (length r) bs ≡ encode_utf8 c = ap (drop (length r)) e
+    ∙ drop-append_seam r (encode_utf8 c) in
     let front_utf8 : IsUtf8 r = subst IsUtf8 front (IsUtf8-take bs (length r) utf8 boundary) in
-    let back_utf8 : IsUtf8 (encode_utf8 c) = subst IsUtf8 back (IsUtf8-drop bs (length r) utf8 boundary) in
-    let last : chars (encode_utf8 c) ≡ c ∷ [] = only (chars (encode_utf8 c)) c (encodes-chars (encode_utf8 c) back_utf8) in
+    let back_utf8 : IsUtf8 (encode_utf8 c) =
+    subst IsUtf8 back (IsUtf8-drop bs (length r) utf8 boundary) in
+    let last : chars (encode_utf8 c) ≡ c ∷ [] =
+    only (chars (encode_utf8 c)) c (encodes-chars (encode_utf8 c) back_utf8) in
     ap chars e ∙ chars-append r (encode_utf8 c) front_utf8 ∙ ap (λ x. chars r ++ x) last
 
 read_end : (v : List ℕ) (c : ℕ) → slice_get (v ++ c ∷ []) (length v) ≡ Some c
@@ -65,11 +77,14 @@ read_end (x ∷ v) c = read_end v c
 take_read : (u : List ℕ) (k : ℕ) → slice_get (take (k + 1) u) k ≡ slice_get u k
 take_read [] k = let next : k + 1 ≡ suc k = omega arith in rw next refl
 take_read (x ∷ u) zero = refl
-take_read (x ∷ u) (suc k) = let next : suc k + 1 ≡ suc (k + 1) = omega arith in rw next (take_read u k)
+take_read (x ∷ u) (suc k) = let next : suc k + 1 ≡ suc (k + 1) = omega arith in
+    rw next (take_read u k)
 
 -- the last of the k + 1 characters that were taken, with the premises that the code has
-pub last_taken : (u bs : List ℕ) (s t : Chars) (at k : ℕ) (r : Option ℕ) → IsUtf8 bs → chars bs ≡ take at u → at ≤ length u → at ≡ k + 1 → s.rest.now ≡ bs
-    → MatchOption r ((length s.rest.now ≡ 0) × (t ≡ s)) (λ c. s.rest.now ≡ t.rest.now ++ encode_utf8 c) → r ≡ slice_get u k
+pub last_taken : (u bs : List ℕ) (s t : Chars) (at k : ℕ) (r : Option ℕ) → IsUtf8 bs
+    → chars bs ≡ take at u → at ≤ length u → at ≡ k + 1 → s.rest.now ≡ bs
+    → MatchOption r ((length s.rest.now ≡ 0) × (t ≡ s)) (λ c.
+    s.rest.now ≡ t.rest.now ++ encode_utf8 c) → r ≡ slice_get u k
 last_taken u bs s t at k None utf8 is within e same none =
     let empty : chars bs ≡ [] = none_left bs (ap length (sym same) ∙ none.0) in
     let len : length (take at u) ≡ at = length-take-le at u within in
@@ -79,7 +94,9 @@ last_taken u bs s t at k (Some c) utf8 is within e same ends =
     let back = t.rest.now in
     let cs : chars bs ≡ chars back ++ c ∷ [] = chars_end bs back c utf8 (sym same ∙ ends) in
     let len : length (take at u) ≡ at = length-take-le at u within in
-    let total : length (take at u) ≡ length (chars back) + 1 = ap length (sym is ∙ cs) ∙ length-append (chars back) (c ∷ []) in
+    let total : length (take at u) ≡ length (chars back) + 1 = ap length (sym is ∙ cs)
+    ∙ length-append (chars back) (c ∷ []) in
     let place : k ≡ length (chars back) = omega arith in
     let taken : take (k + 1) u ≡ chars back ++ c ∷ [] = rw (← e) (sym is ∙ cs) in
-    sym (sym (take_read u k) ∙ ap (λ x. slice_get x k) taken ∙ ap (slice_get (chars back ++ c ∷ [])) place ∙ read_end (chars back) c)
+    sym (sym (take_read u k) ∙ ap (λ x. slice_get x k) taken
+    ∙ ap (slice_get (chars back ++ c ∷ [])) place ∙ read_end (chars back) c)

@@ -1,5 +1,5 @@
--- The table of id-cont is held against the definition at each of the 256 bytes, by computing; and a class has each
--- character from U+0080 on, or none of them.
+-- The table of id-cont is held against the definition at each of the 256 bytes, by computing; and a
+-- class has each character from U+0080 on, or none of them.
 use Rattle.std.proofs.Common.{◌≡◌, ℕ, zero, suc, ◌<◌, Bool, true, false, ◌&&◌, not, eqb, get_or, List, refl, arith, inl, inr}
 use Rattle.std.specs.Bool.{beq}
 use Rattle.std.proofs.lemmas.Bool.{cases_eq}
@@ -29,7 +29,11 @@ unfolding agree_below
 agree_at f g zero h b lt = absurd (omega arith)
 agree_at f g (suc n) h b lt =
     let both = both_of (f n) (g n) (agree_below f g n) h in
-    elim (cases_eq b n) [ inl same ↦ rw same both.0 | inr other ↦ agree_at f g n both.1 b (omega arith) ]
+    elim (cases_eq b n) [
+      | inl same ↦ rw same both.0
+      | inr other ↦ agree_at f g n both.1 b
+          (omega arith)
+    ]
 
 from_table : (table : List ℕ) (b : ℕ) → b < 256
     → agree_below (λ k. not (eqb (get_or table k 0) 44)) is_ident_cont 256 ≡ true

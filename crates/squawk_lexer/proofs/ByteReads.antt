@@ -30,21 +30,28 @@ pub lead_first : (c : ℕ) (bs : List ℕ) → get_or (encode_utf8 c ++ bs) 0 0 
 unfolding first_byte
 lead_first c bs = get_or_append_left (encode_utf8 c) bs 0 0 (some_bytes c)
 
-pub read_ahead : (k : ℕ) (cs : List ℕ) → ((j : ℕ) → j < k → get_or cs j 0 < 128) → get_or (encode_utf8_all cs) k 0 ≡ first_byte (get_or cs k 0)
+pub read_ahead : (k : ℕ) (cs : List ℕ) → ((j : ℕ) → j < k → get_or cs j 0 < 128)
+    → get_or (encode_utf8_all cs) k 0 ≡ first_byte (get_or cs k 0)
 read_ahead zero [] ascii = sym (lead_ascii 0 (omega arith))
 read_ahead zero (c ∷ cs) ascii = lead_first c (encode_utf8_all cs)
 read_ahead (suc k) [] ascii = sym (lead_ascii 0 (omega arith))
-read_ahead (suc k) (c ∷ cs) ascii = rw (encode_ascii c (ascii 0 (omega arith))) (read_ahead k cs (λ j below. ascii (suc j) (omega arith)))
+read_ahead (suc k) (c ∷ cs) ascii =
+    rw (encode_ascii c (ascii 0 (omega arith))) (read_ahead k cs (λ j below.
+    ascii (suc j) (omega arith)))
 
 -- the byte so many behind rest's first
-pub read_byte : (token rest : List ℕ) (n : ℕ) → IsRest token rest → IsAsciiRun (chars token) (chars_before token rest) n
+pub read_byte : (token rest : List ℕ) (n : ℕ) → IsRest token rest
+    → IsAsciiRun (chars token) (chars_before token rest) n
     → get_or rest n 0 ≡ first_byte (get_or (chars token) (chars_before token rest + n) 0)
 read_byte token rest n r ascii =
     let utf8 : IsUtf8 rest = IsUtf8-from_is_utf8 rest r.rest_utf8 in
-    let at : (k : ℕ) → get_or (chars rest) k 0 ≡ get_or (chars token) (chars_before token rest + k) 0 =
+    let at : (k : ℕ) → get_or (chars rest) k 0
+    ≡ get_or (chars token) (chars_before token rest + k) 0 =
     λ k. ap (λ x. get_or x k 0) r.is ∙ get_or-drop (chars_before token rest) (chars token) k 0 in
-    let below : (k : ℕ) → k < n → get_or (chars rest) k 0 < 128 = λ k h. subst (λ x. x < 128) (sym (at k)) (ascii k h) in
-    ap (λ x. get_or x n 0) (sym (encodes-chars rest utf8)) ∙ read_ahead n (chars rest) below ∙ ap first_byte (at n)
+    let below : (k : ℕ) → k < n → get_or (chars rest) k 0 < 128 = λ k h.
+    subst (λ x. x < 128) (sym (at k)) (ascii k h) in
+    ap (λ x. get_or x n 0) (sym (encodes-chars rest utf8)) ∙ read_ahead n (chars rest) below
+    ∙ ap first_byte (at n)
 
 -- ---- what a token begins with, by its bytes
 
@@ -57,18 +64,33 @@ start_high c d big = grind (arith, nat_tests)
 
 start_second : (c d e : ℕ) → 128 ≤ d → 128 ≤ e → token_form c d ≡ token_form c e
 unfolding token_form
-start_second c d e p q = rw (apart d 45 p (omega arith), apart d 42 p (omega arith), apart d 46 p (omega arith), apart e 45 q (omega arith), apart e 42 q (omega arith), apart e 46 q (omega arith), no_digit d p, no_digit e q) refl
+start_second c d e p q =
+    rw (
+      apart d 45 p (omega arith),
+      apart d 42 p (omega arith),
+      apart d 46 p (omega arith),
+      apart e
+          45 q (omega arith),
+      apart e 42 q (omega arith),
+      apart e 46 q (omega arith),
+      no_digit d p,
+      no_digit e q,
+    ) refl
   where
     no_digit : (x : ℕ) → 128 ≤ x → is_digit x ≡ false
     no_digit x big = grind (arith, nat_tests)
 
-pub start_lead : (c d b e : ℕ) → b ≡ first_byte c → (c < 128 → e ≡ first_byte d) → token_form b e ≡ token_form c d
+pub start_lead : (c d b e : ℕ) → b ≡ first_byte c → (c < 128 → e ≡ first_byte d)
+    → token_form b e ≡ token_form c d
 start_lead c d b e first second = by (cases_lt c 128) (cases_lt d 128)
   where
     by : (c < 128) ⊎ (128 ≤ c) → (d < 128) ⊎ (128 ≤ d) → token_form b e ≡ token_form c d
     by (inl small) (inl low) = rw (first ∙ lead_ascii c small, second small ∙ lead_ascii d low) refl
-    by (inl small) (inr big) = rw (first ∙ lead_ascii c small) (start_second c e d (subst (λ x. 128 ≤ x) (sym (second small)) (lead_high d big)) big)
-    by (inr big) other = start_high b e (subst (λ x. 128 ≤ x) (sym first) (lead_high c big)) ∙ sym (start_high c d big)
+    by (inl small) (inr big) =
+        rw (first ∙ lead_ascii c small) (start_second c e d (subst (λ x.
+        128 ≤ x) (sym (second small)) (lead_high d big)) big)
+    by (inr big) other = start_high b e (subst (λ x. 128 ≤ x) (sym first) (lead_high c big))
+        ∙ sym (start_high c d big)
 
 opening_high : (c d e : ℕ) → 128 ≤ c → prefix_of c d e ≡ Plain
 unfolding prefix_of
@@ -80,16 +102,38 @@ opening_plain c d e big = grind (arith, nat_tests)
 
 opening_third : (c d e f : ℕ) → 128 ≤ e → 128 ≤ f → prefix_of c d e ≡ prefix_of c d f
 unfolding prefix_of
-opening_third c d e f p q = rw (apart e 39 p (omega arith), apart e 34 p (omega arith), apart f 39 q (omega arith), apart f 34 q (omega arith)) refl
+opening_third c d e f p q =
+    rw (
+      apart e 39 p (omega arith),
+      apart e 34 p (omega arith),
+      apart f 39 q (omega arith),
+      apart f
+          34 q (omega arith),
+    ) refl
 
-pub opening_lead : (c d x b e f : ℕ) → b ≡ first_byte c → (c < 128 → e ≡ first_byte d) → (c < 128 → d < 128 → f ≡ first_byte x) → prefix_of b e f ≡ prefix_of c d x
+pub opening_lead : (c d x b e f : ℕ) → b ≡ first_byte c → (c < 128 → e ≡ first_byte d)
+    → (c < 128 → d < 128 → f ≡ first_byte x) → prefix_of b e f ≡ prefix_of c d x
 opening_lead c d x b e f first second third = by (cases_lt c 128) (cases_lt d 128) (cases_lt x 128)
   where
-    by : (c < 128) ⊎ (128 ≤ c) → (d < 128) ⊎ (128 ≤ d) → (x < 128) ⊎ (128 ≤ x) → prefix_of b e f ≡ prefix_of c d x
-    by (inl small) (inl low) (inl last) = rw (first ∙ lead_ascii c small, second small ∙ lead_ascii d low, third small low ∙ lead_ascii x last) refl
-    by (inl small) (inl low) (inr big) = rw (first ∙ lead_ascii c small, second small ∙ lead_ascii d low) (opening_third c d f x (subst (λ y. 128 ≤ y) (sym (third small low)) (lead_high x big)) big)
-    by (inl small) (inr big) other = opening_plain b e f (subst (λ y. 128 ≤ y) (sym (second small)) (lead_high d big)) ∙ sym (opening_plain c d x big)
-    by (inr big) other more = opening_high b e f (subst (λ y. 128 ≤ y) (sym first) (lead_high c big)) ∙ sym (opening_high c d x big)
+    by : (c < 128) ⊎ (128 ≤ c) → (d < 128) ⊎ (128 ≤ d) → (x < 128) ⊎ (128 ≤ x)
+        → prefix_of b e f ≡ prefix_of c d x
+    by (inl small) (inl low) (inl last) = rw (
+      first ∙ lead_ascii c small,
+      second small
+          ∙ lead_ascii d low,
+      third small low ∙ lead_ascii x last,
+    ) refl
+    by (inl small) (inl low) (inr big) = rw (
+      first ∙ lead_ascii c small,
+      second small
+          ∙ lead_ascii d low,
+    ) (opening_third c d f x (subst (λ y.
+        128 ≤ y) (sym (third small low)) (lead_high x big)) big)
+    by (inl small) (inr big) other =
+        opening_plain b e f (subst (λ y. 128 ≤ y) (sym (second small)) (lead_high d big))
+        ∙ sym (opening_plain c d x big)
+    by (inr big) other more = opening_high b e f (subst (λ y.
+        128 ≤ y) (sym first) (lead_high c big)) ∙ sym (opening_high c d x big)
 
 symbol_high : (c : ℕ) → 128 ≤ c → symbol c ≡ Unknown
 unfolding symbol
@@ -100,7 +144,8 @@ symbol_lead c b first = by (cases_lt c 128)
   where
     by : (c < 128) ⊎ (128 ≤ c) → symbol b ≡ symbol c
     by (inl small) = rw (first ∙ lead_ascii c small) refl
-    by (inr big) = symbol_high b (subst (λ x. 128 ≤ x) (sym first) (lead_high c big)) ∙ sym (symbol_high c big)
+    by (inr big) = symbol_high b (subst (λ x. 128 ≤ x) (sym first) (lead_high c big))
+        ∙ sym (symbol_high c big)
 
 -- ---- the same with the premises that the code has
 
@@ -116,20 +161,33 @@ ascii_two u i first second zero h = rw add-zero first
 ascii_two u i first second (suc zero) h = second
 ascii_two u i first second (suc (suc k)) h = absurd (omega arith)
 
-pub first_read : (u : List ℕ) (i b : ℕ) → i ≡ 0 → (IsAsciiRun u i 0 → b ≡ first_byte (get_or u (i + 0) 0)) → b ≡ first_byte (get_or u 0 0)
+pub first_read : (u : List ℕ) (i b : ℕ) → i ≡ 0
+    → (IsAsciiRun u i 0 → b ≡ first_byte (get_or u (i + 0) 0)) → b ≡ first_byte (get_or u 0 0)
 first_read u i b none read = read (ascii_none u i) ∙ rw none refl
 
-second_read : (u : List ℕ) (i b : ℕ) → i ≡ 0 → (IsAsciiRun u i 1 → b ≡ first_byte (get_or u (i + 1) 0)) → get_or u 0 0 < 128 → b ≡ first_byte (get_or u 1 0)
+second_read : (u : List ℕ) (i b : ℕ) → i ≡ 0 → (IsAsciiRun u i 1
+    → b ≡ first_byte (get_or u (i + 1) 0)) → get_or u 0 0 < 128 → b ≡ first_byte (get_or u 1 0)
 second_read u i b none read small = read (ascii_one u i (rw none small)) ∙ rw none refl
 
-third_read : (u : List ℕ) (i b : ℕ) → i ≡ 0 → (IsAsciiRun u i 2 → b ≡ first_byte (get_or u (i + 2) 0)) → get_or u 0 0 < 128 → get_or u 1 0 < 128 → b ≡ first_byte (get_or u 2 0)
-third_read u i b none read small low = read (ascii_two u i (rw none small) (rw none low)) ∙ rw none refl
+third_read : (u : List ℕ) (i b : ℕ) → i ≡ 0 → (IsAsciiRun u i 2
+    → b ≡ first_byte (get_or u (i + 2) 0)) → get_or u 0 0 < 128 → get_or u 1 0 < 128
+    → b ≡ first_byte (get_or u 2 0)
+third_read u i b none read small low = read (ascii_two u i (rw none small) (rw none low))
+    ∙ rw none refl
 
-pub begun_by : (u : List ℕ) (i b e : ℕ) → i ≡ 0 → (IsAsciiRun u i 0 → b ≡ first_byte (get_or u (i + 0) 0)) → (IsAsciiRun u i 1 → e ≡ first_byte (get_or u (i + 1) 0))
+pub begun_by : (u : List ℕ) (i b e : ℕ) → i ≡ 0
+    → (IsAsciiRun u i 0 → b ≡ first_byte (get_or u (i + 0) 0))
+    → (IsAsciiRun u i 1 → e ≡ first_byte (get_or u (i + 1) 0))
     → token_form b e ≡ token_form (get_or u 0 0) (get_or u 1 0)
-begun_by u i b e none first second = start_lead (get_or u 0 0) (get_or u 1 0) b e (first_read u i b none first) (second_read u i e none second)
+begun_by u i b e none first second =
+    start_lead (get_or u 0 0) (get_or u 1 0) b e (first_read u i b none first)
+    (second_read u i e none second)
 
-pub opened_by : (u : List ℕ) (i b e f : ℕ) → i ≡ 0 → (IsAsciiRun u i 0 → b ≡ first_byte (get_or u (i + 0) 0)) → (IsAsciiRun u i 1 → e ≡ first_byte (get_or u (i + 1) 0))
-    → (IsAsciiRun u i 2 → f ≡ first_byte (get_or u (i + 2) 0)) → prefix_of b e f ≡ prefix_of (get_or u 0 0) (get_or u 1 0) (get_or u 2 0)
+pub opened_by : (u : List ℕ) (i b e f : ℕ) → i ≡ 0
+    → (IsAsciiRun u i 0 → b ≡ first_byte (get_or u (i + 0) 0))
+    → (IsAsciiRun u i 1 → e ≡ first_byte (get_or u (i + 1) 0))
+    → (IsAsciiRun u i 2 → f ≡ first_byte (get_or u (i + 2) 0))
+    → prefix_of b e f ≡ prefix_of (get_or u 0 0) (get_or u 1 0) (get_or u 2 0)
 opened_by u i b e f none first second third =
-    opening_lead (get_or u 0 0) (get_or u 1 0) (get_or u 2 0) b e f (first_read u i b none first) (second_read u i e none second) (third_read u i f none third)
+    opening_lead (get_or u 0 0) (get_or u 1 0) (get_or u 2 0) b e f (first_read u i b none first)
+    (second_read u i e none second) (third_read u i f none third)

@@ -14,7 +14,8 @@ use Rattle.squawk_lexer.specs.Cut.{tokens_from, Tiles}
 use Rattle.squawk_lexer.proofs.Chars.{length-encodes, length-bytes, bytes_none}
 use Rattle.squawk_lexer.proofs.TokenLaws.{lexeme_at_some, token_positive, token_never_eof}
 
-tokens_inside : (strings : Strings) (n : ℕ) (u : List ℕ) → tokens_from strings n false u ≡ tokens_from strings 0 false (drop n u)
+tokens_inside : (strings : Strings) (n : ℕ) (u : List ℕ)
+    → tokens_from strings n false u ≡ tokens_from strings 0 false (drop n u)
 tokens_inside strings zero [] = refl
 tokens_inside strings (suc n) [] = refl
 tokens_inside strings zero (c ∷ cs) = refl
@@ -26,21 +27,27 @@ drop_end (suc n) c cs h = ap (λ m. drop m cs) (omega arith)
 
 -- the first token, and those of what follows it
 pub tokens_first : (strings : Strings) (s : Bool) (u : List ℕ) → 0 < length u
-    → tokens_from strings 0 s u ≡ token_at strings s u ∷ tokens_from strings 0 false (drop (lexeme_at strings s u).end u)
+    → tokens_from strings 0 s u ≡ token_at strings s u
+    ∷ tokens_from strings 0 false (drop (lexeme_at strings s u).end u)
 tokens_first strings s [] h = absurd (omega arith)
 tokens_first strings s (c ∷ cs) h =
-    ap (λ ts. token_at strings s (c ∷ cs) ∷ ts) (tokens_inside strings ((lexeme_at strings s (c ∷ cs)).end - 1) cs
-    ∙ ap (tokens_from strings 0 false) (drop_end (lexeme_at strings s (c ∷ cs)).end c cs (lexeme_at_some strings s (c ∷ cs) h)))
+    ap (λ ts. token_at strings s (c ∷ cs) ∷ ts)
+    (tokens_inside strings ((lexeme_at strings s (c ∷ cs)).end - 1) cs
+    ∙ ap (tokens_from strings 0 false) (drop_end (lexeme_at strings s (c ∷ cs)).end c cs
+    (lexeme_at_some strings s (c ∷ cs) h)))
 
-pub tokens_none : (strings : Strings) (s : Bool) (u : List ℕ) → length u ≡ 0 → tokens_from strings 0 s u ≡ []
+pub tokens_none : (strings : Strings) (s : Bool) (u : List ℕ) → length u ≡ 0
+    → tokens_from strings 0 s u ≡ []
 tokens_none strings s [] h = refl
 tokens_none strings s (c ∷ cs) h = absurd (omega arith)
 
 -- ---- the tokens of a text are no more than its characters
 
-pub tokens_few : (strings : Strings) (n : ℕ) (s : Bool) (u : List ℕ) → length (tokens_from strings n s u) ≤ length u
+pub tokens_few : (strings : Strings) (n : ℕ) (s : Bool) (u : List ℕ)
+    → length (tokens_from strings n s u) ≤ length u
 tokens_few strings n s [] = omega arith
-tokens_few strings zero s (c ∷ cs) = omega (arith, tokens_few strings ((lexeme_at strings s (c ∷ cs)).end - 1) false cs)
+tokens_few strings zero s (c ∷ cs) =
+    omega (arith, tokens_few strings ((lexeme_at strings s (c ∷ cs)).end - 1) false cs)
 tokens_few strings (suc n) s (c ∷ cs) = omega (arith, tokens_few strings n s cs)
 
 -- ---- the tokens of a text tile it
@@ -65,51 +72,68 @@ pub cut_behind : (bs : List ℕ) (n : ℕ) → IsUtf8 bs → IsCut bs n
 cut_behind bs n utf8 =
     let front = take n (chars bs) in
     let back = drop n (chars bs) in
-    let both : bs ≡ encode_utf8_all front ++ encode_utf8_all back = sym (encodes-chars bs utf8) ∙ ap encode_utf8_all (sym (take-append-drop n (chars bs))) ∙ encodes-append front back in
+    let both : bs ≡ encode_utf8_all front ++ encode_utf8_all back = sym (encodes-chars bs utf8)
+    ∙ ap encode_utf8_all (sym (take-append-drop n (chars bs))) ∙ encodes-append front back in
     let len : length (encode_utf8_all front) ≡ utf8_len front = length-encodes front in
-    let back_utf8 : IsUtf8 (encode_utf8_all back) = (back, (scalars_drop n (chars bs) (scalars-chars bs utf8), refl)) in
+    let back_utf8 : IsUtf8 (encode_utf8_all back) =
+    (back, (scalars_drop n (chars bs) (scalars-chars bs utf8), refl)) in
     let same : drop (utf8_len front) bs ≡ encode_utf8_all back =
-    ap (λ m. drop m bs) (sym len) ∙ ap (drop (length (encode_utf8_all front))) both ∙ drop-append_seam (encode_utf8_all front) (encode_utf8_all back) in
+    ap (λ m. drop m bs) (sym len) ∙ ap (drop (length (encode_utf8_all front))) both
+    ∙ drop-append_seam (encode_utf8_all front) (encode_utf8_all back) in
     let rest_utf8 : IsUtf8 (drop (utf8_len front) bs) = subst IsUtf8 (sym same) back_utf8 in
     record {
       utf8 = rest_utf8;
       rest = sym (chars_from_encodes back (drop (utf8_len front) bs) rest_utf8 (sym same));
-      boundary = subst (IsCharBoundary bs) len (IsCharBoundary-at_seam bs (encode_utf8_all front) (encode_utf8_all back) both back_utf8);
+      boundary = subst (IsCharBoundary bs) len
+          (IsCharBoundary-at_seam bs (encode_utf8_all front) (encode_utf8_all back) both back_utf8);
     }
 
 -- a token that begins between two characters ends so
-pub token_boundary : (strings : Strings) (s : Bool) (text : List ℕ) (at : ℕ) → at ≤ length text → IsUtf8 (drop at text)
+pub token_boundary : (strings : Strings) (s : Bool) (text : List ℕ) (at : ℕ) → at ≤ length text
+    → IsUtf8 (drop at text)
     → IsCharBoundary text (at + (token_at strings s (chars (drop at text))).len)
 token_boundary strings s text at within utf8 =
-    IsCharBoundary-from_rest text at _ within (cut_behind (drop at text) (lexeme_at strings s (chars (drop at text))).end utf8).boundary
+    IsCharBoundary-from_rest text at _ within
+    (cut_behind (drop at text) (lexeme_at strings s (chars (drop at text))).end utf8).boundary
 
 -- what is behind it
 behind_token : (strings : Strings) (s : Bool) (text : List ℕ) (at : ℕ) → IsUtf8 (drop at text)
-    → chars (drop (at + (token_at strings s (chars (drop at text))).len) text) ≡ drop (lexeme_at strings s (chars (drop at text))).end (chars (drop at text))
+    → chars (drop (at + (token_at strings s (chars (drop at text))).len) text)
+    ≡ drop (lexeme_at strings s (chars (drop at text))).end (chars (drop at text))
 behind_token strings s text at utf8 =
-    ap chars (sym (drop-drop (token_at strings s (chars (drop at text))).len at text)) ∙ (cut_behind (drop at text) (lexeme_at strings s (chars (drop at text))).end utf8).rest
+    ap chars (sym (drop-drop (token_at strings s (chars (drop at text))).len at text))
+    ∙ (cut_behind (drop at text) (lexeme_at strings s (chars (drop at text))).end utf8).rest
 
 -- the tokens from a place on are the one that begins there, and those from its end on
-pub token_then : (strings : Strings) (s : Bool) (text : List ℕ) (at : ℕ) → IsUtf8 (drop at text) → 0 < length (chars (drop at text))
+pub token_then : (strings : Strings) (s : Bool) (text : List ℕ) (at : ℕ) → IsUtf8 (drop at text)
+    → 0 < length (chars (drop at text))
     → tokens_from strings 0 s (chars (drop at text))
-    ≡ token_at strings s (chars (drop at text)) ∷ tokens_from strings 0 false (chars (drop (at + (token_at strings s (chars (drop at text))).len) text))
-token_then strings s text at utf8 some = rw (behind_token strings s text at utf8) (tokens_first strings s (chars (drop at text)) some)
+    ≡ token_at strings s (chars (drop at text))
+    ∷ tokens_from strings 0 false
+    (chars (drop (at + (token_at strings s (chars (drop at text))).len) text))
+token_then strings s text at utf8 some =
+    rw (behind_token strings s text at utf8) (tokens_first strings s (chars (drop at text)) some)
 
-tiles_end : (strings : Strings) (s : Bool) (text : List ℕ) (at : ℕ) → at ≤ length text → IsUtf8 (drop at text)
-    → length (chars (drop at text)) ≡ 0 → Tiles text at (tokens_from strings 0 s (chars (drop at text)))
+tiles_end : (strings : Strings) (s : Bool) (text : List ℕ) (at : ℕ) → at ≤ length text
+    → IsUtf8 (drop at text)
+    → length (chars (drop at text)) ≡ 0
+    → Tiles text at (tokens_from strings 0 s (chars (drop at text)))
 tiles_end strings s text at within utf8 none =
     let bytes_none : utf8_len (chars (drop at text)) ≡ 0 = bytes_none (chars (drop at text)) none in
     let len = length-bytes (drop at text) (is_utf8-from_IsUtf8 (drop at text) utf8) in
-    rw (tokens_none strings s (chars (drop at text)) none) (omega (arith, len, length-drop at text, within))
+    rw (tokens_none strings s (chars (drop at text)) none)
+    (omega (arith, len, length-drop at text, within))
 
 -- the tokens of what follows each place, where at most n characters do
 abbrev Tiled : ℕ → Strings → List ℕ → ℕ → Bool → Type 0
 Tiled n strings text at s =
-    at ≤ length text → IsUtf8 (drop at text) → length (chars (drop at text)) ≤ n → Tiles text at (tokens_from strings 0 s (chars (drop at text)))
+    at ≤ length text → IsUtf8 (drop at text) → length (chars (drop at text)) ≤ n
+    → Tiles text at (tokens_from strings 0 s (chars (drop at text)))
 
 tiles : (n : ℕ) (strings : Strings) (text : List ℕ) (at : ℕ) (s : Bool) → Tiled n strings text at s
 tiles zero strings text at s within utf8 h = tiles_end strings s text at within utf8 (omega arith)
-tiles (suc n) strings text at s within utf8 h = by (λ next. tiles n strings text next false) (cases_lt 0 (length (chars (drop at text))))
+tiles (suc n) strings text at s within utf8 h =
+    by (λ next. tiles n strings text next false) (cases_lt 0 (length (chars (drop at text))))
   where
     token : Token
     token = token_at strings s (chars (drop at text))
@@ -119,21 +143,39 @@ tiles (suc n) strings text at s within utf8 h = by (λ next. tiles n strings tex
 
     -- the rest is a text
     utf8_behind : IsUtf8 (drop (at + token.len) text)
-    utf8_behind = subst IsUtf8 (drop-drop token.len at text) (cut_behind (drop at text) (lexeme_at strings s (chars (drop at text))).end utf8).utf8
+    utf8_behind =
+        subst IsUtf8 (drop-drop token.len at text)
+        (cut_behind (drop at text) (lexeme_at strings s (chars (drop at text))).end utf8).utf8
 
-    rest : chars (drop (at + token.len) text) ≡ drop (lexeme_at strings s (chars (drop at text))).end (chars (drop at text))
+    rest : chars (drop (at + token.len) text)
+        ≡ drop (lexeme_at strings s (chars (drop at text))).end (chars (drop at text))
     rest = behind_token strings s text at utf8
 
-    by : ((next : ℕ) → Tiled n strings text next false) → (0 < length (chars (drop at text))) ⊎ (length (chars (drop at text)) ≤ 0)
+    by : ((next : ℕ) → Tiled n strings text next false) → (0 < length (chars (drop at text)))
+        ⊎ (length (chars (drop at text)) ≤ 0)
         → Tiles text at (tokens_from strings 0 s (chars (drop at text)))
     by behind (inr none) = tiles_end strings s text at within utf8 (omega arith)
     by behind (inl some) =
         let less : length (chars (drop (at + token.len) text)) ≤ n =
-        omega (arith, ap length rest, length-drop (lexeme_at strings s (chars (drop at text))).end (chars (drop at text)), lexeme_at_some strings s (chars (drop at text)) some, h) in
+        omega (
+          arith,
+          ap length rest,
+          length-drop (lexeme_at strings s (chars (drop at text))).end
+              (chars (drop at text)),
+          lexeme_at_some strings s (chars (drop at text)) some,
+          h,
+        ) in
         let more = behind (at + token.len) boundary.0 utf8_behind less in
-        rw (tokens_first strings s (chars (drop at text)) some)
-        (token_positive strings s (chars (drop at text)) some, token_never_eof strings s (chars (drop at text)), boundary, rw rest at more)
+        rw (tokens_first strings s (chars (drop at text)) some) (
+          token_positive strings s (chars (drop at text)) some,
+          token_never_eof strings s
+              (chars (drop at text)),
+          boundary,
+          rw rest at more,
+        )
 
 -- the tokens of a text tile it
-pub tokens_tile : (strings : Strings) (s : Bool) (text : List ℕ) → IsUtf8 text → Tiles text 0 (tokens_from strings 0 s (chars text))
-tokens_tile strings s text utf8 = tiles (length (chars text)) strings text 0 s (omega arith) utf8 (omega arith)
+pub tokens_tile : (strings : Strings) (s : Bool) (text : List ℕ) → IsUtf8 text
+    → Tiles text 0 (tokens_from strings 0 s (chars text))
+tokens_tile strings s text utf8 =
+    tiles (length (chars text)) strings text 0 s (omega arith) utf8 (omega arith)

@@ -4,12 +4,15 @@ use Rattle.std.specs.List.{starts_with}
 use Rattle.squawk_lexer.specs.Dollar.{find_end}
 use Rattle.squawk_lexer.specs.Laws.{IsFirstOccurrence}
 
-pub found : (d v : List ℕ) (n : ℕ) → find_end d v ≡ Some n → (length d ≤ n) × IsFirstOccurrence d v (n - length d)
+pub found : (d v : List ℕ) (n : ℕ) → find_end d v ≡ Some n → (length d ≤ n)
+    × IsFirstOccurrence d v (n - length d)
 found d [] n e = absurd (cc)
-found d (c ∷ v) n e = by (starts_with nat_eq (c ∷ v) d) refl (find_end d v) refl (λ m h. found d v m h)
+found d (c ∷ v) n e = by (starts_with nat_eq (c ∷ v) d) refl (find_end d v) refl (λ m h.
+    found d v m h)
   where
     by : (b : Bool) → starts_with nat_eq (c ∷ v) d ≡ b → (o : Option ℕ) → find_end d v ≡ o
-        → ((m : ℕ) → find_end d v ≡ Some m → (length d ≤ m) × IsFirstOccurrence d v (m - length d)) → (length d ≤ n) × IsFirstOccurrence d (c ∷ v) (n - length d)
+        → ((m : ℕ) → find_end d v ≡ Some m → (length d ≤ m) × IsFirstOccurrence d v (m - length d))
+        → (length d ≤ n) × IsFirstOccurrence d (c ∷ v) (n - length d)
     by true t o f more =
         let here = rw t at e in
         let n_is : length d ≡ n = cc in
@@ -21,21 +24,32 @@ found d (c ∷ v) n e = by (starts_with nat_eq (c ∷ v) d) refl (find_end d v) 
         let n_is : m + 1 ≡ n = cc in
         let rest = more m f in
         let within : length d ≤ m = rest.0 in
-        let next : n - length d ≡ suc (m - length d) = omega arith in
-        (omega arith, rw next (record { stands = rest.1.stands; first = before (m - length d) t rest.1.first }))
+        let next : n - length d ≡ suc (m - length d) = omega arith in (
+          omega arith,
+          rw next (record {
+            stands = rest.1.stands;
+            first =
+                before (m - length d) t rest.1.first;
+          }),
+        )
       where
-        before : (j : ℕ) → starts_with nat_eq (c ∷ v) d ≡ false → ((k : ℕ) → k < j → starts_with nat_eq (drop k v) d ≡ false)
+        before : (j : ℕ) → starts_with nat_eq (c ∷ v) d ≡ false
+            → ((k : ℕ) → k < j → starts_with nat_eq (drop k v) d ≡ false)
             → (k : ℕ) → k < suc j → starts_with nat_eq (drop k (c ∷ v)) d ≡ false
         before j t first zero h = t
         before j t first (suc k) h = first k (omega arith)
 
 -- where none is found, d stands nowhere
-pub nowhere : (d v : List ℕ) → find_end d v ≡ None → (k : ℕ) → k < length v → starts_with nat_eq (drop k v) d ≡ false
+pub nowhere : (d v : List ℕ) → find_end d v ≡ None → (k : ℕ) → k < length v
+    → starts_with nat_eq (drop k v) d ≡ false
 nowhere d [] e k h = absurd (omega arith)
-nowhere d (c ∷ v) e k h = by (starts_with nat_eq (c ∷ v) d) refl (find_end d v) refl k h (λ f j i. nowhere d v f j i)
+nowhere d (c ∷ v) e k h = by (starts_with nat_eq (c ∷ v) d) refl (find_end d v) refl k h (λ f j i.
+    nowhere d v f j i)
   where
-    by : (b : Bool) → starts_with nat_eq (c ∷ v) d ≡ b → (o : Option ℕ) → find_end d v ≡ o → (k : ℕ) → k < length (c ∷ v)
-        → (find_end d v ≡ None → (j : ℕ) → j < length v → starts_with nat_eq (drop j v) d ≡ false) → starts_with nat_eq (drop k (c ∷ v)) d ≡ false
+    by : (b : Bool) → starts_with nat_eq (c ∷ v) d ≡ b → (o : Option ℕ) → find_end d v ≡ o → (k : ℕ)
+        → k < length (c ∷ v)
+        → (find_end d v ≡ None → (j : ℕ) → j < length v → starts_with nat_eq (drop j v) d ≡ false)
+        → starts_with nat_eq (drop k (c ∷ v)) d ≡ false
     by true t o f k h more = let here = rw t at e in absurd (cc)
     by false t (Some m) f k h more = let there = rw (t, f) at e in absurd (cc)
     by false t None f zero h more = t

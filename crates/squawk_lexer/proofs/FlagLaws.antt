@@ -30,24 +30,42 @@ use Rattle.squawk_lexer.proofs.TokenLaws.{junk_on, exponent_on, fraction_on, tok
 
 -- ---- more characters have more bytes
 
-bytes_less : (n m : ℕ) (u : List ℕ) → n < m → n < length u → utf8_len (take n u) < utf8_len (take m u)
+bytes_less : (n m : ℕ) (u : List ℕ) → n < m → n < length u
+    → utf8_len (take n u) < utf8_len (take m u)
 bytes_less n m [] p h = absurd (omega arith)
 bytes_less n zero (c ∷ cs) p h = absurd (omega arith)
-bytes_less zero (suc m) (c ∷ cs) p h = omega (arith, sum_by-cons len_utf8 c (take m cs), len_utf8_bounds c)
+bytes_less zero (suc m) (c ∷ cs) p h =
+    omega (arith, sum_by-cons len_utf8 c (take m cs), len_utf8_bounds c)
 bytes_less (suc n) (suc m) (c ∷ cs) p h =
-    omega (arith, sum_by-cons len_utf8 c (take n cs), sum_by-cons len_utf8 c (take m cs), bytes_less n m cs (omega arith) (omega arith))
+    omega (
+      arith,
+      sum_by-cons len_utf8 c (take n cs),
+      sum_by-cons len_utf8 c (take m cs),
+      bytes_less
+          n m cs (omega arith) (omega arith),
+    )
 
 bytes_le : (n m : ℕ) (u : List ℕ) → n ≤ m → utf8_len (take n u) ≤ utf8_len (take m u)
 bytes_le zero m u p = omega arith
 bytes_le (suc n) zero u p = absurd (omega arith)
 bytes_le (suc n) (suc m) [] p = omega arith
 bytes_le (suc n) (suc m) (c ∷ cs) p =
-    omega (arith, sum_by-cons len_utf8 c (take n cs), sum_by-cons len_utf8 c (take m cs), bytes_le n m cs (omega arith))
+    omega (
+      arith,
+      sum_by-cons len_utf8 c (take n cs),
+      sum_by-cons len_utf8 c (take m cs),
+      bytes_le n
+          m cs (omega arith),
+    )
 
 -- junk that begins behind a character begins behind a byte, and ends no earlier
-junk_within : (u : List ℕ) (n : ℕ) → 1 ≤ length u → 1 ≤ n → JunkWithin (utf8_len (take n u)) (utf8_len (take (junk_end u n) u))
-junk_within u n h p =
-    (omega (arith, bytes_less 0 n u (omega arith) (omega arith)), bytes_le n (junk_end u n) u (junk_on u n))
+junk_within : (u : List ℕ) (n : ℕ) → 1 ≤ length u → 1 ≤ n
+    → JunkWithin (utf8_len (take n u)) (utf8_len (take (junk_end u n) u))
+junk_within u n h p = (
+  omega (arith, bytes_less 0 n u (omega arith) (omega arith)),
+  bytes_le n (junk_end u n) u
+      (junk_on u n),
+)
 
 -- ---- numbers
 
@@ -55,7 +73,8 @@ junk_within u n h p =
 abbrev Flagged : List ℕ → Lexeme → Type 0
 Flagged u x = FlagsWithin x.kind (utf8_len (take x.end u))
 
-either_flags : (u : List ℕ) (b : Bool) (x y : Lexeme) → (b ≡ true → Flagged u x) → Flagged u y → Flagged u (cond b x y)
+either_flags : (u : List ℕ) (b : Bool) (x y : Lexeme) → (b ≡ true → Flagged u x) → Flagged u y
+    → Flagged u (cond b x y)
 either_flags u true x y p q = p refl
 either_flags u false x y p q = q
 
@@ -65,39 +84,49 @@ exponent_flags : (b : Bool) (u : List ℕ) (i n : ℕ) → 1 ≤ length u → i 
 exponent_flags true u i n h within p = (bytes_less i n u p within, junk_within u n h (omega arith))
 exponent_flags false u i n h within p = (tt, junk_within u n h (omega arith))
 
-with_exponent_flags : (u : List ℕ) (i : ℕ) → 1 ≤ length u → i < length u → Flagged u (with_exponent u i)
+with_exponent_flags : (u : List ℕ) (i : ℕ) → 1 ≤ length u → i < length u
+    → Flagged u (with_exponent u i)
 with_exponent_flags u i h within =
-    exponent_flags (eqb (exponent_end u i) (i + 1)) u i (exponent_end u i) h within (omega (arith, exponent_on u i))
+    exponent_flags (eqb (exponent_end u i) (i + 1)) u i (exponent_end u i) h within
+    (omega (arith, exponent_on u i))
 
 fractional_flags : (u : List ℕ) (i : ℕ) → 1 ≤ length u → 1 ≤ i → Flagged u (fractional u i)
 fractional_flags u i h p =
     let n = fraction_end u i in
     either_flags u (is_exponent_letter (get_or u n 0)) (with_exponent u n) (numeric None u n)
-    (λ t. with_exponent_flags u n h (letter_within u n t)) (tt, junk_within u n h (omega (arith, fraction_on u i)))
+    (λ t. with_exponent_flags u n h (letter_within u n t))
+    (tt, junk_within u n h (omega (arith, fraction_on u i)))
 
 decimal_flags : (u : List ℕ) (a : ℕ) → 1 ≤ length u → 1 ≤ a → Flagged u (decimal_from u a)
 decimal_flags u a h p =
-    either_flags u (eqb (get_or u a 0) 46 && not (eqb (get_or u (a + 1) 0) 46)) (fractional u (a + 1)) _
+    either_flags u (eqb (get_or u a 0) 46 && not (eqb (get_or u (a + 1) 0) 46))
+    (fractional u (a + 1)) _
     (λ t. fractional_flags u (a + 1) h (omega arith))
     (either_flags u (is_exponent_letter (get_or u a 0)) (with_exponent u a) (int Decimal false u a)
     (λ t. with_exponent_flags u a h (letter_within u a t)) (junk_within u a h p))
 
 -- whether a text begins with `0` and a letter
 abbrev begins : List ℕ → ℕ → ℕ → Bool
-begins u small capital = eqb (get_or u 0 0) 48 && (eqb (get_or u 1 0) small || eqb (get_or u 1 0) capital)
+begins u small capital = eqb (get_or u 0 0) 48
+    && (eqb (get_or u 1 0) small || eqb (get_or u 1 0) capital)
 
 number_flags : (u : List ℕ) → 1 ≤ length u → Flagged u (number u)
 number_flags u h =
     let decimal = decimal_from u (digits_end u 1) in
-    let hexadecimal = cond (begins u 120 88) (based_int Hexadecimal u (hex_digits_end u 2)) decimal in
+    let hexadecimal = cond (begins u 120 88) (based_int Hexadecimal u (hex_digits_end u 2)) decimal
+    in
     let octal = cond (begins u 111 79) (based_int Octal u (digits_end u 2)) hexadecimal in
-    either_flags u (begins u 98 66) (based_int Binary u (digits_end u 2)) octal (λ t. junk_within u (digits_end u 2) h (omega arith))
-    (either_flags u (begins u 111 79) (based_int Octal u (digits_end u 2)) hexadecimal (λ t. junk_within u (digits_end u 2) h (omega arith))
-    (either_flags u (begins u 120 88) (based_int Hexadecimal u (hex_digits_end u 2)) decimal (λ t. junk_within u (hex_digits_end u 2) h (omega arith))
+    either_flags u (begins u 98 66) (based_int Binary u (digits_end u 2)) octal (λ t.
+    junk_within u (digits_end u 2) h (omega arith))
+    (either_flags u (begins u 111 79) (based_int Octal u (digits_end u 2)) hexadecimal (λ t.
+    junk_within u (digits_end u 2) h (omega arith))
+    (either_flags u (begins u 120 88) (based_int Hexadecimal u (hex_digits_end u 2)) decimal (λ t.
+    junk_within u (hex_digits_end u 2) h (omega arith))
     (decimal_flags u (digits_end u 1) h (omega arith))))
 
 dollar_flags : (u : List ℕ) → 1 ≤ length u → Flagged u (dollar u)
-dollar_flags u h = either_flags u (is_dollar_quote_start u) (dollar_string u) (parameter u) (λ t. tt) (junk_within u (run_end is_digit u 1) h (omega arith))
+dollar_flags u h = either_flags u (is_dollar_quote_start u) (dollar_string u) (parameter u) (λ t.
+    tt) (junk_within u (run_end is_digit u 1) h (omega arith))
 
 -- ---- kinds without places
 
@@ -163,17 +192,21 @@ psql_flags : (u : List ℕ) → Flagged u (psql u)
 psql_flags u =
     either_flags u (eqb (get_or u 1 0) 92) (lexeme_until (kinds.PsqlCommand false) 2) _ (λ t. tt)
     (either_flags u (eqb (get_or u 1 0) 59) (lexeme_until kinds.Semi 2) _ (λ t. tt)
-    (either_flags u (eqb (get_or u 1 0) 58) (lexeme_until kinds.Colon 2) (lexeme_until (kinds.PsqlCommand (is_among query_ending_words (command_word u))) (command_end u)) (λ t. tt) tt))
+    (either_flags u (eqb (get_or u 1 0) 58) (lexeme_until kinds.Colon 2)
+    (lexeme_until (kinds.PsqlCommand (is_among query_ending_words (command_word u)))
+    (command_end u)) (λ t. tt) tt))
 
 -- ---- every row
 
-begun_flags : (strings : Strings) (s : TokenForm) (u : List ℕ) → 1 ≤ length u → Flagged u (lexeme_of_form strings s u)
+begun_flags : (strings : Strings) (s : TokenForm) (u : List ℕ) → 1 ≤ length u
+    → Flagged u (lexeme_of_form strings s u)
 begun_flags strings Whitespace u h = tt
 begun_flags strings LineComment u h = tt
 begun_flags strings BlockComment u h = tt
 begun_flags strings String u h = tt
 begun_flags strings QuotedIdent u h = tt
-begun_flags strings Word u h = opened_flags (prefix_of (get_or u 0 0) (get_or u 1 0) (get_or u 2 0)) u
+begun_flags strings Word u h =
+    opened_flags (prefix_of (get_or u 0 0) (get_or u 1 0) (get_or u 2 0)) u
 begun_flags strings Dollar u h = dollar_flags u h
 begun_flags strings Number u h = number_flags u h
 begun_flags strings DotDot u h = tt
@@ -184,16 +217,27 @@ begun_flags strings Symbol u h = no_places (symbol (get_or u 0 0)) _ (symbol_pla
 pub flags_lie_within : FlagsLieWithin
 flags_lie_within strings s u h = (
   token_positive strings s u h,
-  either_flags u (s && eqb (get_or u 0 0) byte_order_mark) (lexeme_until kinds.Whitespace 1) (lexeme_of strings u)
+  either_flags u (s && eqb (get_or u 0 0) byte_order_mark) (lexeme_until kinds.Whitespace 1)
+      (lexeme_of strings u)
       (λ t. tt) (begun_flags strings (token_form (get_or u 0 0) (get_or u 1 0)) u h),
 )
 
 -- ---- each token of a text is the first of the text that begins with it
 
-cut_from : (strings : Strings) (inside : ℕ) (s : Bool) (u : List ℕ) → AreCut (tokens_from strings inside s u)
+cut_from : (strings : Strings) (inside : ℕ) (s : Bool) (u : List ℕ)
+    → AreCut (tokens_from strings inside s u)
 cut_from strings inside s [] = tt
-cut_from strings zero s (c ∷ cs) =
-    (record { strings = strings; at_start = s; text = c ∷ cs; some = omega arith; same = refl }, cut_from strings ((lexeme_at strings s (c ∷ cs)).end - 1) false cs)
+cut_from strings zero s (c ∷ cs) = (
+  record {
+    strings = strings;
+    at_start = s;
+    text = c ∷ cs;
+    some = omega arith;
+    same =
+        refl;
+  },
+  cut_from strings ((lexeme_at strings s (c ∷ cs)).end - 1) false cs,
+)
 cut_from strings (suc inside) s (c ∷ cs) = cut_from strings inside s cs
 
 pub tokens_are_cut : TokensAreCut

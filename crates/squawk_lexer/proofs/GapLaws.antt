@@ -19,7 +19,7 @@ use Rattle.squawk_lexer.specs.PsqlParts.{ends_arguments, part_rest, arguments_le
 use Rattle.squawk_lexer.specs.Psql.{psql, command_word, word_end, output_start, output_end, command_end}
 use Rattle.squawk_lexer.specs.Symbols.{symbol}
 use Rattle.squawk_lexer.specs.Token.{token_form, prefix_of, lexeme_of_form, lexeme_of, lexeme_at}
-use Rattle.squawk_lexer.specs.Cut.{is_trivia, form_of}
+use Rattle.squawk_lexer.specs.Cut.{is_trivia}
 use Rattle.squawk_lexer.specs.LookAhead.{Agrees}
 use Rattle.squawk_lexer.specs.Gaps.{begins_gap, GapsAreSeen, IsGap, TokensStay, TokensStayBefore}
 use Rattle.squawk_lexer.proofs.TokenLaws.{lexeme_at_some, command_plain, opened_other, dollar_other, number_other, fractional_other}
@@ -97,7 +97,15 @@ asks_of_second : (s : TokenForm) → AsksOf Any Second s
 asks_of_second Whitespace = tt
 asks_of_second LineComment = tt
 asks_of_second BlockComment = tt
-asks_of_second Psql = record { line_end = tt; not_line_end = tt; blank = tt; command_word = tt; ends = tt; other = λ x e. tt }
+asks_of_second Psql = record {
+  line_end = tt;
+  not_line_end = tt;
+  blank = tt;
+  command_word =
+      tt;
+  ends = tt;
+  other = λ x e. tt;
+}
 asks_of_second DotDot = tt
 asks_of_second Symbol = tt
 asks_of_second String = asks_second
@@ -120,8 +128,10 @@ put n g rest u h =
     record {
       within = h;
       right = omega (arith, len, length-append (take n u) (g ∷ rest));
-      same = ap (λ m. take m (take n u ++ g ∷ rest)) (sym len) ∙ take-append_seam (take n u) (g ∷ rest);
-      at = ap (λ m. get_or (take n u ++ g ∷ rest) m 0) (sym len) ∙ get_or-append_seam (take n u) g rest 0;
+      same = ap (λ m. take m (take n u ++ g ∷ rest)) (sym len)
+          ∙ take-append_seam (take n u) (g ∷ rest);
+      at = ap (λ m. get_or (take n u ++ g ∷ rest) m 0) (sym len)
+          ∙ get_or-append_seam (take n u) g rest 0;
     }
 
 gap_within : (n : ℕ) (u : List ℕ) → begins_gap (drop n u) ≡ true → n < length u
@@ -132,20 +142,28 @@ gap_within n u t =
     omega (arith, length-drop n u)
 
 on_read : (n g : ℕ) (u v : List ℕ) (j : ℕ) → IsOn n g u v → j < n → get_or v j 0 ≡ get_or u j 0
-on_read n g u v j on h = agrees_read n u v j (record { within = let w : n < length u = on.within in omega arith; same = on.same }) h
+on_read n g u v j on h = agrees_read n u v j (record {
+  within = let w : n < length u = on.within in
+      omega arith;
+  same = on.same;
+}) h
 
 -- what stands at a gap
 gap_at : (n : ℕ) (u : List ℕ) → begins_gap (drop n u) ≡ true → is_gap_start (get_or u n 0) ≡ true
-gap_at n u t = sym (ap is_gap_start (get_or-drop n u 0 0 ∙ ap (λ m. get_or u m 0) (omega arith))) ∙ gap_start (drop n u) t
+gap_at n u t = sym (ap is_gap_start (get_or-drop n u 0 0 ∙ ap (λ m. get_or u m 0) (omega arith)))
+    ∙ gap_start (drop n u) t
 
-gap_pair : (n : ℕ) (u : List ℕ) → begins_gap (drop n u) ≡ true → is_gap (get_or u n 0) (get_or (drop (n + 1) u) 0 0) ≡ true
+gap_pair : (n : ℕ) (u : List ℕ) → begins_gap (drop n u) ≡ true
+    → is_gap (get_or u n 0) (get_or (drop (n + 1) u) 0 0) ≡ true
 gap_pair n u t =
-    ap (λ c. is_gap c (get_or (drop (n + 1) u) 0 0)) (sym (get_or-drop n u 0 0 ∙ ap (λ m. get_or u m 0) (omega arith)))
+    ap (λ c. is_gap c (get_or (drop (n + 1) u) 0 0)) (sym (get_or-drop n u 0 0
+    ∙ ap (λ m. get_or u m 0) (omega arith)))
     ∙ ap (is_gap (get_or (drop n u) 0 0)) (after n u ∙ sym (get_or-drop n u 1 0))
     ∙ t
 
 pub tokens_stay_before : TokensStayBefore
-tokens_stay_before strings s u g rest t gap = lexeme_same strings s k u v a rows (asks_of_second (row u)) refl
+tokens_stay_before strings s u g rest t gap =
+    lexeme_same strings s k u v a rows (asks_of_second (row u)) refl
   where
     k : ℕ
     k = (lexeme_at strings s u).end
@@ -168,8 +186,10 @@ tokens_stay_before strings s u g rest t gap = lexeme_same strings s k u v a rows
     here : get_or v k 0 ≡ get_or u k 0
     here = agrees_read (k + 1) u v k agrees (omega arith)
 
-    calm : (q : ℕ → Bool) → Calm q → q (get_or (drop (k + 1) v) 0 0) ≡ q (get_or (drop (k + 1) u) 0 0)
-    calm q c = ap q (after k v ∙ on.at) ∙ c g (white_start g (gap_white g gap)) ∙ sym (c (get_or (drop (k + 1) u) 0 0) (gap_start (drop (k + 1) u) t))
+    calm : (q : ℕ → Bool) → Calm q → q (get_or (drop (k + 1) v) 0 0)
+        ≡ q (get_or (drop (k + 1) u) 0 0)
+    calm q c = ap q (after k v ∙ on.at) ∙ c g (white_start g (gap_white g gap))
+        ∙ sym (c (get_or (drop (k + 1) u) 0 0) (gap_start (drop (k + 1) u) t))
 
     a : Alike Any Second k u v
     a = record {
@@ -178,7 +198,8 @@ tokens_stay_before strings s u g rest t gap = lexeme_same strings s k u v a rows
       same = (agrees_less k (k + 1) u v (omega arith) agrees).same;
       follows = record {
         one = λ p x. ap p here;
-        two = λ p q x. ap (λ c. p c && q (get_or (drop (k + 1) v) 0 0)) here ∙ ap (λ b. p (get_or u k 0) && b) (calm q x);
+        two = λ p q x. ap (λ c. p c && q (get_or (drop (k + 1) v) 0 0)) here
+            ∙ ap (λ b. p (get_or u k 0) && b) (calm q x);
       };
     }
 
@@ -186,7 +207,8 @@ tokens_stay_before strings s u g rest t gap = lexeme_same strings s k u v a rows
     some = lexeme_at_some strings s u (omega (arith, within))
 
     rows : row v ≡ row u
-    rows = ap (λ c. token_form c (get_or v 1 0)) (agrees_read (k + 1) u v 0 agrees (omega arith)) ∙ ap (token_form (get_or u 0 0)) (agrees_read (k + 1) u v 1 agrees (omega (arith, some)))
+    rows = ap (λ c. token_form c (get_or v 1 0)) (agrees_read (k + 1) u v 0 agrees (omega arith))
+        ∙ ap (token_form (get_or u 0 0)) (agrees_read (k + 1) u v 1 agrees (omega (arith, some)))
 
 -- ---- directly behind
 
@@ -217,7 +239,8 @@ NoGap LineComment = ⊥
 NoGap BlockComment = ⊥
 NoGap _ = ⊤
 
-no_gap : (strings : Strings) (s : TokenForm) (u : List ℕ) → is_trivia (form_of (lexeme_of_form strings s u).kind) ≡ false → NoGap s
+no_gap : (strings : Strings) (s : TokenForm) (u : List ℕ)
+    → is_trivia (lexeme_of_form strings s u).kind ≡ false → NoGap s
 no_gap strings Whitespace u t = absurd (false≢true (sym t))
 no_gap strings LineComment u t = absurd (false≢true (sym t))
 no_gap strings BlockComment u t = absurd (false≢true (sym t))
@@ -246,7 +269,9 @@ row_by c line_end block dots point =
     (cond point Fraction
     (cond (eqb c 92) Psql Symbol))))))))))
 
-row_is : (c d : ℕ) → token_form c d ≡ row_by c (eqb c 45 && eqb d 45) (eqb c 47 && eqb d 42) (eqb c 46 && eqb d 46) (eqb c 46 && is_digit d)
+row_is : (c d : ℕ) → token_form c d
+    ≡ row_by c (eqb c 45 && eqb d 45) (eqb c 47 && eqb d 42) (eqb c 46 && eqb d 46) (eqb c 46
+    && is_digit d)
 unfolding token_form
 row_is c d = refl
 
@@ -256,10 +281,14 @@ line_row c d t =
     let white : is_whitespace c ≡ false = grind (arith, nat_tests) in
     rw (white, t) refl
 
--- where a gap begins at the second character, and none at the first, the first alone decides the row
-row_before : (c d : ℕ) → is_gap_start d ≡ true → NoGap (token_form c d) → token_form c d ≡ row_by c false false false false
+-- where a gap begins at the second character, and none at the first, the first alone decides the
+-- row
+row_before : (c d : ℕ) → is_gap_start d ≡ true → NoGap (token_form c d)
+    → token_form c d ≡ row_by c false false false false
 row_before c d t n =
-    let line_end : (eqb c 45 && eqb d 45) ≡ false = elim (cases_Bool (eqb c 45 && eqb d 45)) [ inl is ↦ absurd (subst NoGap (line_row c d is) n) | inr not ↦ not ] in
+    let line_end : (eqb c 45 && eqb d 45) ≡ false =
+    elim (cases_Bool (eqb c 45 && eqb d 45))
+    [ inl is ↦ absurd (subst NoGap (line_row c d is) n) | inr not ↦ not ] in
     let block : (eqb c 47 && eqb d 42) ≡ false = grind (arith, nat_tests) in
     let dots : (eqb c 46 && eqb d 46) ≡ false = grind (arith, nat_tests) in
     let point : (eqb c 46 && is_digit d) ≡ false = grind (arith, nat_tests) in
@@ -284,12 +313,16 @@ either_stops false u x y p q = q
 line_stops : (u : List ℕ) (i : ℕ) → Stops u (line_end u i)
 line_stops u i h =
     let n = prefix_len is_not_line_end (drop i u) in
-    let end : is_not_line_end (get_or (drop i u) n 0) ≡ false = prefix_len_stops is_not_line_end (drop i u) 0 (omega (arith, length-drop i u)) in
-    let here : is_not_line_end (get_or u (line_end u i) 0) ≡ false = sym (ap is_not_line_end (get_or-drop i u n 0)) ∙ end in
+    let end : is_not_line_end (get_or (drop i u) n 0) ≡ false =
+    prefix_len_stops is_not_line_end (drop i u) 0 (omega (arith, length-drop i u)) in
+    let here : is_not_line_end (get_or u (line_end u i) 0) ≡ false =
+    sym (ap is_not_line_end (get_or-drop i u n 0)) ∙ end in
     grind (arith, nat_tests)
 
-one_on : (c : ℕ) (cs : List ℕ) (n : ℕ) → ends_arguments (get_or (c ∷ cs) (1 + n) 0) ≡ ends_arguments (get_or cs n 0)
-one_on c cs n = ap (λ m. ends_arguments (get_or (c ∷ cs) m 0)) (let e : 1 + n ≡ suc n = omega arith in e)
+one_on : (c : ℕ) (cs : List ℕ) (n : ℕ) → ends_arguments (get_or (c ∷ cs) (1 + n) 0)
+    ≡ ends_arguments (get_or cs n 0)
+one_on c cs n = ap (λ m. ends_arguments (get_or (c ∷ cs) m 0)) (let e : 1 + n ≡ suc n = omega arith
+    in e)
 
 parts_stop : (inside : ℕ) (v : List ℕ) → Stops v (arguments_len inside v)
 parts_stop inside [] h = absurd (omega arith)
@@ -298,13 +331,15 @@ parts_stop zero (c ∷ cs) h = by (ends_arguments c) refl (parts_stop (part_rest
     n : ℕ
     n = arguments_len (part_rest c cs) cs
 
-    by : (b : Bool) → ends_arguments c ≡ b → Stops cs n → cond b 0 (1 + n) < length (c ∷ cs) → ends_arguments (get_or (c ∷ cs) (cond b 0 (1 + n)) 0) ≡ true
+    by : (b : Bool) → ends_arguments c ≡ b → Stops cs n → cond b 0 (1 + n) < length (c ∷ cs)
+        → ends_arguments (get_or (c ∷ cs) (cond b 0 (1 + n)) 0) ≡ true
     by true t more h = t
     by false t more h = one_on c cs n ∙ more (omega arith)
 parts_stop (suc i) (c ∷ cs) h = one_on c cs (arguments_len i cs) ∙ parts_stop i cs (omega arith)
 
 args_stop : (u : List ℕ) (i : ℕ) → Stops u (arguments_end u i)
-args_stop u i h = sym (ap ends_arguments (get_or-drop i u (arguments_len 0 (drop i u)) 0)) ∙ parts_stop 0 (drop i u) (omega (arith, length-drop i u))
+args_stop u i h = sym (ap ends_arguments (get_or-drop i u (arguments_len 0 (drop i u)) 0))
+    ∙ parts_stop 0 (drop i u) (omega (arith, length-drop i u))
 
 command_stops : (u : List ℕ) → Stops u (command_end u)
 command_stops u =
@@ -312,7 +347,8 @@ command_stops u =
     let p = output_start (is_among option_words (command_word u)) u (run_end is_blank u w) in
     either_stops (takes_line (command_word u)) u (line_end u w) _ (line_stops u w)
     (either_stops (is_among pipe_words (command_word u)) u (output_end u p) (arguments_end u w)
-    (either_stops (eqb (get_or u p 0) 124) u (line_end u p) (arguments_end u p) (line_stops u p) (args_stop u p)) (args_stop u w))
+    (either_stops (eqb (get_or u p 0) 124) u (line_end u p) (arguments_end u p) (line_stops u p)
+    (args_stop u p)) (args_stop u w))
 
 -- the test says the same of LF and CR
 abbrev OfLineEnds : (ℕ → Bool) → Type 0
@@ -322,7 +358,15 @@ abbrev NoPair : (ℕ → Bool) → (ℕ → Bool) → Type 0
 NoPair p q = ⊥
 
 asks_psql : AsksPsql OfLineEnds
-asks_psql = record { line_end = refl; not_line_end = refl; blank = refl; command_word = refl; ends = refl; other = λ x e. of x e }
+asks_psql = record {
+  line_end = refl;
+  not_line_end = refl;
+  blank = refl;
+  command_word = refl;
+  ends =
+      refl;
+  other = λ x e. of x e;
+}
   where
     of : (x : ℕ) → is_line_end x ≡ false → eqb 13 x ≡ eqb 10 x
     of x e =
@@ -331,10 +375,15 @@ asks_psql = record { line_end = refl; not_line_end = refl; blank = refl; command
         left ∙ sym right
 
 of_line_ends : (p : ℕ → Bool) → OfLineEnds p → (c : ℕ) → is_line_end c ≡ true → p 10 ≡ p c
-of_line_ends p same c t = elim (cases_eq c 10) [ inl is ↦ ap p (sym is) | inr is_not ↦ sym same ∙ ap p (let other : 13 ≡ c = grind (arith, nat_tests) in other) ]
+of_line_ends p same c t = elim (cases_eq c 10) [
+  | inl is ↦ ap p (sym is)
+  | inr is_not ↦ sym same
+      ∙ ap p (let other : 13 ≡ c = grind (arith, nat_tests) in other)
+]
 
 -- before LF or CR, a command stays before LF
-command_stays : (u v : List ℕ) → IsOn (psql u).end 10 u v → is_line_end (get_or u (psql u).end 0) ≡ true → psql v ≡ psql u
+command_stays : (u v : List ℕ) → IsOn (psql u).end 10 u v
+    → is_line_end (get_or u (psql u).end 0) ≡ true → psql v ≡ psql u
 command_stays u v on t = psql_same asks_psql (psql u).end u v a (omega arith)
   where
     a : Alike OfLineEnds NoPair (psql u).end u v
@@ -342,15 +391,22 @@ command_stays u v on t = psql_same asks_psql (psql u).end u v a (omega arith)
       left = on.within;
       right = on.right;
       same = on.same;
-      follows = record { one = λ p x. ap p on.at ∙ of_line_ends p x (get_or u (psql u).end 0) t; two = λ p q x. absurd x };
+      follows = record {
+        one = λ p x. ap p on.at
+            ∙ of_line_ends p x (get_or u (psql u).end 0) t;
+        two = λ p q x. absurd x;
+      };
     }
 
 -- two characters that begin no command
-pair_stays : (u v : List ℕ) (b c d : Bool) → eqb (get_or u 1 0) 92 ≡ b → eqb (get_or u 1 0) 59 ≡ c → eqb (get_or u 1 0) 58 ≡ d → (g : ℕ) → IsOn (psql u).end g u v
-    → begins_gap (drop (psql u).end u) ≡ true → (is_line_end (get_or u (psql u).end 0) ≡ true → g ≡ 10) → psql v ≡ psql u
+pair_stays : (u v : List ℕ) (b c d : Bool) → eqb (get_or u 1 0) 92 ≡ b → eqb (get_or u 1 0) 59 ≡ c
+    → eqb (get_or u 1 0) 58 ≡ d → (g : ℕ) → IsOn (psql u).end g u v
+    → begins_gap (drop (psql u).end u) ≡ true
+    → (is_line_end (get_or u (psql u).end 0) ≡ true → g ≡ 10) → psql v ≡ psql u
 pair_stays u v true c d e f h g on t crlf =
     let two : (psql u).end ≡ 2 = rw e refl in
-    let next : eqb (get_or v 1 0) 92 ≡ true = ap (λ c. eqb c 92) (on_read (psql u).end g u v 1 on (omega (arith, two))) ∙ e in
+    let next : eqb (get_or v 1 0) 92 ≡ true =
+    ap (λ c. eqb c 92) (on_read (psql u).end g u v 1 on (omega (arith, two))) ∙ e in
     rw (next, e) refl
 pair_stays u v false true d e f h g on t crlf =
     let two : (psql u).end ≡ 2 = rw (e, f) refl in
@@ -363,7 +419,8 @@ pair_stays u v false false true e f h g on t crlf =
 pair_stays u v false false false e f h g on t crlf =
     let is : (psql u).end ≡ command_end u = rw (e, f, h) refl in
     let first : is_gap_start (get_or u (psql u).end 0) ≡ true = gap_at (psql u).end u t in
-    let stops : ends_arguments (get_or u (psql u).end 0) ≡ true = subst (Stops u) (sym is) (command_stops u) on.within in
+    let stops : ends_arguments (get_or u (psql u).end 0) ≡ true =
+    subst (Stops u) (sym is) (command_stops u) on.within in
     let line_end : is_line_end (get_or u (psql u).end 0) ≡ true = grind (arith, nat_tests) in
     command_stays u v (subst (λ n. IsOn (psql u).end n u v) (crlf line_end) on) line_end
 
@@ -394,8 +451,10 @@ tokens_stay strings s u g rest t gap white crlf = by (s && eqb (get_or u 0 0) by
       right = on.right;
       same = on.same;
       follows = record {
-        one = λ p x. ap p on.at ∙ x g (white_start g (gap_white g white)) ∙ sym (x (get_or u k 0) start_at);
-        two = λ p q x. x (get_or v k 0) _ (white_gap (get_or v k 0) _ (ap is_whitespace on.at ∙ gap_white g white)) ∙ sym (x (get_or u k 0) _ (gap_pair k u gap));
+        one = λ p x. ap p on.at ∙ x g (white_start g (gap_white g white))
+            ∙ sym (x (get_or u k 0) start_at);
+        two = λ p q x. x (get_or v k 0) _ (white_gap (get_or v k 0) _ (ap is_whitespace on.at
+            ∙ gap_white g white)) ∙ sym (x (get_or u k 0) _ (gap_pair k u gap));
       };
     }
 
@@ -403,20 +462,30 @@ tokens_stay strings s u g rest t gap white crlf = by (s && eqb (get_or u 0 0) by
     rows n = near (cases_lt 1 k)
       where
         near : (1 < k) ⊎ (k ≤ 1) → row v ≡ row u
-        near (inl more) = ap (λ c. token_form c (get_or v 1 0)) first ∙ ap (token_form (get_or u 0 0)) (on_read k g u v 1 on more)
+        near (inl more) = ap (λ c. token_form c (get_or v 1 0)) first
+            ∙ ap (token_form (get_or u 0 0)) (on_read k g u v 1 on more)
         near (inr less) =
             let one : k ≡ 1 = omega (arith, some) in
-            let here : is_gap_start (get_or u 1 0) ≡ true = sym (ap (λ n. is_gap_start (get_or u n 0)) one) ∙ start_at in
-            let there : is_whitespace (get_or v 1 0) ≡ true = sym (ap (λ n. is_whitespace (get_or v n 0)) one) ∙ ap is_whitespace on.at ∙ gap_white g white in
-            ap (λ c. token_form c (get_or v 1 0)) first ∙ row_white (get_or u 0 0) (get_or v 1 0) there ∙ sym (row_before (get_or u 0 0) (get_or u 1 0) here n)
+            let here : is_gap_start (get_or u 1 0) ≡ true =
+            sym (ap (λ n. is_gap_start (get_or u n 0)) one) ∙ start_at in
+            let there : is_whitespace (get_or v 1 0) ≡ true =
+            sym (ap (λ n. is_whitespace (get_or v n 0)) one) ∙ ap is_whitespace on.at
+            ∙ gap_white g white in
+            ap (λ c. token_form c (get_or v 1 0)) first
+            ∙ row_white (get_or u 0 0) (get_or v 1 0) there
+            ∙ sym (row_before (get_or u 0 0) (get_or u 1 0) here n)
 
-    of_row : (r : TokenForm) → NoGap r → (lexeme_of_form strings r u).end ≡ k → lexeme_of_form strings r v ≡ lexeme_of_form strings r u
+    of_row : (r : TokenForm) → NoGap r → (lexeme_of_form strings r u).end ≡ k
+        → lexeme_of_form strings r v ≡ lexeme_of_form strings r u
     of_row Whitespace n e = absurd n
     of_row LineComment n e = absurd n
     of_row BlockComment n e = absurd n
-    of_row Psql n e = pair_stays u v _ _ _ refl refl refl g (subst (λ m. IsOn m g u v) (sym e) on) (ap (λ m. begins_gap (drop m u)) e ∙ gap) (λ x. crlf (sym (ap (λ m. is_line_end (get_or u m 0)) e) ∙ x))
+    of_row Psql n e = pair_stays u v _ _ _ refl refl refl g (subst (λ m.
+        IsOn m g u v) (sym e) on) (ap (λ m. begins_gap (drop m u)) e ∙ gap) (λ x.
+        crlf (sym (ap (λ m. is_line_end (get_or u m 0)) e) ∙ x))
     of_row String n e = begun_same strings String asks_calm k u v calm some (omega (arith, e))
-    of_row QuotedIdent n e = begun_same strings QuotedIdent asks_calm k u v calm some (omega (arith, e))
+    of_row QuotedIdent n e =
+        begun_same strings QuotedIdent asks_calm k u v calm some (omega (arith, e))
     of_row Word n e = begun_same strings Word asks_calm k u v calm some (omega (arith, e))
     of_row Dollar n e = begun_same strings Dollar asks_calm k u v calm some (omega (arith, e))
     of_row Number n e = begun_same strings Number asks_calm k u v calm some (omega (arith, e))
@@ -424,40 +493,49 @@ tokens_stay strings s u g rest t gap white crlf = by (s && eqb (get_or u 0 0) by
     of_row Fraction n e = begun_same strings Fraction asks_calm k u v calm some (omega (arith, e))
     of_row Symbol n e = begun_same strings Symbol tt k u v calm some (omega (arith, e))
 
-    by : (b : Bool) → (s && eqb (get_or u 0 0) byte_order_mark) ≡ b → lexeme_at strings s v ≡ lexeme_at strings s u
+    by : (b : Bool) → (s && eqb (get_or u 0 0) byte_order_mark) ≡ b
+        → lexeme_at strings s v ≡ lexeme_at strings s u
     by true e =
-        let white_kind : is_trivia (form_of (lexeme_at strings s u).kind) ≡ true = rw e refl in
+        let white_kind : is_trivia (lexeme_at strings s u).kind ≡ true = rw e refl in
         absurd (false≢true (sym t ∙ white_kind))
     by false e =
         let is : lexeme_at strings s u ≡ lexeme_of strings u = rw e refl in
-        let test : (s && eqb (get_or v 0 0) byte_order_mark) ≡ false = ap (λ c. s && eqb c byte_order_mark) first ∙ e in
+        let test : (s && eqb (get_or v 0 0) byte_order_mark) ≡ false =
+        ap (λ c. s && eqb c byte_order_mark) first ∙ e in
         let there : lexeme_at strings s v ≡ lexeme_of strings v = rw test refl in
-        let n : NoGap (row u) = no_gap strings (row u) u (sym (ap (λ (x : Lexeme). is_trivia (form_of x.kind)) is) ∙ t) in
-        there ∙ ap (λ r. lexeme_of_form strings r v) (rows n) ∙ of_row (row u) n (sym (ap (λ (x : Lexeme). x.end) is)) ∙ sym is
+        let n : NoGap (row u) =
+        no_gap strings (row u) u (sym (ap (λ (x : Lexeme). is_trivia x.kind) is) ∙ t) in
+        there ∙ ap (λ r. lexeme_of_form strings r v) (rows n)
+        ∙ of_row (row u) n (sym (ap (λ (x : Lexeme). x.end) is)) ∙ sym is
 
 -- ---- what begins a gap
 
-symbol_plain : (c : ℕ) → is_trivia (form_of (symbol c)) ≡ false
+symbol_plain : (c : ℕ) → is_trivia (symbol c) ≡ false
 unfolding symbol
 symbol_plain c = grind (arith, nat_tests)
 
-either_plain : (b : Bool) (x y : Lexeme) → is_trivia (form_of x.kind) ≡ false → is_trivia (form_of y.kind) ≡ false → is_trivia (form_of (cond b x y).kind) ≡ false
+either_plain : (b : Bool) (x y : Lexeme) → is_trivia x.kind ≡ false → is_trivia y.kind ≡ false
+    → is_trivia (cond b x y).kind ≡ false
 either_plain true x y p q = p
 either_plain false x y p q = q
 
-psql_plain : (u : List ℕ) → is_trivia (form_of (psql u).kind) ≡ false
+psql_plain : (u : List ℕ) → is_trivia (psql u).kind ≡ false
 psql_plain u =
     either_plain (eqb (get_or u 1 0) 92) (lexeme_until (kinds.PsqlCommand false) 2) _ refl
     (either_plain (eqb (get_or u 1 0) 59) (lexeme_until kinds.Semi 2) _ refl
-    (either_plain (eqb (get_or u 1 0) 58) (lexeme_until kinds.Colon 2) (lexeme_until (kinds.PsqlCommand (is_among query_ending_words (command_word u))) (command_end u)) refl (command_plain (is_among query_ending_words (command_word u)))))
+    (either_plain (eqb (get_or u 1 0) 58) (lexeme_until kinds.Colon 2)
+    (lexeme_until (kinds.PsqlCommand (is_among query_ending_words (command_word u)))
+    (command_end u)) refl (command_plain (is_among query_ending_words (command_word u)))))
 
-begun_plain : (strings : Strings) (s : TokenForm) (u : List ℕ) → NoGap s → is_trivia (form_of (lexeme_of_form strings s u).kind) ≡ false
+begun_plain : (strings : Strings) (s : TokenForm) (u : List ℕ) → NoGap s
+    → is_trivia (lexeme_of_form strings s u).kind ≡ false
 begun_plain strings Whitespace u n = absurd n
 begun_plain strings LineComment u n = absurd n
 begun_plain strings BlockComment u n = absurd n
 begun_plain strings String u n = refl
 begun_plain strings QuotedIdent u n = refl
-begun_plain strings Word u n = (opened_other (prefix_of (get_or u 0 0) (get_or u 1 0) (get_or u 2 0)) u).plain
+begun_plain strings Word u n =
+    (opened_other (prefix_of (get_or u 0 0) (get_or u 1 0) (get_or u 2 0)) u).plain
 begun_plain strings Dollar u n = (dollar_other u).plain
 begun_plain strings Number u n = (number_other u).plain
 begun_plain strings DotDot u n = refl
@@ -473,9 +551,15 @@ or_second true b e = refl
 or_second false b e = e
 
 no_gap_row : (c d : ℕ) (s : TokenForm) → s ≡ token_form c d → is_gap c d ≡ false → NoGap s
-no_gap_row c d Whitespace e t = let fits : is_whitespace c ≡ true = row_fits Whitespace c d e in absurd (false≢true (sym t ∙ rw fits refl))
-no_gap_row c d LineComment e t = let fits : (eqb c 45 && eqb d 45) ≡ true = row_fits LineComment c d e in absurd (false≢true (sym t ∙ or_second (is_whitespace c) _ (or_first _ (eqb c 47 && eqb d 42) fits)))
-no_gap_row c d BlockComment e t = let fits : (eqb c 47 && eqb d 42) ≡ true = row_fits BlockComment c d e in absurd (false≢true (sym t ∙ or_second (is_whitespace c) _ (or_second (eqb c 45 && eqb d 45) _ fits)))
+no_gap_row c d Whitespace e t = let fits : is_whitespace c ≡ true = row_fits Whitespace c d e in
+    absurd (false≢true (sym t ∙ rw fits refl))
+no_gap_row c d LineComment e t = let fits : (eqb c 45 && eqb d 45) ≡ true =
+    row_fits LineComment c d e in absurd (false≢true (sym t
+    ∙ or_second (is_whitespace c) _ (or_first _ (eqb c 47 && eqb d 42) fits)))
+no_gap_row c d BlockComment e t = let fits : (eqb c 47 && eqb d 42) ≡ true =
+    row_fits BlockComment c d e in
+    absurd (false≢true (sym t
+    ∙ or_second (is_whitespace c) _ (or_second (eqb c 45 && eqb d 45) _ fits)))
 no_gap_row c d String e t = tt
 no_gap_row c d QuotedIdent e t = tt
 no_gap_row c d Word e t = tt
@@ -487,8 +571,10 @@ no_gap_row c d Psql e t = tt
 no_gap_row c d Symbol e t = tt
 
 -- a row whose tokens are gaps
-gap_row : (strings : Strings) (u : List ℕ) → begins_gap u ≡ true → is_trivia (form_of (lexeme_of strings u).kind) ≡ true
-gap_row strings u t = by (is_whitespace c) (eqb c 45 && eqb d 45) (eqb c 47 && eqb d 42) refl refl refl
+gap_row : (strings : Strings) (u : List ℕ) → begins_gap u ≡ true
+    → is_trivia (lexeme_of strings u).kind ≡ true
+gap_row strings u t = by (is_whitespace c) (eqb c 45 && eqb d 45) (eqb c 47
+    && eqb d 42) refl refl refl
   where
     c : ℕ
     c = get_or u 0 0
@@ -496,10 +582,12 @@ gap_row strings u t = by (is_whitespace c) (eqb c 45 && eqb d 45) (eqb c 47 && e
     d : ℕ
     d = get_or u 1 0
 
-    kind : (s : TokenForm) → row u ≡ s → is_trivia (form_of (lexeme_of_form strings s u).kind) ≡ true → is_trivia (form_of (lexeme_of strings u).kind) ≡ true
-    kind s e t = ap (λ r. is_trivia (form_of (lexeme_of_form strings r u).kind)) e ∙ t
+    kind : (s : TokenForm) → row u ≡ s → is_trivia (lexeme_of_form strings s u).kind ≡ true
+        → is_trivia (lexeme_of strings u).kind ≡ true
+    kind s e t = ap (λ r. is_trivia (lexeme_of_form strings r u).kind) e ∙ t
 
-    by : (x y z : Bool) → is_whitespace c ≡ x → (eqb c 45 && eqb d 45) ≡ y → (eqb c 47 && eqb d 42) ≡ z → is_trivia (form_of (lexeme_of strings u).kind) ≡ true
+    by : (x y z : Bool) → is_whitespace c ≡ x → (eqb c 45 && eqb d 45) ≡ y
+        → (eqb c 47 && eqb d 42) ≡ z → is_trivia (lexeme_of strings u).kind ≡ true
     by true y z e f g = kind Whitespace (row_is c d ∙ rw e refl) refl
     by false true z e f g = kind LineComment (row_is c d ∙ rw (e, f) refl) refl
     by false false true e f g = kind BlockComment (row_is c d ∙ rw (e, f, g) refl) refl
@@ -508,6 +596,7 @@ gap_row strings u t = by (is_whitespace c) (eqb c 45 && eqb d 45) (eqb c 47 && e
 pub gaps_are_seen : GapsAreSeen
 gaps_are_seen strings u = by (begins_gap u) refl
   where
-    by : (b : Bool) → begins_gap u ≡ b → is_trivia (form_of (lexeme_at strings false u).kind) ≡ begins_gap u
+    by : (b : Bool) → begins_gap u ≡ b → is_trivia (lexeme_at strings false u).kind ≡ begins_gap u
     by true t = gap_row strings u t ∙ sym t
-    by false t = begun_plain strings (row u) u (no_gap_row (get_or u 0 0) (get_or u 1 0) (row u) refl t) ∙ sym t
+    by false t = begun_plain strings (row u) u
+        (no_gap_row (get_or u 0 0) (get_or u 1 0) (row u) refl t) ∙ sym t

@@ -23,8 +23,10 @@ pub runs_are_longest : RunsAreLongest
 runs_are_longest class u i h = record {
   on = omega arith;
   within = within;
-  all = λ k low high. sym (ap class (at (k - i) k (omega arith))) ∙ prefix_len_passes class (drop i u) (k - i) 0 (omega arith);
-  stops = λ less. sym (ap class (at (prefix_len class (drop i u)) (run_end class u i) refl)) ∙ prefix_len_stops class (drop i u) 0 (omega (arith, length-drop i u));
+  all = λ k low high. sym (ap class (at (k - i) k (omega arith)))
+      ∙ prefix_len_passes class (drop i u) (k - i) 0 (omega arith);
+  stops = λ less. sym (ap class (at (prefix_len class (drop i u)) (run_end class u i) refl))
+      ∙ prefix_len_stops class (drop i u) 0 (omega (arith, length-drop i u));
 }
   where
     within : run_end class u i ≤ length u
@@ -34,7 +36,8 @@ runs_are_longest class u i h = record {
     at n k e = get_or-drop i u n 0 ∙ ap (λ m. get_or u m 0) e
 
 -- two runs from the same place end at the same one
-not_before : (class : ℕ → Bool) (u : List ℕ) (i j k : ℕ) → IsRun class u i j → IsRun class u i k → j < k → ⊥
+not_before : (class : ℕ → Bool) (u : List ℕ) (i j k : ℕ) → IsRun class u i j → IsRun class u i k
+    → j < k → ⊥
 not_before class u i j k a b h =
     let on : i ≤ j = a.on in
     let within : k ≤ length u = b.within in
@@ -44,9 +47,11 @@ pub runs_are_one : RunsAreUnique
 runs_are_one class u i j a = by (cases_lt j (run_end class u i)) (cases_lt (run_end class u i) j)
   where
     b : IsRun class u i (run_end class u i)
-    b = let on : i ≤ j = a.on in let within : j ≤ length u = a.within in runs_are_longest class u i (omega arith)
+    b = let on : i ≤ j = a.on in let within : j ≤ length u = a.within in
+        runs_are_longest class u i (omega arith)
 
-    by : (j < run_end class u i) ⊎ (run_end class u i ≤ j) → (run_end class u i < j) ⊎ (j ≤ run_end class u i) → j ≡ run_end class u i
+    by : (j < run_end class u i) ⊎ (run_end class u i ≤ j) → (run_end class u i < j)
+        ⊎ (j ≤ run_end class u i) → j ≡ run_end class u i
     by (inl h) k = absurd (not_before class u i j (run_end class u i) a b h)
     by (inr h) (inl k) = absurd (not_before class u i (run_end class u i) j b a k)
     by (inr h) (inr k) = omega arith
@@ -58,8 +63,10 @@ tokens_progress strings at_start u some = lexeme_at_some strings at_start u some
 
 -- what is behind n tokens, and what they sum up to, given both of the text behind the first one
 restart : (strings : Strings) (at_start : Bool) (n : ℕ) (u : List ℕ)
-    → ((v : List ℕ) → drop n (tokens_from strings 0 false v) ≡ tokens_from strings 0 false (drop (chars_of_tokens strings false n v) v))
-    → drop (suc n) (tokens_from strings 0 at_start u) ≡ tokens_from strings 0 false (drop (chars_of_tokens strings at_start (suc n) u) u)
+    → ((v : List ℕ) → drop n (tokens_from strings 0 false v)
+    ≡ tokens_from strings 0 false (drop (chars_of_tokens strings false n v) v))
+    → drop (suc n) (tokens_from strings 0 at_start u)
+    ≡ tokens_from strings 0 false (drop (chars_of_tokens strings at_start (suc n) u) u)
 restart strings at_start n [] more = refl
 restart strings at_start n (c ∷ cs) more =
     let u = c ∷ cs in
@@ -68,7 +75,9 @@ restart strings at_start n (c ∷ cs) more =
     ∙ more (drop e u)
     ∙ ap (tokens_from strings 0 false) (drop-drop (chars_of_tokens strings false n (drop e u)) e u)
 
-restart_on : (strings : Strings) (n : ℕ) (v : List ℕ) → drop n (tokens_from strings 0 false v) ≡ tokens_from strings 0 false (drop (chars_of_tokens strings false n v) v)
+restart_on : (strings : Strings) (n : ℕ) (v : List ℕ)
+    → drop n (tokens_from strings 0 false v)
+    ≡ tokens_from strings 0 false (drop (chars_of_tokens strings false n v) v)
 restart_on strings zero [] = refl
 restart_on strings zero (c ∷ cs) = refl
 restart_on strings (suc n) v = restart strings false n v (restart_on strings n)
@@ -85,11 +94,16 @@ places_add_up strings at_start (suc n) (c ∷ cs) =
     let u = c ∷ cs in
     let e = (lexeme_at strings at_start u).end in
     let rest = tokens_from strings 0 false (drop e u) in
-    let first : utf8_len (take (e + chars_of_tokens strings false n (drop e u)) u) ≡ utf8_len (take e u) + utf8_len (take (chars_of_tokens strings false n (drop e u)) (drop e u)) =
-    ap utf8_len (take-add e (chars_of_tokens strings false n (drop e u)) u) ∙ sum_by-append len_utf8 (take e u) _ in
+    let first : utf8_len (take (e + chars_of_tokens strings false n (drop e u)) u)
+    ≡ utf8_len (take e u) + utf8_len (take (chars_of_tokens strings false n (drop e u))
+    (drop e u)) =
+    ap utf8_len (take-add e (chars_of_tokens strings false n (drop e u)) u)
+    ∙ sum_by-append len_utf8 (take e u) _ in
     first
     ∙ ap (λ m. utf8_len (take e u) + m) (places_add_up strings false n (drop e u))
-    ∙ sym (ap (λ ts. sum_by (λ (t : Token). t.len) (take (suc n) ts)) (tokens_first strings at_start u (omega arith)) ∙ sum_by-cons (λ (t : Token). t.len) (token_at strings at_start u) (take n rest))
+    ∙ sym (ap (λ ts. sum_by (λ (t : Token). t.len) (take (suc n) ts))
+    (tokens_first strings at_start u (omega arith))
+    ∙ sum_by-cons (λ (t : Token). t.len) (token_at strings at_start u) (take n rest))
 
 -- ---- dollar strings
 

@@ -17,23 +17,40 @@ Closes q cs None = IsPieces q cs (prefix_len is_not_line_end cs)
 Closes q cs (Some n) = (m : ℕ) × (n ≡ m + 1) × IsPieces q cs m × (slice_get cs m ≡ Some q)
 
 is_close : (q c : ℕ) (cs : List ℕ) → eqb c q ≡ true → Closes q (c ∷ cs) (Some 1)
-is_close q c cs t = let same : c ≡ q = grind (arith, nat_tests) in (0, omega arith, NoPiece (c ∷ cs), ap Some same)
+is_close q c cs t = let same : c ≡ q = grind (arith, nat_tests) in
+    (0, omega arith, NoPiece (c ∷ cs), ap Some same)
 
 no_piece : (q c : ℕ) (cs : List ℕ) → is_line_end c ≡ true → Closes q (c ∷ cs) None
 no_piece q c cs t = rw t (NoPiece (c ∷ cs))
 
-one_piece : (q c : ℕ) (cs : List ℕ) (o : Option ℕ) → is_line_end c ≡ false → eqb c q ≡ false → begins_pair q (c ∷ cs) ≡ false → Closes q cs o → Closes q (c ∷ cs) (option_map (λ n. n + 1) o)
+one_piece : (q c : ℕ) (cs : List ℕ) (o : Option ℕ) → is_line_end c ≡ false → eqb c q ≡ false
+    → begins_pair q (c ∷ cs) ≡ false → Closes q cs o → Closes q (c ∷ cs) (option_map (λ n. n + 1) o)
 one_piece q c cs None t s p more = rw t (OnePiece c cs (prefix_len is_not_line_end cs) t s p more)
-one_piece q c cs (Some n) t s p (m, e, pieces, last) = (1 + m, omega (arith, e), OnePiece c cs m t s p pieces, let next : 1 + m ≡ suc m = omega arith in rw next last)
+one_piece q c cs (Some n) t s p (m, e, pieces, last) = (
+  1 + m,
+  omega (arith, e),
+  OnePiece c cs m t s p pieces,
+  let next : 1 + m ≡ suc m = omega arith
+      in rw next last,
+)
 
 pub pair_plain : (q c d : ℕ) → is_escape_pair q c d ≡ true → is_line_end d ≡ false
 pair_plain q c d p = grind (arith, nat_tests)
 
-pair_piece : (q c d : ℕ) (cs : List ℕ) (o : Option ℕ) → is_line_end c ≡ false → is_escape_pair q c d ≡ true → Closes q cs o → Closes q (c ∷ d ∷ cs) (option_map (λ n. n + 2) o)
+pair_piece : (q c d : ℕ) (cs : List ℕ) (o : Option ℕ) → is_line_end c ≡ false
+    → is_escape_pair q c d ≡ true → Closes q cs o
+    → Closes q (c ∷ d ∷ cs) (option_map (λ n. n + 2) o)
 pair_piece q c d cs None t p more =
-    let all : 1 + (1 + prefix_len is_not_line_end cs) ≡ 2 + prefix_len is_not_line_end cs = omega arith in
+    let all : 1 + (1 + prefix_len is_not_line_end cs) ≡ 2 + prefix_len is_not_line_end cs =
+    omega arith in
     rw (t, pair_plain q c d p, all) (PairPiece c d cs (prefix_len is_not_line_end cs) p more)
-pair_piece q c d cs (Some n) t p (m, e, pieces, last) = (2 + m, omega (arith, e), PairPiece c d cs m p pieces, let next : 2 + m ≡ suc (suc m) = omega arith in rw next last)
+pair_piece q c d cs (Some n) t p (m, e, pieces, last) = (
+  2 + m,
+  omega (arith, e),
+  PairPiece c d cs m p pieces,
+  let next : 2 + m ≡ suc (suc m) =
+      omega arith in rw next last,
+)
 
 closes : (q : ℕ) (cs : List ℕ) → Closes q cs (close_len q cs)
 closes q [] = NoPiece []
@@ -43,10 +60,16 @@ closes q (c ∷ []) = by (eqb c q) (is_line_end c) refl refl
     by true l s t = is_close q c [] s
     by false true s t = no_piece q c [] t
     by false false s t = one_piece q c [] None t s refl (NoPiece [])
-closes q (c ∷ d ∷ cs) = by (is_line_end c) (eqb c q) (is_escape_pair q c d) refl refl refl (closes q cs) (closes q (d ∷ cs))
+closes q (c ∷ d ∷ cs) =
+    by (is_line_end c) (eqb c q) (is_escape_pair q c d) refl refl refl (closes q cs)
+    (closes q (d ∷ cs))
   where
-    by : (l b p : Bool) → is_line_end c ≡ l → eqb c q ≡ b → is_escape_pair q c d ≡ p → Closes q cs (close_len q cs) → Closes q (d ∷ cs) (close_len q (d ∷ cs))
-        → Closes q (c ∷ d ∷ cs) (cond l None (cond b (Some 1) (cond p (option_map (λ n. n + 2) (close_len q cs)) (option_map (λ n. n + 1) (close_len q (d ∷ cs))))))
+    by : (l b p : Bool) → is_line_end c ≡ l → eqb c q ≡ b → is_escape_pair q c d ≡ p
+        → Closes q cs (close_len q cs) → Closes q (d ∷ cs) (close_len q (d ∷ cs))
+        → Closes q (c ∷ d
+        ∷ cs) (cond l None (cond b (Some 1)
+        (cond p (option_map (λ n. n + 2) (close_len q cs)) (option_map (λ n.
+        n + 1) (close_len q (d ∷ cs))))))
     by true b p t s r two one = no_piece q c (d ∷ cs) t
     by false true p t s r two one = is_close q c (d ∷ cs) s
     by false false true t s r two one = pair_piece q c d cs (close_len q cs) t r two
@@ -62,28 +85,33 @@ open_quotes_stay_open q cs e = subst (Closes q cs) e (closes q cs)
 pub rest_in : (c : ℕ) (cs : List ℕ) → part_rest c cs ≤ length cs
 rest_in c cs = by (is_quote c) (close_len c cs) (closes c cs)
   where
-    by : (b : Bool) (o : Option ℕ) → Closes c cs o → cond b (unwrap_or o (prefix_len is_not_line_end cs)) 0 ≤ length cs
+    by : (b : Bool) (o : Option ℕ) → Closes c cs o
+        → cond b (unwrap_or o (prefix_len is_not_line_end cs)) 0 ≤ length cs
     by false o h = omega arith
     by true None h = prefix_len-le-length is_not_line_end cs
     by true (Some n) (m, e, pieces, last) = omega (arith, e, within_some cs m c (sym last))
 
 -- ---- longest sequences of parts
 
--- how many characters the parts have up to one that begins with a character that `ends`; the first `inside` are inside a part
+-- how many characters the parts have up to one that begins with a character that `ends`; the first
+-- `inside` are inside a part
 abbrev parts_len : (ℕ → Bool) → ℕ → List ℕ → ℕ
 parts_len ends inside [] = 0
 parts_len ends zero (c ∷ cs) = cond (ends c) 0 (1 + parts_len ends (part_rest c cs) cs)
 parts_len ends (suc inside) (c ∷ cs) = 1 + parts_len ends inside cs
 
-parts_inside : (ends : ℕ → Bool) (k : ℕ) (cs : List ℕ) → k ≤ length cs → parts_len ends k cs ≡ k + parts_len ends 0 (drop k cs)
+parts_inside : (ends : ℕ → Bool) (k : ℕ) (cs : List ℕ) → k ≤ length cs
+    → parts_len ends k cs ≡ k + parts_len ends 0 (drop k cs)
 parts_inside ends zero cs h = omega arith
 parts_inside ends (suc k) [] h = absurd (omega arith)
 parts_inside ends (suc k) (c ∷ cs) h = omega (arith, parts_inside ends k cs (omega arith))
 
-no_more : (ends : ℕ → Bool) (cs : List ℕ) → (0 < length cs → ends (get_or cs 0 0) ≡ true) → IsLongest ends cs 0
+no_more : (ends : ℕ → Bool) (cs : List ℕ) → (0 < length cs → ends (get_or cs 0 0) ≡ true)
+    → IsLongest ends cs 0
 no_more ends cs stops = record { parts = NoPart cs; stops = stops }
 
-one_more : (ends : ℕ → Bool) (c : ℕ) (cs : List ℕ) (n : ℕ) → ends c ≡ false → IsLongest ends (drop (part_rest c cs) cs) n → IsLongest ends (c ∷ cs) (1 + part_rest c cs + n)
+one_more : (ends : ℕ → Bool) (c : ℕ) (cs : List ℕ) (n : ℕ) → ends c ≡ false
+    → IsLongest ends (drop (part_rest c cs) cs) n → IsLongest ends (c ∷ cs) (1 + part_rest c cs + n)
 one_more ends c cs n e more = record { parts = OnePart c cs n e more.parts; stops = stops }
   where
     r : ℕ
@@ -92,10 +120,13 @@ one_more ends c cs n e more = record { parts = OnePart c cs n e more.parts; stop
     stops : 1 + r + n < length (c ∷ cs) → ends (get_or (c ∷ cs) (1 + r + n) 0) ≡ true
     stops h =
         let next : 1 + r + n ≡ suc (r + n) = omega arith in
-        rw next (ap ends (sym (get_or-drop r cs n 0)) ∙ more.stops (omega (arith, length-drop r cs)))
+        rw next (ap ends (sym (get_or-drop r cs n 0))
+        ∙ more.stops (omega (arith, length-drop r cs)))
 
-longest : (ends : ℕ → Bool) (k : ℕ) (cs : List ℕ) (n : ℕ) → k ≤ length cs → parts_len ends k cs ≡ k + n → IsLongest ends (drop k cs) n
-longest ends zero [] n h e = let none : n ≡ 0 = omega (arith, e) in rw none (no_more ends [] (λ some. absurd (omega arith)))
+longest : (ends : ℕ → Bool) (k : ℕ) (cs : List ℕ) (n : ℕ) → k ≤ length cs
+    → parts_len ends k cs ≡ k + n → IsLongest ends (drop k cs) n
+longest ends zero [] n h e = let none : n ≡ 0 = omega (arith, e) in
+    rw none (no_more ends [] (λ some. absurd (omega arith)))
 longest ends (suc k) [] n h e = absurd (omega arith)
 longest ends zero (c ∷ cs) n h e = by (ends c) refl e (longest ends r cs m (rest_in c cs) inside)
   where
@@ -108,38 +139,54 @@ longest ends zero (c ∷ cs) n h e = by (ends c) refl e (longest ends r cs m (re
     inside : parts_len ends r cs ≡ r + m
     inside = parts_inside ends r cs (rest_in c cs)
 
-    by : (b : Bool) → ends c ≡ b → cond b 0 (1 + parts_len ends r cs) ≡ 0 + n → IsLongest ends (drop r cs) m → IsLongest ends (c ∷ cs) n
-    by true t e more = let none : n ≡ 0 = omega (arith, e) in rw none (no_more ends (c ∷ cs) (λ some. t))
-    by false t e more = let all : n ≡ 1 + r + m = omega (arith, e, inside) in rw all (one_more ends c cs m t more)
+    by : (b : Bool) → ends c ≡ b → cond b 0 (1 + parts_len ends r cs) ≡ 0 + n
+        → IsLongest ends (drop r cs) m → IsLongest ends (c ∷ cs) n
+    by true t e more = let none : n ≡ 0 = omega (arith, e) in
+        rw none (no_more ends (c ∷ cs) (λ some. t))
+    by false t e more = let all : n ≡ 1 + r + m = omega (arith, e, inside) in
+        rw all (one_more ends c cs m t more)
 longest ends (suc k) (c ∷ cs) n h e = longest ends k cs n (omega arith) (omega (arith, e))
 
 -- no other length is such
-only : (ends : ℕ → Bool) (cs : List ℕ) (n : ℕ) → IsParts ends cs n → (n < length cs → ends (get_or cs n 0) ≡ true) → n ≡ parts_len ends 0 cs
+only : (ends : ℕ → Bool) (cs : List ℕ) (n : ℕ) → IsParts ends cs n
+    → (n < length cs → ends (get_or cs n 0) ≡ true) → n ≡ parts_len ends 0 cs
 only ends [] n (NoPart cs) stops = refl
 only ends (c ∷ cs) n (NoPart _) stops = let t : ends c ≡ true = stops (omega arith) in rw t refl
 only ends cs n (OnePart c rest m t more) stops =
     let r = part_rest c rest in
     let next : 1 + r + m ≡ suc (r + m) = omega arith in
     let stops' : m < length (drop r rest) → ends (get_or (drop r rest) m 0) ≡ true =
-    λ h. ap ends (get_or-drop r rest m 0) ∙ subst (λ k. ends (get_or (c ∷ rest) k 0) ≡ true) next (stops (omega (arith, h, length-drop r rest))) in
-    rw t (omega (arith, only ends (drop r rest) m more stops', parts_inside ends r rest (rest_in c rest)))
+    λ h. ap ends (get_or-drop r rest m 0) ∙ subst (λ k.
+    ends (get_or (c ∷ rest) k 0) ≡ true) next (stops (omega (arith, h, length-drop r rest))) in
+    rw t (omega (
+      arith,
+      only ends (drop r rest) m more stops',
+      parts_inside ends r rest
+          (rest_in c rest),
+    ))
 
 -- the arguments together, and one of them, are such
 args_parts : (k : ℕ) (cs : List ℕ) → arguments_len k cs ≡ parts_len ends_arguments k cs
 args_parts k [] = refl
-args_parts zero (c ∷ cs) = ap (λ n. cond (ends_arguments c) 0 (1 + n)) (args_parts (part_rest c cs) cs)
+args_parts zero (c ∷ cs) =
+    ap (λ n. cond (ends_arguments c) 0 (1 + n)) (args_parts (part_rest c cs) cs)
 args_parts (suc k) (c ∷ cs) = ap (λ n. 1 + n) (args_parts k cs)
 
 argument_parts : (k : ℕ) (cs : List ℕ) → argument_len k cs ≡ parts_len ends_argument k cs
 argument_parts k [] = refl
-argument_parts zero (c ∷ cs) = ap (λ n. cond (ends_argument c) 0 (1 + n)) (argument_parts (part_rest c cs) cs)
+argument_parts zero (c ∷ cs) =
+    ap (λ n. cond (ends_argument c) 0 (1 + n)) (argument_parts (part_rest c cs) cs)
 argument_parts (suc k) (c ∷ cs) = ap (λ n. 1 + n) (argument_parts k cs)
 
 pub arguments_are_longest : ArgumentsAreLongest
-arguments_are_longest cs = longest ends_arguments 0 cs (arguments_len 0 cs) (omega arith) (sym (args_parts 0 cs) ∙ omega arith)
+arguments_are_longest cs =
+    longest ends_arguments 0 cs (arguments_len 0 cs) (omega arith) (sym (args_parts 0 cs)
+    ∙ omega arith)
 
 pub argument_is_longest : ArgumentIsLongest
-argument_is_longest cs = longest ends_argument 0 cs (argument_len 0 cs) (omega arith) (sym (argument_parts 0 cs) ∙ omega arith)
+argument_is_longest cs =
+    longest ends_argument 0 cs (argument_len 0 cs) (omega arith) (sym (argument_parts 0 cs)
+    ∙ omega arith)
 
 pub arguments_are_one : ArgumentsAreUnique
 arguments_are_one cs n h = only ends_arguments cs n h.parts h.stops ∙ sym (args_parts 0 cs)
@@ -149,24 +196,32 @@ argument_is_one cs n h = only ends_argument cs n h.parts h.stops ∙ sym (argume
 
 -- ---- the first argument whose mark is `)`
 
--- what is found with a running mark from within an argument: its end where that becomes `)`, or else the end of a later one
+-- what is found with a running mark from within an argument: its end where that becomes `)`, or
+-- else the end of a later one
 abbrev Within : List ℕ → ℕ → Option ℕ → Type 0
 Within cs inside mark =
-    marked_len inside mark cs ≡ cond (is_parenthesis (mark_from inside mark cs)) (Some (argument_len inside cs)) (first_marked (argument_len inside cs) cs)
+    marked_len inside mark cs
+    ≡ cond (is_parenthesis (mark_from inside mark cs)) (Some (argument_len inside cs))
+    (first_marked (argument_len inside cs) cs)
 
 abbrev Found : List ℕ → Type 0
-Found cs = ((inside : ℕ) (mark : Option ℕ) → Within cs inside mark) × (marked_len 0 None cs ≡ first_marked 0 cs)
+Found cs = ((inside : ℕ) (mark : Option ℕ) → Within cs inside mark)
+    × (marked_len 0 None cs ≡ first_marked 0 cs)
 
 -- one character further on in an argument, and at its first one
-further : (b : Bool) (n c : ℕ) (cs : List ℕ) → option_map (λ m. m + 1) (cond b (Some n) (first_marked n cs)) ≡ cond b (Some (1 + n)) (first_marked (1 + n) (c ∷ cs))
+further : (b : Bool) (n c : ℕ) (cs : List ℕ) → option_map (λ m.
+    m + 1) (cond b (Some n) (first_marked n cs))
+    ≡ cond b (Some (1 + n)) (first_marked (1 + n) (c ∷ cs))
 further true n c cs = ap Some (omega arith)
 further false n c cs = let next : 1 + n ≡ suc n = omega arith in rw next refl
 
-begun : (b : Bool) (n : ℕ) (o : Option ℕ) → option_map (λ m. m + 1) (cond b (Some n) o) ≡ cond b (Some (1 + n)) (option_map (λ m. m + 1) o)
+begun : (b : Bool) (n : ℕ) (o : Option ℕ) → option_map (λ m. m + 1) (cond b (Some n) o)
+    ≡ cond b (Some (1 + n)) (option_map (λ m. m + 1) o)
 begun true n o = ap Some (omega arith)
 begun false n o = refl
 
-within : (c : ℕ) (cs : List ℕ) → Found cs → (inside : ℕ) (mark : Option ℕ) → Within (c ∷ cs) inside mark
+within : (c : ℕ) (cs : List ℕ) → Found cs → (inside : ℕ) (mark : Option ℕ)
+    → Within (c ∷ cs) inside mark
 within c cs (more, first) zero mark = by (ends_arguments c) (is_blank c) refl refl
   where
     by : (b d : Bool) → ends_arguments c ≡ b → is_blank c ≡ d → Within (c ∷ cs) 0 mark
@@ -175,20 +230,24 @@ within c cs (more, first) zero mark = by (ends_arguments c) (is_blank c) refl re
     by false false e f =
         let r = part_rest c cs in
         let m = mark_after mark c cs in
-        rw (e, f) (ap (option_map (λ n. n + 1)) (more r m) ∙ further (is_parenthesis (mark_from r m cs)) (argument_len r cs) c cs)
-within c cs (more, first) (suc n) mark = ap (option_map (λ n. n + 1)) (more n mark) ∙ further (is_parenthesis (mark_from n mark cs)) (argument_len n cs) c cs
+        rw (e, f) (ap (option_map (λ n. n + 1)) (more r m)
+        ∙ further (is_parenthesis (mark_from r m cs)) (argument_len r cs) c cs)
+within c cs (more, first) (suc n) mark = ap (option_map (λ n. n + 1)) (more n mark)
+    ∙ further (is_parenthesis (mark_from n mark cs)) (argument_len n cs) c cs
 
 start : (c : ℕ) (cs : List ℕ) → Found cs → marked_len 0 None (c ∷ cs) ≡ first_marked 0 (c ∷ cs)
 start c cs (more, first) = by (ends_arguments c) (is_blank c) refl refl
   where
-    by : (b d : Bool) → ends_arguments c ≡ b → is_blank c ≡ d → marked_len 0 None (c ∷ cs) ≡ first_marked 0 (c ∷ cs)
+    by : (b d : Bool) → ends_arguments c ≡ b → is_blank c ≡ d
+        → marked_len 0 None (c ∷ cs) ≡ first_marked 0 (c ∷ cs)
     by true d e f = rw e refl
     by false true e f = rw (e, f, first) refl
     by false false e f =
         let r = part_rest c cs in
         let m = mark_after None c cs in
         let n = argument_len r cs in
-        rw (e, f) (ap (option_map (λ n. n + 1)) (more r m) ∙ begun (is_parenthesis (mark_from r m cs)) n (first_marked n cs))
+        rw (e, f) (ap (option_map (λ n. n + 1)) (more r m)
+        ∙ begun (is_parenthesis (mark_from r m cs)) n (first_marked n cs))
 
 found : (cs : List ℕ) → Found cs
 found [] = ((λ inside mark. refl), refl)

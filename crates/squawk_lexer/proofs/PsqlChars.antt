@@ -51,17 +51,22 @@ word_same w bs ascii utf8 = both (bytes_eq w bs) (bytes_eq w (chars bs)) to from
 
     from : bytes_eq w (chars bs) ≡ true → bytes_eq w bs ≡ true
     from e =
-        let bs_is : bs ≡ w = sym (encodes-chars bs utf8) ∙ ap encode_utf8_all (sym (same_text w (chars bs) e)) ∙ encodes-IsAscii w (ascii_is w ascii) in
+        let bs_is : bs ≡ w = sym (encodes-chars bs utf8)
+        ∙ ap encode_utf8_all (sym (same_text w (chars bs) e))
+        ∙ encodes-IsAscii w (ascii_is w ascii) in
         rw bs_is (text_same w)
 
-pub among_same : (ws : List (List ℕ)) (bs : List ℕ) → list_all is_ascii ws ≡ true → IsUtf8 bs → is_among ws bs ≡ is_among ws (chars bs)
+pub among_same : (ws : List (List ℕ)) (bs : List ℕ) → list_all is_ascii ws ≡ true → IsUtf8 bs
+    → is_among ws bs ≡ is_among ws (chars bs)
 among_same [] bs ascii utf8 = refl
 among_same (w ∷ ws) bs ascii utf8 =
     let first : is_ascii w ≡ true = grind (arith, nat_tests) in
     let rest : list_all is_ascii ws ≡ true = grind (arith, nat_tests) in
-    ap (λ b. b || is_among ws bs) (word_same w bs first utf8) ∙ ap (λ b. bytes_eq w (chars bs) || b) (among_same ws bs rest utf8)
+    ap (λ b. b || is_among ws bs) (word_same w bs first utf8)
+    ∙ ap (λ b. bytes_eq w (chars bs) || b) (among_same ws bs rest utf8)
 
-lower_ascii : (xs ys : List ℕ) → map to_ascii_lowercase xs ≡ ys → is_ascii ys ≡ true → is_ascii xs ≡ true
+lower_ascii : (xs ys : List ℕ) → map to_ascii_lowercase xs ≡ ys → is_ascii ys ≡ true
+    → is_ascii xs ≡ true
 lower_ascii [] ys e ascii = refl
 lower_ascii (x ∷ xs) [] e ascii = absurd (cc)
 lower_ascii (x ∷ xs) (y ∷ ys) e ascii =
@@ -73,37 +78,54 @@ lower_ascii (x ∷ xs) (y ∷ ys) e ascii =
     below : (x : ℕ) → to_ascii_lowercase x < 128 → (ltb x 128 && true) ≡ true
     below x h = grind (arith, nat_tests)
 
-pub copy_same : (r : Bool) (bs : List ℕ) → IsUtf8 bs → (IsTrue r ↔ (map to_ascii_lowercase bs ≡ map to_ascii_lowercase (codes "copy"))) → r ≡ str_eq_ignore_ascii_case (chars bs) (codes "copy")
+pub copy_same : (r : Bool) (bs : List ℕ) → IsUtf8 bs
+    → (IsTrue r ↔ (map to_ascii_lowercase bs ≡ map to_ascii_lowercase (codes "copy")))
+    → r ≡ str_eq_ignore_ascii_case (chars bs) (codes "copy")
 copy_same r bs utf8 h = both r (str_eq_ignore_ascii_case (chars bs) (codes "copy")) to from
   where
     to : r ≡ true → str_eq_ignore_ascii_case (chars bs) (codes "copy") ≡ true
     to t =
         let e : map to_ascii_lowercase bs ≡ map to_ascii_lowercase (codes "copy") = h.0 t in
-        let ascii : IsAscii bs = ascii_is bs (lower_ascii bs (map to_ascii_lowercase (codes "copy")) e refl) in
+        let ascii : IsAscii bs =
+        ascii_is bs (lower_ascii bs (map to_ascii_lowercase (codes "copy")) e refl) in
         rw (chars-IsAscii bs ascii, e) refl
 
     from : str_eq_ignore_ascii_case (chars bs) (codes "copy") ≡ true → r ≡ true
     from t =
-        let e : map to_ascii_lowercase (chars bs) ≡ map to_ascii_lowercase (codes "copy") = same_text _ _ t in
-        let ascii : IsAscii (chars bs) = ascii_is (chars bs) (lower_ascii (chars bs) (map to_ascii_lowercase (codes "copy")) e refl) in
-        let bs_is : bs ≡ chars bs = sym (encodes-chars bs utf8) ∙ encodes-IsAscii (chars bs) ascii in
+        let e : map to_ascii_lowercase (chars bs) ≡ map to_ascii_lowercase (codes "copy") =
+        same_text _ _ t in
+        let ascii : IsAscii (chars bs) =
+        ascii_is (chars bs) (lower_ascii (chars bs) (map to_ascii_lowercase (codes "copy")) e
+        refl) in
+        let bs_is : bs ≡ chars bs = sym (encodes-chars bs utf8) ∙ encodes-IsAscii (chars bs) ascii
+        in
         h.1 (ap (map to_ascii_lowercase) bs_is ∙ e)
 
 -- ---- behind the backslash
 
-tail : (bs : List ℕ) (c : ℕ) (cs : List ℕ) → IsUtf8 bs → chars bs ≡ c ∷ cs → c < 128 → (1 ≤ length bs) × IsCharBoundary bs 1 × (chars (drop 1 bs) ≡ cs)
+tail : (bs : List ℕ) (c : ℕ) (cs : List ℕ) → IsUtf8 bs → chars bs ≡ c ∷ cs → c < 128
+    → (1 ≤ length bs) × IsCharBoundary bs 1 × (chars (drop 1 bs) ≡ cs)
 tail bs c cs utf8 e ascii =
-    let bytes_are : bs ≡ c ∷ encode_utf8_all cs = sym (encodes-chars bs utf8) ∙ ap encode_utf8_all e ∙ ap (λ x. x ++ encode_utf8_all cs) (encode_ascii c ascii) in
-    let split : bs ≡ encode_utf8 c ++ encode_utf8_all cs = sym (encodes-chars bs utf8) ∙ ap encode_utf8_all e in
-    let past : chars bs ≡ c ∷ chars (encode_utf8_all cs) = chars_past_char bs (encode_utf8_all cs) c utf8 split in
+    let bytes_are : bs ≡ c ∷ encode_utf8_all cs = sym (encodes-chars bs utf8) ∙ ap encode_utf8_all e
+    ∙ ap (λ x. x ++ encode_utf8_all cs) (encode_ascii c ascii) in
+    let split : bs ≡ encode_utf8 c ++ encode_utf8_all cs = sym (encodes-chars bs utf8)
+    ∙ ap encode_utf8_all e in
+    let past : chars bs ≡ c ∷ chars (encode_utf8_all cs) =
+    chars_past_char bs (encode_utf8_all cs) c utf8 split in
     let rest : chars (encode_utf8_all cs) ≡ cs = cc in
     let some : length bs ≡ suc (length (encode_utf8_all cs)) = ap length bytes_are in
-    let first : get_or bs 0 0 ≡ c = ap (λ x. get_or x 0 0) bytes_are in
-    (omega arith, IsCharBoundary-after_ascii bs 0 utf8 (omega arith) (omega arith), ap (λ x. chars (drop 1 x)) bytes_are ∙ rest)
+    let first : get_or bs 0 0 ≡ c = ap (λ x. get_or x 0 0) bytes_are in (
+      omega arith,
+      IsCharBoundary-after_ascii bs 0 utf8 (omega arith) (omega arith),
+      ap (λ x.
+          chars (drop 1 x)) bytes_are ∙ rest,
+    )
 
-pub word_tail : (u bs : List ℕ) → IsUtf8 bs → get_or u 0 0 ≡ 92 → chars bs ≡ take (word_end u) u → (1 ≤ length bs) × IsCharBoundary bs 1 × (chars (drop 1 bs) ≡ command_word u)
+pub word_tail : (u bs : List ℕ) → IsUtf8 bs → get_or u 0 0 ≡ 92 → chars bs ≡ take (word_end u) u
+    → (1 ≤ length bs) × IsCharBoundary bs 1 × (chars (drop 1 bs) ≡ command_word u)
 word_tail [] bs utf8 first e = absurd (omega arith)
 word_tail (c ∷ v) bs utf8 first e =
-    let next : 1 + prefix_len is_command_char v ≡ suc (prefix_len is_command_char v) = omega arith in
+    let next : 1 + prefix_len is_command_char v ≡ suc (prefix_len is_command_char v) = omega arith
+    in
     let t = tail bs c (take (prefix_len is_command_char v) v) utf8 (rw next at e) (omega arith) in
     rw next t

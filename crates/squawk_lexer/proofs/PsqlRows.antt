@@ -4,10 +4,12 @@ use Rattle.squawk_lexer.specs.Kind.{lexeme_until}
 use Rattle.squawk_lexer.specs.declared.token.TokenKind.TheVariants.{PsqlCommand, Semi, Colon}
 use Rattle.squawk_lexer.specs.Psql.{psql}
 
-pipe_behind_options : psql (codes "\\g (fieldsep=')' |cat \\echo done") ≡ lexeme_until (PsqlCommand true) 32
+pipe_behind_options : psql (codes "\\g (fieldsep=')' |cat \\echo done")
+    ≡ lexeme_until (PsqlCommand true) 32
 pipe_behind_options = refl
 
-closed_double_quote : psql (codes "\\g (fieldsep=\")\" |cat \\echo done") ≡ lexeme_until (PsqlCommand true) 22
+closed_double_quote : psql (codes "\\g (fieldsep=\")\" |cat \\echo done")
+    ≡ lexeme_until (PsqlCommand true) 22
 closed_double_quote = refl
 
 empty_quote_keeps : psql (codes "\\g (a)'' |x\\y") ≡ lexeme_until (PsqlCommand true) 13

@@ -9,76 +9,109 @@ use Rattle.squawk_lexer.proofs.Steps.{ne-eqb, get_some, mapped, drop_some, drop_
 
 -- what quoted text from i on is said by, where v is what is left of the text there
 abbrev Same : Bool → ℕ → List ℕ → ℕ → List ℕ → ℕ → Type 0
-Same e q v i r j = (j + unwrap_or (quoted_len e q r) (length r) ≡ i + unwrap_or (quoted_len e q v) (length v)) × (is_some (quoted_len e q r) ≡ is_some (quoted_len e q v))
+Same e q v i r j = (j + unwrap_or (quoted_len e q r) (length r)
+    ≡ i + unwrap_or (quoted_len e q v) (length v))
+    × (is_some (quoted_len e q r) ≡ is_some (quoted_len e q v))
 
-plain_at : (e : Bool) (q c : ℕ) (r : List ℕ) (i : ℕ) → eqb c q ≡ false → (e && eqb c 92) ≡ false → Same e q (c ∷ r) i r (i + 1)
+plain_at : (e : Bool) (q c : ℕ) (r : List ℕ) (i : ℕ) → eqb c q ≡ false → (e && eqb c 92) ≡ false
+    → Same e q (c ∷ r) i r (i + 1)
 plain_at e q c [] i other plain = rw other (omega arith, refl)
-plain_at e q c (d ∷ r) i other plain = rw (other, plain) (mapped (quoted_len e q (d ∷ r)) (length (d ∷ r)) _ i 1 (omega arith))
+plain_at e q c (d ∷ r) i other plain =
+    rw (other, plain) (mapped (quoted_len e q (d ∷ r)) (length (d ∷ r)) _ i 1 (omega arith))
 
 -- at any other character than the quote and a backslash that escapes
-pub quoted_plain : (e : Bool) (q : ℕ) (u : List ℕ) (i c : ℕ) → Some c ≡ slice_get u i → eqb c q ≡ false → (e && eqb c 92) ≡ false
-    → (quoted_end e q u (i + 1) ≡ quoted_end e q u i) × (is_terminated e q u (i + 1) ≡ is_terminated e q u i)
-quoted_plain e q u i c s other plain = rw (drop_some u i c s) (plain_at e q c (drop (i + 1) u) i other plain)
+pub quoted_plain : (e : Bool) (q : ℕ) (u : List ℕ) (i c : ℕ) → Some c ≡ slice_get u i
+    → eqb c q ≡ false → (e && eqb c 92) ≡ false
+    → (quoted_end e q u (i + 1) ≡ quoted_end e q u i)
+    × (is_terminated e q u (i + 1) ≡ is_terminated e q u i)
+quoted_plain e q u i c s other plain =
+    rw (drop_some u i c s) (plain_at e q c (drop (i + 1) u) i other plain)
 
-pair_at : (e : Bool) (q d : ℕ) (r : List ℕ) (i : ℕ) → eqb d q ≡ true → Same e q (q ∷ d ∷ r) i r (i + 2)
-pair_at e q d r i twice = rw (eq-eqb q q refl, twice) (mapped (quoted_len e q r) (length r) _ i 2 (omega arith))
+pair_at : (e : Bool) (q d : ℕ) (r : List ℕ) (i : ℕ) → eqb d q ≡ true
+    → Same e q (q ∷ d ∷ r) i r (i + 2)
+pair_at e q d r i twice =
+    rw (eq-eqb q q refl, twice) (mapped (quoted_len e q r) (length r) _ i 2 (omega arith))
 
 -- at the quote twice
-pub quoted_pair : (e : Bool) (q : ℕ) (u : List ℕ) (i : ℕ) → 0 < q → get_or u i 0 ≡ q → get_or u (i + 1) 0 ≡ q
-    → (quoted_end e q u (i + 2) ≡ quoted_end e q u i) × (is_terminated e q u (i + 2) ≡ is_terminated e q u i)
+pub quoted_pair : (e : Bool) (q : ℕ) (u : List ℕ) (i : ℕ) → 0 < q → get_or u i 0 ≡ q
+    → get_or u (i + 1) 0 ≡ q
+    → (quoted_end e q u (i + 2) ≡ quoted_end e q u i)
+    × (is_terminated e q u (i + 2) ≡ is_terminated e q u i)
 quoted_pair e q u i some here next =
     let h : i < length u = within_read u i (omega arith) in
     let k : i + 1 < length u = within_read u (i + 1) (omega arith) in
     let two : i + 1 + 1 ≡ i + 2 = omega arith in
-    rw (drop_read u i h, drop_read u (i + 1) k, here, two) (pair_at e q _ (drop (i + 2) u) i (rw next (eq-eqb q q refl)))
+    rw (drop_read u i h, drop_read u (i + 1) k, here, two)
+    (pair_at e q _ (drop (i + 2) u) i (rw next (eq-eqb q q refl)))
 
-escaped_at : (q c : ℕ) (d : ℕ) (r : List ℕ) (i : ℕ) → eqb c q ≡ false → eqb c 92 ≡ true → Same true q (c ∷ d ∷ r) i r (i + 2)
-escaped_at q c d r i other back = rw (other, back) (mapped (quoted_len true q r) (length r) _ i 2 (omega arith))
+escaped_at : (q c : ℕ) (d : ℕ) (r : List ℕ) (i : ℕ) → eqb c q ≡ false → eqb c 92 ≡ true
+    → Same true q (c ∷ d ∷ r) i r (i + 2)
+escaped_at q c d r i other back =
+    rw (other, back) (mapped (quoted_len true q r) (length r) _ i 2 (omega arith))
 
 -- at a backslash that escapes
-pub quoted_escaped : (q : ℕ) (u : List ℕ) (i c : ℕ) → Some c ≡ slice_get u i → eqb c q ≡ false → eqb c 92 ≡ true
-    → (quoted_end true q u (position_after u (i + 1)) ≡ quoted_end true q u i) × (is_terminated true q u (position_after u (i + 1)) ≡ is_terminated true q u i)
+pub quoted_escaped : (q : ℕ) (u : List ℕ) (i c : ℕ) → Some c ≡ slice_get u i → eqb c q ≡ false
+    → eqb c 92 ≡ true
+    → (quoted_end true q u (position_after u (i + 1)) ≡ quoted_end true q u i)
+    × (is_terminated true q u (position_after u (i + 1)) ≡ is_terminated true q u i)
 quoted_escaped q u i c s other back = by (cases_lt (i + 1) (length u))
   where
-    by : (i + 1 < length u) ⊎ (length u ≤ i + 1) → (quoted_end true q u (position_after u (i + 1)) ≡ quoted_end true q u i) × (is_terminated true q u (position_after u (i + 1)) ≡ is_terminated true q u i)
+    by : (i + 1 < length u) ⊎ (length u ≤ i + 1)
+        → (quoted_end true q u (position_after u (i + 1)) ≡ quoted_end true q u i)
+        × (is_terminated true q u (position_after u (i + 1)) ≡ is_terminated true q u i)
     by (inl h) =
         let two : i + 1 + 1 ≡ i + 2 = omega arith in
-        rw (behind_within u (i + 1) h, drop_some u i c s, drop_read u (i + 1) h, two) (escaped_at q c _ (drop (i + 2) u) i other back)
-    by (inr h) = rw (behind_past u (i + 1) h, drop_some u i c s, drop_past u (i + 1) h, other) (omega arith, refl)
+        rw (behind_within u (i + 1) h, drop_some u i c s, drop_read u (i + 1) h, two)
+        (escaped_at q c _ (drop (i + 2) u) i other back)
+    by (inr h) = rw (behind_past u (i + 1) h, drop_some u i c s, drop_past u (i + 1) h, other)
+        (omega arith, refl)
 
 -- at a lone quote
-pub quoted_stop : (e : Bool) (q : ℕ) (u : List ℕ) (i : ℕ) → 0 < q → get_or u i 0 ≡ q → eqb (get_or u (i + 1) 0) q ≡ false
+pub quoted_stop : (e : Bool) (q : ℕ) (u : List ℕ) (i : ℕ) → 0 < q → get_or u i 0 ≡ q
+    → eqb (get_or u (i + 1) 0) q ≡ false
     → (quoted_end e q u i ≡ i + 1) × (is_terminated e q u i ≡ true)
 quoted_stop e q u i some here next = by (cases_lt (i + 1) (length u))
   where
     h : i < length u
     h = within_read u i (omega arith)
 
-    by : (i + 1 < length u) ⊎ (length u ≤ i + 1) → (quoted_end e q u i ≡ i + 1) × (is_terminated e q u i ≡ true)
-    by (inl k) = rw (drop_read u i h, drop_read u (i + 1) k, here, eq-eqb q q refl, next) (refl, refl)
+    by : (i + 1 < length u) ⊎ (length u ≤ i + 1) → (quoted_end e q u i ≡ i + 1)
+        × (is_terminated e q u i ≡ true)
+    by (inl k) = rw (drop_read u i h, drop_read u (i + 1) k, here, eq-eqb q q refl, next)
+        (refl, refl)
     by (inr k) = rw (drop_read u i h, drop_past u (i + 1) k, here, eq-eqb q q refl) (refl, refl)
 
-pub quoted_end : (e : Bool) (q : ℕ) (u : List ℕ) (i : ℕ) → None ≡ slice_get u i → (quoted_end e q u i ≡ i) × (is_terminated e q u i ≡ false)
-quoted_end e q u i s = rw (drop_none u i s) (omega arith, refl)
+pub quoted_at_end : (e : Bool) (q : ℕ) (u : List ℕ) (i : ℕ) → None ≡ slice_get u i
+    → (quoted_end e q u i ≡ i) × (is_terminated e q u i ≡ false)
+quoted_at_end e q u i s = rw (drop_none u i s) (omega arith, refl)
 
 -- ---- up to the next quote or backslash that escapes
 
-plain_not : (e : Bool) (q c : ℕ) → is_neither q (cond e 92 q) c ≡ true → (eqb c q ≡ false) × ((e && eqb c 92) ≡ false)
+plain_not : (e : Bool) (q c : ℕ) → is_neither q (cond e 92 q) c ≡ true → (eqb c q ≡ false)
+    × ((e && eqb c 92) ≡ false)
 plain_not true q c t = let n = other_not q 92 c t in (ne-eqb c q n.0, ne-eqb c 92 n.1)
 plain_not false q c t = let n = other_not q q c t in (ne-eqb c q n.0, refl)
 
 quoted_passed : (e : Bool) (q : ℕ) (u : List ℕ) (i : ℕ)
-    → (quoted_end e q u i ≡ quoted_end e q u (stop_at q (cond e 92 q) u i)) × (is_terminated e q u i ≡ is_terminated e q u (stop_at q (cond e 92 q) u i))
+    → (quoted_end e q u i ≡ quoted_end e q u (stop_at q (cond e 92 q) u i))
+    × (is_terminated e q u i ≡ is_terminated e q u (stop_at q (cond e 92 q) u i))
 unfolding stop_at
 quoted_passed e q u i = (
-  run_kept (quoted_end e q u) (is_neither q (cond e 92 q)) u (λ k c s t. let n = plain_not e q c t in sym (quoted_plain e q u k c s n.0 n.1).0) i,
-  run_kept (is_terminated e q u) (is_neither q (cond e 92 q)) u (λ k c s t. let n = plain_not e q c t in sym (quoted_plain e q u k c s n.0 n.1).1) i,
+  run_kept (quoted_end e q u) (is_neither q (cond e 92 q)) u (λ k c s t. let n = plain_not e q c t
+      in sym (quoted_plain e q u k c s n.0 n.1).0) i,
+  run_kept (is_terminated e q u) (is_neither q (cond e 92 q)) u (λ k c s t. let n =
+      plain_not e q c t in sym (quoted_plain e q u k c s n.0 n.1).1) i,
 )
 
--- what stops the text at i, with the premises that the loop has and the conclusion that its invariant asks for, where o is
--- the backslash with escapes, and else the quote
-pub quoted_step_pair : (e : Bool) (q o : ℕ) (u : List ℕ) (i c : ℕ) → o ≡ cond e 92 q → Some c ≡ slice_get u (stop_at q o u i) → c ≡ q → 0 < q → get_or u (position_after u (stop_at q o u i)) 0 ≡ q
-    → (quoted_end e q u i ≡ quoted_end e q u (position_after u (position_after u (stop_at q o u i)))) × (is_terminated e q u i ≡ is_terminated e q u (position_after u (position_after u (stop_at q o u i))))
+-- what stops the text at i, with the premises that the loop has and the conclusion that its
+-- invariant asks for, where o is the backslash with escapes, and else the quote
+pub quoted_step_pair : (e : Bool) (q o : ℕ) (u : List ℕ) (i c : ℕ) → o ≡ cond e 92 q
+    → Some c ≡ slice_get u (stop_at q o u i) → c ≡ q → 0 < q
+    → get_or u (position_after u (stop_at q o u i)) 0 ≡ q
+    → (quoted_end e q u i
+    ≡ quoted_end e q u (position_after u (position_after u (stop_at q o u i))))
+    × (is_terminated e q u i
+    ≡ is_terminated e q u (position_after u (position_after u (stop_at q o u i))))
 quoted_step_pair e q o u i c which s same some next =
     let j = stop_at q o u i in
     let b = behind_some u j c s in
@@ -87,19 +120,34 @@ quoted_step_pair e q o u i c which s same some next =
     let two : j + 1 + 1 ≡ j + 2 = omega arith in
     let first = quoted_passed e q u i in
     let p = quoted_pair e q u j some (get_some u j c s ∙ same) next_is in
-    rw (b, behind_within u (j + 1) k, two) (rw (← which) at (first.0) ∙ sym p.0, rw (← which) at (first.1) ∙ sym p.1)
+    rw (b, behind_within u (j + 1) k, two) (
+      rw (← which) at (first.0)
+          ∙ sym p.0,
+      rw (← which) at (first.1) ∙ sym p.1,
+    )
 
-pub quoted_step_escaped : (e : Bool) (q o : ℕ) (u : List ℕ) (i c : ℕ) → o ≡ cond e 92 q → Some c ≡ slice_get u (stop_at q o u i) → (c ≡ q → ⊥)
-    → (quoted_end e q u i ≡ quoted_end e q u (position_after u (position_after u (stop_at q o u i)))) × (is_terminated e q u i ≡ is_terminated e q u (position_after u (position_after u (stop_at q o u i))))
-quoted_step_escaped false q o u i c which s other = absurd (other (stop_is q o u i c s other ∙ which))
+pub quoted_step_escaped : (e : Bool) (q o : ℕ) (u : List ℕ) (i c : ℕ) → o ≡ cond e 92 q
+    → Some c ≡ slice_get u (stop_at q o u i) → (c ≡ q → ⊥)
+    → (quoted_end e q u i
+    ≡ quoted_end e q u (position_after u (position_after u (stop_at q o u i))))
+    × (is_terminated e q u i
+    ≡ is_terminated e q u (position_after u (position_after u (stop_at q o u i))))
+quoted_step_escaped false q o u i c which s other =
+    absurd (other (stop_is q o u i c s other ∙ which))
 quoted_step_escaped true q o u i c which s other =
     let j = stop_at q o u i in
     let first = quoted_passed true q u i in
     let back : c ≡ 92 = stop_is q o u i c s other ∙ which in
     let p = quoted_escaped q u j c s (ne-eqb c q other) (eq-eqb c 92 back) in
-    rw (behind_some u j c s) (rw (← which) at (first.0) ∙ sym p.0, rw (← which) at (first.1) ∙ sym p.1)
+    rw (behind_some u j c s) (
+      rw (← which) at (first.0) ∙ sym p.0,
+      rw (← which) at (first.1)
+          ∙ sym p.1,
+    )
 
-pub quoted_step_stop : (e : Bool) (q o : ℕ) (u : List ℕ) (i c : ℕ) → o ≡ cond e 92 q → Some c ≡ slice_get u (stop_at q o u i) → c ≡ q → 0 < q → (get_or u (position_after u (stop_at q o u i)) 0 ≡ q → ⊥)
+pub quoted_step_stop : (e : Bool) (q o : ℕ) (u : List ℕ) (i c : ℕ) → o ≡ cond e 92 q
+    → Some c ≡ slice_get u (stop_at q o u i) → c ≡ q → 0 < q
+    → (get_or u (position_after u (stop_at q o u i)) 0 ≡ q → ⊥)
     → (quoted_end e q u i ≡ position_after u (stop_at q o u i)) × (is_terminated e q u i ≡ true)
 quoted_step_stop e q o u i c which s same some next =
     let j = stop_at q o u i in
@@ -108,11 +156,23 @@ quoted_step_stop e q o u i c which s same some next =
     let p = quoted_stop e q u j some (get_some u j c s ∙ same) (ne-eqb _ q (rw b at next)) in
     rw b (rw (← which) at (first.0) ∙ p.0, rw (← which) at (first.1) ∙ p.1)
 
-pub quoted_step_end : (e : Bool) (q o : ℕ) (u : List ℕ) (i : ℕ) → o ≡ cond e 92 q → None ≡ slice_get u (stop_at q o u i)
+pub quoted_step_end : (e : Bool) (q o : ℕ) (u : List ℕ) (i : ℕ) → o ≡ cond e 92 q
+    → None ≡ slice_get u (stop_at q o u i)
     → (quoted_end e q u i ≡ position_after u (stop_at q o u i)) × (is_terminated e q u i ≡ false)
 quoted_step_end e q o u i which s =
     let first = quoted_passed e q u i in
-    let p = quoted_end e q u (stop_at q o u i) s in
-    rw (behind_none u (stop_at q o u i) s) (rw (← which) at (first.0) ∙ p.0, rw (← which) at (first.1) ∙ p.1)
+    let p = quoted_at_end e q u (stop_at q o u i) s in
+    rw (behind_none u (stop_at q o u i) s) (
+      rw (← which) at (first.0)
+          ∙ p.0,
+      rw (← which) at (first.1) ∙ p.1,
+    )
 
-pub ruleset quoted_steps = (quoted_step_pair, quoted_step_escaped, quoted_step_stop, quoted_step_end, stop_behind, behind_on)
+pub ruleset quoted_steps = (
+  quoted_step_pair,
+  quoted_step_escaped,
+  quoted_step_stop,
+  quoted_step_end,
+  stop_behind,
+  behind_on,
+)

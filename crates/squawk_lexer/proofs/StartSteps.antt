@@ -25,7 +25,8 @@ row_test Psql c d = eqb c 92
 row_test Symbol c d = true
 
 -- of one test for each row, that of a row
-abbrev pick : TokenForm → Bool → Bool → Bool → Bool → Bool → Bool → Bool → Bool → Bool → Bool → Bool → Bool
+abbrev pick : TokenForm → Bool → Bool → Bool → Bool → Bool → Bool → Bool → Bool → Bool → Bool → Bool
+    → Bool
 pick Whitespace w l b s q i x n p f y = w
 pick LineComment w l b s q i x n p f y = l
 pick BlockComment w l b s q i x n p f y = b
@@ -40,7 +41,10 @@ pick Psql w l b s q i x n p f y = y
 pick Symbol w l b s q i x n p f y = true
 
 picked : (w l b s q i x n p f y : Bool)
-    → pick (cond w Whitespace (cond l LineComment (cond b BlockComment (cond s String (cond q QuotedIdent (cond i Word (cond x Dollar (cond n Number (cond p DotDot (cond f Fraction (cond y Psql Symbol))))))))))) w l b s q i x n p f y ≡ true
+    → pick (cond w Whitespace (cond l LineComment
+    (cond b BlockComment (cond s String (cond q QuotedIdent
+    (cond i Word (cond x Dollar (cond n Number
+    (cond p DotDot (cond f Fraction (cond y Psql Symbol))))))))))) w l b s q i x n p f y ≡ true
 picked true l b s q i x n p f y = refl
 picked false true b s q i x n p f y = refl
 picked false false true s q i x n p f y = refl
@@ -54,7 +58,10 @@ picked false false false false false false false false false true y = refl
 picked false false false false false false false false false false true = refl
 picked false false false false false false false false false false false = refl
 
-same_test : (r : TokenForm) (c d : ℕ) → pick r (is_whitespace c) (eqb c 45 && eqb d 45) (eqb c 47 && eqb d 42) (eqb c 39) (eqb c 34) (is_ident_start c) (eqb c 36) (is_digit c) (eqb c 46 && eqb d 46) (eqb c 46 && is_digit d) (eqb c 92) ≡ row_test r c d
+same_test : (r : TokenForm) (c d : ℕ)
+    → pick r (is_whitespace c) (eqb c 45 && eqb d 45) (eqb c 47
+    && eqb d 42) (eqb c 39) (eqb c 34) (is_ident_start c) (eqb c 36) (is_digit c) (eqb c 46
+    && eqb d 46) (eqb c 46 && is_digit d) (eqb c 92) ≡ row_test r c d
 same_test Whitespace c d = refl
 same_test LineComment c d = refl
 same_test BlockComment c d = refl
@@ -73,8 +80,12 @@ pub row_fits : (r : TokenForm) (c d : ℕ) → r ≡ token_form c d → row_test
 unfolding token_form
 row_fits r c d e =
     sym (same_test r c d)
-    ∙ subst (λ t. pick t (is_whitespace c) (eqb c 45 && eqb d 45) (eqb c 47 && eqb d 42) (eqb c 39) (eqb c 34) (is_ident_start c) (eqb c 36) (is_digit c) (eqb c 46 && eqb d 46) (eqb c 46 && is_digit d) (eqb c 92) ≡ true) (sym e)
-    (picked (is_whitespace c) (eqb c 45 && eqb d 45) (eqb c 47 && eqb d 42) (eqb c 39) (eqb c 34) (is_ident_start c) (eqb c 36) (is_digit c) (eqb c 46 && eqb d 46) (eqb c 46 && is_digit d) (eqb c 92))
+    ∙ subst (λ t. pick t (is_whitespace c) (eqb c 45 && eqb d 45) (eqb c 47
+    && eqb d 42) (eqb c 39) (eqb c 34) (is_ident_start c) (eqb c 36) (is_digit c) (eqb c 46
+    && eqb d 46) (eqb c 46 && is_digit d) (eqb c 92) ≡ true) (sym e)
+    (picked (is_whitespace c) (eqb c 45 && eqb d 45) (eqb c 47
+    && eqb d 42) (eqb c 39) (eqb c 34) (is_ident_start c) (eqb c 36) (is_digit c) (eqb c 46
+    && eqb d 46) (eqb c 46 && is_digit d) (eqb c 92))
 
 pub start_white : (c d : ℕ) → Whitespace ≡ token_form c d → is_whitespace c ≡ true
 start_white c d e = row_fits Whitespace c d e
@@ -88,32 +99,44 @@ start_block c d e = let t = row_fits BlockComment c d e in grind (arith, nat_tes
 start_dots : (c d : ℕ) → DotDot ≡ token_form c d → 0 < d
 start_dots c d e = let t = row_fits DotDot c d e in grind (arith, nat_tests)
 
-two : (u : List ℕ) (i : ℕ) → i ≡ 0 → 0 < length u → 0 < get_or u 1 0 → (position_after u i ≡ 1) × (position_after u (position_after u i) ≡ 2)
+two : (u : List ℕ) (i : ℕ) → i ≡ 0 → 0 < length u → 0 < get_or u 1 0 → (position_after u i ≡ 1)
+    × (position_after u (position_after u i) ≡ 2)
 two u i none some second =
     let one : position_after u 0 ≡ 1 = behind_within u 0 some in
     let next : position_after u 1 ≡ 2 = behind_read u 1 second in
     rw (none, one) (refl, next)
 
-pub begin_line : (u : List ℕ) (i : ℕ) → i ≡ 0 → 0 < length u → LineComment ≡ token_form (get_or u 0 0) (get_or u 1 0) → (position_after u i ≡ 1) × (position_after u (position_after u i) ≡ 2)
+pub begin_line : (u : List ℕ) (i : ℕ) → i ≡ 0 → 0 < length u
+    → LineComment ≡ token_form (get_or u 0 0) (get_or u 1 0) → (position_after u i ≡ 1)
+    × (position_after u (position_after u i) ≡ 2)
 begin_line u i none some e = two u i none some (start_line _ _ e)
 
-pub begin_block : (u : List ℕ) (i : ℕ) → i ≡ 0 → 0 < length u → BlockComment ≡ token_form (get_or u 0 0) (get_or u 1 0) → (position_after u i ≡ 1) × (position_after u (position_after u i) ≡ 2)
+pub begin_block : (u : List ℕ) (i : ℕ) → i ≡ 0 → 0 < length u
+    → BlockComment ≡ token_form (get_or u 0 0) (get_or u 1 0) → (position_after u i ≡ 1)
+    × (position_after u (position_after u i) ≡ 2)
 begin_block u i none some e = two u i none some (start_block _ _ e)
 
-pub begin_dots : (u : List ℕ) (i : ℕ) → i ≡ 0 → 0 < length u → DotDot ≡ token_form (get_or u 0 0) (get_or u 1 0) → (position_after u i ≡ 1) × (position_after u (position_after u i) ≡ 2)
+pub begin_dots : (u : List ℕ) (i : ℕ) → i ≡ 0 → 0 < length u
+    → DotDot ≡ token_form (get_or u 0 0) (get_or u 1 0) → (position_after u i ≡ 1)
+    × (position_after u (position_after u i) ≡ 2)
 begin_dots u i none some e = two u i none some (start_dots _ _ e)
 
-pub begin_word : (u : List ℕ) → Word ≡ token_form (get_or u 0 0) (get_or u 1 0) → is_ident_start (get_or u 0 0) ≡ true
+pub begin_word : (u : List ℕ) → Word ≡ token_form (get_or u 0 0) (get_or u 1 0)
+    → is_ident_start (get_or u 0 0) ≡ true
 begin_word u e = row_fits Word (get_or u 0 0) (get_or u 1 0) e
 
-pub begin_dollar : (u : List ℕ) → Dollar ≡ token_form (get_or u 0 0) (get_or u 1 0) → get_or u 0 0 ≡ 36
+pub begin_dollar : (u : List ℕ) → Dollar ≡ token_form (get_or u 0 0) (get_or u 1 0)
+    → get_or u 0 0 ≡ 36
 begin_dollar u e = eqb-true (get_or u 0 0) 36 (row_fits Dollar (get_or u 0 0) (get_or u 1 0) e)
 
 pub begin_psql : (u : List ℕ) → Psql ≡ token_form (get_or u 0 0) (get_or u 1 0) → get_or u 0 0 ≡ 92
 begin_psql u e = eqb-true (get_or u 0 0) 92 (row_fits Psql (get_or u 0 0) (get_or u 1 0) e)
 
 -- the row of a token, with the premises that the code has
-pub row : (strings : Strings) (u : List ℕ) (s : TokenForm) → s ≡ token_form (get_or u 0 0) (get_or u 1 0) → lexeme_of strings u ≡ lexeme_of_form strings s u
+pub row : (strings : Strings) (u : List ℕ) (s : TokenForm)
+    → s ≡ token_form (get_or u 0 0) (get_or u 1 0)
+    → lexeme_of strings u ≡ lexeme_of_form strings s u
 row strings u s e = rw e refl
 
-pub ruleset start_steps = (begin_line, begin_block, begin_word, begin_dollar, begin_psql, begin_dots, behind_within)
+pub ruleset start_steps =
+    (begin_line, begin_block, begin_word, begin_dollar, begin_psql, begin_dots, behind_within)

@@ -36,23 +36,46 @@ unlike : (x : Lexeme) (A : Type 0) → IsOther x → x.kind ≡ kinds.Semi → A
 unlike x A n e = absurd (false≢true (sym n.other ∙ ap is_semi e))
 
 symbol_semi : (c : ℕ) → symbol c ≡ kinds.Semi → c ≡ 59
-symbol_semi c e = elim (cases_eq c 59) [ inl is ↦ is | inr is_not ↦ absurd (let other : eqb c 59 ≡ false = grind (arith, nat_tests) in false≢true (sym (symbol_other c other) ∙ ap is_semi e)) ]
+symbol_semi c e =
+    elim (cases_eq c 59) [
+      | inl is ↦ is
+      | inr is_not ↦ absurd (let other : eqb c 59 ≡ false =
+          grind (arith, nat_tests) in false≢true (sym (symbol_other c other) ∙ ap is_semi e))
+    ]
 
 psql_semi : (u : List ℕ) → (psql u).kind ≡ kinds.Semi → get_or u 1 0 ≡ 59
-psql_semi u e = elim (cases_eq (get_or u 1 0) 59) [ inl is ↦ is | inr is_not ↦ unlike (psql u) _ (other (let t : eqb (get_or u 1 0) 59 ≡ false = grind (arith, nat_tests) in t)) e ]
+psql_semi u e =
+    elim (cases_eq (get_or u 1 0) 59) [
+      | inl is ↦ is
+      | inr is_not ↦ unlike (psql u) _
+          (other (let t : eqb (get_or u 1 0) 59 ≡ false = grind (arith, nat_tests) in t)) e
+    ]
   where
     other : eqb (get_or u 1 0) 59 ≡ false → IsOther (psql u)
     other t =
-        either_other (eqb (get_or u 1 0) 92) (lexeme_until (kinds.PsqlCommand false) 2) _ (record { real = refl; other = refl; plain = refl })
-        (rw t (either_other (eqb (get_or u 1 0) 58) (lexeme_until kinds.Colon 2) (lexeme_until (kinds.PsqlCommand (is_among query_ending_words (command_word u))) (command_end u)) (record { real = refl; other = refl; plain = refl }) (record { real = refl; other = refl; plain = command_plain (is_among query_ending_words (command_word u)) })))
+        either_other (eqb (get_or u 1 0) 92) (lexeme_until (kinds.PsqlCommand false) 2) _
+        (record { real = refl; other = refl; plain = refl })
+        (rw t (either_other (eqb (get_or u 1 0) 58) (lexeme_until kinds.Colon 2)
+        (lexeme_until (kinds.PsqlCommand (is_among query_ending_words (command_word u)))
+        (command_end u)) (record { real = refl; other = refl; plain = refl }) (record {
+          real =
+              refl;
+          other = refl;
+          plain =
+              command_plain (is_among query_ending_words (command_word u));
+        })))
 
-begun_semi : (strings : Strings) (s : TokenForm) (u : List ℕ) → row (get_or u 0 0) (get_or u 1 0) ≡ s → (lexeme_of_form strings s u).kind ≡ kinds.Semi → BeginsSemi u
+begun_semi : (strings : Strings) (s : TokenForm) (u : List ℕ)
+    → row (get_or u 0 0) (get_or u 1 0) ≡ s → (lexeme_of_form strings s u).kind ≡ kinds.Semi
+    → BeginsSemi u
 begun_semi strings Whitespace u r e = absurd (cc)
 begun_semi strings LineComment u r e = absurd (cc)
 begun_semi strings BlockComment u r e = absurd (cc)
 begun_semi strings String u r e = absurd (cc)
 begun_semi strings QuotedIdent u r e = absurd (cc)
-begun_semi strings Word u r e = unlike (lexeme_of_form strings Word u) _ (opened_other (prefix_of (get_or u 0 0) (get_or u 1 0) (get_or u 2 0)) u) e
+begun_semi strings Word u r e =
+    unlike (lexeme_of_form strings Word u) _ (opened_other
+    (prefix_of (get_or u 0 0) (get_or u 1 0) (get_or u 2 0)) u) e
 begun_semi strings Dollar u r e = unlike (dollar u) _ (dollar_other u) e
 begun_semi strings Number u r e = unlike (number u) _ (number_other u) e
 begun_semi strings DotDot u r e = absurd (cc)
@@ -60,31 +83,40 @@ begun_semi strings Fraction u r e = unlike (fractional u 1) _ (fractional_other 
 begun_semi strings Psql u r e = inr (begin_psql u (sym r), psql_semi u e)
 begun_semi strings Symbol u r e = inl (symbol_semi (get_or u 0 0) e)
 
-lexeme_semi : (strings : Strings) (s : Bool) (u : List ℕ) → (lexeme_at strings s u).kind ≡ kinds.Semi → BeginsSemi u
+lexeme_semi : (strings : Strings) (s : Bool) (u : List ℕ)
+    → (lexeme_at strings s u).kind ≡ kinds.Semi → BeginsSemi u
 lexeme_semi strings s u e = by (s && eqb (get_or u 0 0) byte_order_mark) e
   where
-    by : (b : Bool) → (cond b (lexeme_until kinds.Whitespace 1) (lexeme_of strings u)).kind ≡ kinds.Semi → BeginsSemi u
+    by : (b : Bool) → (cond b (lexeme_until kinds.Whitespace 1) (lexeme_of strings u)).kind
+        ≡ kinds.Semi → BeginsSemi u
     by true e = absurd (cc)
     by false e = begun_semi strings (row (get_or u 0 0) (get_or u 1 0)) u refl e
 
 -- and what such a text begins with
-semi_one : (strings : Strings) (s : Bool) (u : List ℕ) → get_or u 0 0 ≡ 59 → lexeme_at strings s u ≡ lexeme_until kinds.Semi 1
+semi_one : (strings : Strings) (s : Bool) (u : List ℕ) → get_or u 0 0 ≡ 59
+    → lexeme_at strings s u ≡ lexeme_until kinds.Semi 1
 unfolding row symbol
 semi_one strings s u e = rw (e, and_false s) (ap (λ c. lexeme_until (symbol c) 1) e)
 
-semi_two : (strings : Strings) (s : Bool) (u : List ℕ) → get_or u 0 0 ≡ 92 → get_or u 1 0 ≡ 59 → lexeme_at strings s u ≡ lexeme_until kinds.Semi 2
+semi_two : (strings : Strings) (s : Bool) (u : List ℕ) → get_or u 0 0 ≡ 92 → get_or u 1 0 ≡ 59
+    → lexeme_at strings s u ≡ lexeme_until kinds.Semi 2
 unfolding row
 semi_two strings s u e f = rw (e, f, and_false s) refl
 
 -- so what follows changes nothing
-semi_same : (strings : Strings) (s : Bool) (a b : List ℕ) → 1 ≤ length a → (lexeme_at strings s a).kind ≡ kinds.Semi → lexeme_at strings s (a ++ b) ≡ lexeme_at strings s a
+semi_same : (strings : Strings) (s : Bool) (a b : List ℕ) → 1 ≤ length a
+    → (lexeme_at strings s a).kind ≡ kinds.Semi
+    → lexeme_at strings s (a ++ b) ≡ lexeme_at strings s a
 semi_same strings s a b some e = by (lexeme_semi strings s a e)
   where
     by : BeginsSemi a → lexeme_at strings s (a ++ b) ≡ lexeme_at strings s a
-    by (inl semi) = semi_one strings s (a ++ b) (get_or_append_left a b 0 0 (omega arith) ∙ semi) ∙ sym (semi_one strings s a semi)
+    by (inl semi) = semi_one strings s (a ++ b) (get_or_append_left a b 0 0 (omega arith) ∙ semi)
+        ∙ sym (semi_one strings s a semi)
     by (inr (first, second)) =
         let two : 1 < length a = within_read a 1 (omega arith) in
-        semi_two strings s (a ++ b) (get_or_append_left a b 0 0 (omega arith) ∙ first) (get_or_append_left a b 0 1 two ∙ second) ∙ sym (semi_two strings s a first second)
+        semi_two strings s (a ++ b) (get_or_append_left a b 0 0 (omega arith)
+        ∙ first) (get_or_append_left a b 0 1 two ∙ second)
+        ∙ sym (semi_two strings s a first second)
 
 -- ---- tokens
 
@@ -94,18 +126,27 @@ more_semi t (x ∷ ts) h e = e
 
 -- the tokens of a text that is not empty, where its first token stays with what follows
 abbrev Stands : Strings → Bool → List ℕ → List ℕ → Type 0
-Stands strings s a b = tokens_from strings 0 s (a ++ b) ≡ tokens_from strings 0 s a ++ tokens_from strings 0 false b
+Stands strings s a b = tokens_from strings 0 s (a ++ b)
+    ≡ tokens_from strings 0 s a ++ tokens_from strings 0 false b
 
-first_stays : (strings : Strings) (s : Bool) (a b : List ℕ) → 1 ≤ length a → lexeme_at strings s (a ++ b) ≡ lexeme_at strings s a
+first_stays : (strings : Strings) (s : Bool) (a b : List ℕ) → 1 ≤ length a
+    → lexeme_at strings s (a ++ b) ≡ lexeme_at strings s a
     → Stands strings false (drop (lexeme_at strings s a).end a) b → Stands strings s a b
 first_stays strings s a b some same more =
     let k = (lexeme_at strings s a).end in
     let within : k ≤ length a = tokens_within strings s a some in
     let token : token_at strings s (a ++ b) ≡ token_at strings s a =
-    ap (λ (x : Lexeme). token_from x (a ++ b)) same ∙ ap (λ w. record { kind = (lexeme_at strings s a).kind; len = utf8_len w }) (take-append-le k a b within) in
-    let rest : drop (lexeme_at strings s (a ++ b)).end (a ++ b) ≡ drop k a ++ b = ap (λ (x : Lexeme). drop x.end (a ++ b)) same ∙ drop-append-le k a b within in
+    ap (λ (x : Lexeme). token_from x (a ++ b)) same
+    ∙ ap (λ w. record {
+      kind = (lexeme_at strings s a).kind;
+      len =
+          utf8_len w;
+    }) (take-append-le k a b within) in
+    let rest : drop (lexeme_at strings s (a ++ b)).end (a ++ b) ≡ drop k a ++ b =
+    ap (λ (x : Lexeme). drop x.end (a ++ b)) same ∙ drop-append-le k a b within in
     tokens_first strings s (a ++ b) (omega (arith, length-append a b))
-    ∙ ap (λ t. t ∷ tokens_from strings 0 false (drop (lexeme_at strings s (a ++ b)).end (a ++ b))) token
+    ∙ ap (λ t. t ∷ tokens_from strings 0 false (drop (lexeme_at strings s (a ++ b)).end (a ++ b)))
+    token
     ∙ ap (λ w. token_at strings s a ∷ tokens_from strings 0 false w) rest
     ∙ ap (λ ts. token_at strings s a ∷ ts) more
     ∙ sym (ap (λ ts. ts ++ tokens_from strings 0 false b) (tokens_first strings s a some))
@@ -115,7 +156,8 @@ none_stands strings [] b h = refl
 none_stands strings (c ∷ cs) b h = absurd (omega arith)
 
 -- the only character of a text that is a `;`
-lone_semi : (strings : Strings) (w : List ℕ) → length w ≡ 1 → EndsWithSemi (tokens_from strings 0 false w) → get_or w 0 0 ≡ 59
+lone_semi : (strings : Strings) (w : List ℕ) → length w ≡ 1
+    → EndsWithSemi (tokens_from strings 0 false w) → get_or w 0 0 ≡ 59
 lone_semi strings [] h e = absurd e
 lone_semi strings (c ∷ d ∷ cs) h e = absurd (omega arith)
 lone_semi strings (c ∷ []) h e = by (lexeme_semi strings false (c ∷ []) e)
@@ -127,11 +169,14 @@ lone_semi strings (c ∷ []) h e = by (lexeme_semi strings false (c ∷ []) e)
 longer : (n : ℕ) (a b : List ℕ) → n ≤ length a → Agrees n a (a ++ b)
 longer n a b h = record { within = h; same = take-append-le n a b h }
 
-some_tokens : (strings : Strings) (w : List ℕ) → 1 ≤ length w → 1 ≤ length (tokens_from strings 0 false w)
+some_tokens : (strings : Strings) (w : List ℕ) → 1 ≤ length w
+    → 1 ≤ length (tokens_from strings 0 false w)
 some_tokens strings w h = let e = ap length (tokens_first strings false w h) in omega (arith, e)
 
-step : (strings : Strings) (s : Bool) (a b : List ℕ) → 1 ≤ length a → EndsWithSemi (tokens_from strings 0 s a)
-    → (EndsWithSemi (tokens_from strings 0 false (drop (lexeme_at strings s a).end a)) → Stands strings false (drop (lexeme_at strings s a).end a) b) → Stands strings s a b
+step : (strings : Strings) (s : Bool) (a b : List ℕ) → 1 ≤ length a
+    → EndsWithSemi (tokens_from strings 0 s a)
+    → (EndsWithSemi (tokens_from strings 0 false (drop (lexeme_at strings s a).end a))
+    → Stands strings false (drop (lexeme_at strings s a).end a) b) → Stands strings s a b
 step strings s a b some e behind = by (cases_lt 0 (length rest))
   where
     k : ℕ
@@ -152,32 +197,41 @@ step strings s a b some e behind = by (cases_lt 0 (length rest))
     ends : EndsWithSemi (token ∷ tokens_from strings 0 false rest)
     ends = subst EndsWithSemi (tokens_first strings s a some) e
 
-    same : 1 ≤ length rest → EndsWithSemi (tokens_from strings 0 false rest) → lexeme_at strings s (a ++ b) ≡ lexeme_at strings s a
-    same more e = lexeme_next strings s k a (a ++ b) (longer (k + 1) a b (omega (arith, len))) (next (cases_lt 1 (length rest))) refl
+    same : 1 ≤ length rest → EndsWithSemi (tokens_from strings 0 false rest)
+        → lexeme_at strings s (a ++ b) ≡ lexeme_at strings s a
+    same more e = lexeme_next strings s k a (a
+        ++ b) (longer (k + 1) a b (omega (arith, len))) (next (cases_lt 1 (length rest))) refl
       where
-        next : (1 < length rest) ⊎ (length rest ≤ 1) → Agrees (k + 2) a (a ++ b) ⊎ (get_or a k 0 ≡ 59)
+        next : (1 < length rest) ⊎ (length rest ≤ 1) → Agrees (k + 2) a (a ++ b)
+            ⊎ (get_or a k 0 ≡ 59)
         next (inl more) = inl (longer (k + 2) a b (omega (arith, len)))
         next (inr one) =
             let lone : length rest ≡ 1 = omega arith in
-            let at : get_or rest 0 0 ≡ get_or a k 0 = get_or-drop k a 0 0 ∙ ap (λ n. get_or a n 0) (omega arith) in
+            let at : get_or rest 0 0 ≡ get_or a k 0 = get_or-drop k a 0 0
+            ∙ ap (λ n. get_or a n 0) (omega arith) in
             inr (sym at ∙ lone_semi strings rest lone e)
 
     by : (0 < length rest) ⊎ (length rest ≤ 0) → Stands strings s a b
     by (inr none) =
         let empty : length rest ≡ 0 = omega arith in
-        let kind : token.kind ≡ kinds.Semi = subst (λ ts. EndsWithSemi (token ∷ ts)) (tokens_none strings false rest empty) ends in
-        first_stays strings s a b some (semi_same strings s a b some kind) (none_stands strings rest b empty)
+        let kind : token.kind ≡ kinds.Semi = subst (λ ts.
+        EndsWithSemi (token ∷ ts)) (tokens_none strings false rest empty) ends in
+        first_stays strings s a b some (semi_same strings s a b some kind)
+        (none_stands strings rest b empty)
     by (inl more) =
-        let e = more_semi token (tokens_from strings 0 false rest) (some_tokens strings rest more) ends in
+        let e = more_semi token (tokens_from strings 0 false rest) (some_tokens strings rest more)
+        ends in
         first_stays strings s a b some (same more e) (behind e)
 
-stands : (n : ℕ) (strings : Strings) (s : Bool) (a b : List ℕ) → length a ≤ n → EndsWithSemi (tokens_from strings 0 s a) → Stands strings s a b
+stands : (n : ℕ) (strings : Strings) (s : Bool) (a b : List ℕ) → length a ≤ n
+    → EndsWithSemi (tokens_from strings 0 s a) → Stands strings s a b
 stands n strings s [] b h e = absurd e
 stands zero strings s (c ∷ cs) b h e = absurd (omega arith)
 stands (suc n) strings s (c ∷ cs) b h e =
     let a = c ∷ cs in
     let k = (lexeme_at strings s a).end in
-    step strings s a b (omega arith) e (stands n strings false (drop k a) b (omega (arith, length-drop k a, lexeme_at_some strings s a (omega arith))))
+    step strings s a b (omega arith) e (stands n strings false (drop k a) b
+    (omega (arith, length-drop k a, lexeme_at_some strings s a (omega arith))))
 
 pub statements_stand_alone : StatementsStandAlone
 statements_stand_alone strings s a b e = stands (length a) strings s a b (omega arith) e

@@ -1,4 +1,5 @@
--- What is said of a place holds of the place where the run from there on ends, if a step over a character of the run keeps it.
+-- What is said of a place holds of the place where the run from there on ends, if a step over a
+-- character of the run keeps it.
 use Rattle.std.proofs.Common.{◌≡◌, ℕ, zero, suc, ◌+◌, ◌-◌, ◌<◌, ◌≤◌, Bool, true, false, List, [], ◌∷◌, length, get_or, take, drop, slice_get, Some, refl, sym, ◌∙◌, ap, inl, inr, ◌⊎◌, ◌||◌, ◌&&◌, not, eqb, arith, add-zero}
 use Rattle.std.proofs.lemmas.Bool.{cases_lt, cases_eq, cases_Bool}
 use Rattle.std.proofs.lemmas.Bool.Decides.{nat_tests}
@@ -20,25 +21,33 @@ some_read [] i h = absurd (omega arith)
 some_read (x ∷ u) zero h = refl
 some_read (x ∷ u) (suc i) h = some_read u i (omega arith)
 
-kept_one : {X : Type 0} (F : ℕ → X) (p : ℕ → Bool) (u : List ℕ) → ((i c : ℕ) → Some c ≡ slice_get u i → p c ≡ true → F i ≡ F (i + 1)) → (n i : ℕ)
-    → (prefix_len p (drop (i + 1) u) ≡ n → F (i + 1) ≡ F (i + 1 + n)) → prefix_len p (drop i u) ≡ suc n → F i ≡ F (i + suc n)
+kept_one : {X : Type 0} (F : ℕ → X) (p : ℕ → Bool) (u : List ℕ)
+    → ((i c : ℕ) → Some c ≡ slice_get u i → p c ≡ true → F i ≡ F (i + 1)) → (n i : ℕ)
+    → (prefix_len p (drop (i + 1) u) ≡ n → F (i + 1) ≡ F (i + 1 + n))
+    → prefix_len p (drop i u) ≡ suc n → F i ≡ F (i + suc n)
 kept_one F p u step n i more e = by (cases_lt i (length u)) (cases_Bool (p (get_or u i 0)))
   where
-    by : (i < length u) ⊎ (length u ≤ i) → (p (get_or u i 0) ≡ true) ⊎ (p (get_or u i 0) ≡ false) → F i ≡ F (i + suc n)
+    by : (i < length u) ⊎ (length u ≤ i) → (p (get_or u i 0) ≡ true) ⊎ (p (get_or u i 0) ≡ false)
+        → F i ≡ F (i + suc n)
     by (inl h) (inl t) =
-        let first : prefix_len p (drop i u) ≡ 1 + prefix_len p (drop (i + 1) u) = rw (drop_read u i h, t) refl in
+        let first : prefix_len p (drop i u) ≡ 1 + prefix_len p (drop (i + 1) u) =
+        rw (drop_read u i h, t) refl in
         let rest : prefix_len p (drop (i + 1) u) ≡ n = omega arith in
         let next : i + 1 + n ≡ i + suc n = omega arith in
         step i (get_or u i 0) (some_read u i h) t ∙ more rest ∙ ap F next
-    by (inl h) (inr f) = absurd (let stop : prefix_len p (drop i u) ≡ 0 = rw (drop_read u i h, f) refl in omega arith)
-    by (inr h) t = absurd (let stop : prefix_len p (drop i u) ≡ 0 = rw (drop_past u i h) refl in omega arith)
+    by (inl h) (inr f) = absurd (let stop : prefix_len p (drop i u) ≡ 0 =
+        rw (drop_read u i h, f) refl in omega arith)
+    by (inr h) t = absurd (let stop : prefix_len p (drop i u) ≡ 0 = rw (drop_past u i h) refl in
+        omega arith)
 
-kept : {X : Type 0} (F : ℕ → X) (p : ℕ → Bool) (u : List ℕ) → ((i c : ℕ) → Some c ≡ slice_get u i → p c ≡ true → F i ≡ F (i + 1)) → (n i : ℕ)
+kept : {X : Type 0} (F : ℕ → X) (p : ℕ → Bool) (u : List ℕ)
+    → ((i c : ℕ) → Some c ≡ slice_get u i → p c ≡ true → F i ≡ F (i + 1)) → (n i : ℕ)
     → prefix_len p (drop i u) ≡ n → F i ≡ F (i + n)
 kept F p u step zero i e = ap F (sym (add-zero i))
 kept F p u step (suc n) i e = kept_one F p u step n i (kept F p u step n (i + 1)) e
 
-pub run_kept : {X : Type 0} (F : ℕ → X) (p : ℕ → Bool) (u : List ℕ) → ((i c : ℕ) → Some c ≡ slice_get u i → p c ≡ true → F i ≡ F (i + 1))
+pub run_kept : {X : Type 0} (F : ℕ → X) (p : ℕ → Bool) (u : List ℕ)
+    → ((i c : ℕ) → Some c ≡ slice_get u i → p c ≡ true → F i ≡ F (i + 1))
     → (i : ℕ) → F i ≡ F (run_end p u i)
 run_kept F p u step i = kept F p u step (prefix_len p (drop i u)) i refl
 
@@ -53,21 +62,25 @@ other_not a b c t = (λ e. absurd (grind (arith, nat_tests)), λ e. absurd (grin
 
 -- a step behind the stop
 pub stop_behind : (a b : ℕ) (u : List ℕ) (i c : ℕ) → Some c ≡ slice_get u (stop_at a b u i)
-    → (position_after u (stop_at a b u i) ≡ stop_at a b u i + 1) × (i ≤ stop_at a b u i) × (stop_at a b u i < length u)
+    → (position_after u (stop_at a b u i) ≡ stop_at a b u i + 1) × (i ≤ stop_at a b u i)
+    × (stop_at a b u i < length u)
 stop_behind a b u i c s = (behind_some u _ c s, on, within_some u _ c s)
   where
     on : i ≤ stop_at a b u i
     on = stop_on a b u i
 
 -- a loop that goes on behind the stop ends, with the premises that the loop has
-pub stop_smaller : (a b : ℕ) (u : List ℕ) (i c : ℕ) (v : List ℕ) (j k : ℕ) → Some c ≡ slice_get u (stop_at a b u i) → v ≡ u → j ≡ position_after u (stop_at a b u i) → j ≤ k
+pub stop_smaller : (a b : ℕ) (u : List ℕ) (i c : ℕ) (v : List ℕ) (j k : ℕ)
+    → Some c ≡ slice_get u (stop_at a b u i) → v ≡ u → j ≡ position_after u (stop_at a b u i)
+    → j ≤ k
     → length v - k < length u - i
 stop_smaller a b u i c v j k s same at on =
     let (next, first, within) = stop_behind a b u i c s in
     rw same (omega arith)
 
 -- a stop is one of the two
-pub stop_is : (a b : ℕ) (u : List ℕ) (i c : ℕ) → Some c ≡ slice_get u (stop_at a b u i) → (c ≡ a → ⊥) → c ≡ b
+pub stop_is : (a b : ℕ) (u : List ℕ) (i c : ℕ) → Some c ≡ slice_get u (stop_at a b u i)
+    → (c ≡ a → ⊥) → c ≡ b
 unfolding stop_at
 stop_is a b u i c s other = by stops (cases_eq c b)
   where
@@ -75,8 +88,10 @@ stop_is a b u i c s other = by stops (cases_eq c b)
     stops =
         let within : run_end (is_neither a b) u i < length u = within_some u _ c s in
         let left : length (drop i u) ≡ length u - i = length-drop i u in
-        let here : get_or (drop i u) (prefix_len (is_neither a b) (drop i u)) 0 ≡ c = get_or-drop i u _ 0 ∙ get_some u _ c s in
-        ap (is_neither a b) (sym here) ∙ prefix_len_stops (is_neither a b) (drop i u) 0 (omega arith)
+        let here : get_or (drop i u) (prefix_len (is_neither a b) (drop i u)) 0 ≡ c =
+        get_or-drop i u _ 0 ∙ get_some u _ c s in
+        ap (is_neither a b) (sym here)
+        ∙ prefix_len_stops (is_neither a b) (drop i u) 0 (omega arith)
 
     by : is_neither a b c ≡ false → (c ≡ b) ⊎ (c ≡ b → ⊥) → c ≡ b
     by t (inl e) = e
@@ -103,17 +118,23 @@ first_stops p c v e = by (cases_Bool (p c))
 pub flat_inside : (a b : ℕ) → a < 128 → b < 128 → Flat (is_neither_on_line a b)
 flat_inside a b p q x y h k = grind (arith, nat_tests)
 
-both_runs : (p q : ℕ → Bool) (bs : List ℕ) → prefix_len q (take (prefix_len p bs) bs) ≡ prefix_len (λ x. p x && q x) bs
+both_runs : (p q : ℕ → Bool) (bs : List ℕ) → prefix_len q (take (prefix_len p bs) bs)
+    ≡ prefix_len (λ x. p x && q x) bs
 both_runs p q [] = refl
 both_runs p q (b ∷ bs) = by (cases_Bool (p b)) (cases_Bool (q b)) (both_runs p q bs)
   where
-    by : (p b ≡ true) ⊎ (p b ≡ false) → (q b ≡ true) ⊎ (q b ≡ false) → prefix_len q (take (prefix_len p bs) bs) ≡ prefix_len (λ x. p x && q x) bs
-        → prefix_len q (take (prefix_len p (b ∷ bs)) (b ∷ bs)) ≡ prefix_len (λ x. p x && q x) (b ∷ bs)
-    by (inl t) (inl s) more = let next : 1 + prefix_len p bs ≡ suc (prefix_len p bs) = omega arith in rw (t, next, s) (ap (λ n. 1 + n) more)
-    by (inl t) (inr f) more = let next : 1 + prefix_len p bs ≡ suc (prefix_len p bs) = omega arith in rw (t, next, f) refl
+    by : (p b ≡ true) ⊎ (p b ≡ false) → (q b ≡ true) ⊎ (q b ≡ false)
+        → prefix_len q (take (prefix_len p bs) bs) ≡ prefix_len (λ x. p x && q x) bs
+        → prefix_len q (take (prefix_len p (b ∷ bs)) (b ∷ bs))
+        ≡ prefix_len (λ x. p x && q x) (b ∷ bs)
+    by (inl t) (inl s) more = let next : 1 + prefix_len p bs ≡ suc (prefix_len p bs) = omega arith
+        in rw (t, next, s) (ap (λ n. 1 + n) more)
+    by (inl t) (inr f) more = let next : 1 + prefix_len p bs ≡ suc (prefix_len p bs) = omega arith
+        in rw (t, next, f) refl
     by (inr f) s more = rw f refl
 
-same_runs : (p q : ℕ → Bool) → ((x : ℕ) → p x ≡ q x) → (bs : List ℕ) → prefix_len p bs ≡ prefix_len q bs
+same_runs : (p q : ℕ → Bool) → ((x : ℕ) → p x ≡ q x) → (bs : List ℕ)
+    → prefix_len p bs ≡ prefix_len q bs
 same_runs p q same [] = refl
 same_runs p q same (b ∷ bs) = rw (same b, same_runs p q same bs) refl
 
@@ -124,26 +145,36 @@ line_tests false false true z = refl
 line_tests false false false z = refl
 
 -- the search for the three and then for CR before them
-pub inside_run : (a b : ℕ) (bs cs : List ℕ) (n m : ℕ) → n ≡ prefix_len (λ x. not ((eqb x a || eqb x b) || eqb x 10)) bs → cs ≡ take n bs → m ≡ prefix_len (λ x. not (eqb x 13)) cs
+pub inside_run : (a b : ℕ) (bs cs : List ℕ) (n m : ℕ)
+    → n ≡ prefix_len (λ x. not ((eqb x a || eqb x b) || eqb x 10)) bs → cs ≡ take n bs
+    → m ≡ prefix_len (λ x. not (eqb x 13)) cs
     → m ≡ prefix_len (is_neither_on_line a b) bs
 inside_run a b bs cs n m first part second =
     rw (second, part, first)
     (both_runs (λ x. not ((eqb x a || eqb x b) || eqb x 10)) (λ x. not (eqb x 13)) bs
-    ∙ same_runs (λ x. not ((eqb x a || eqb x b) || eqb x 10) && not (eqb x 13)) (is_neither_on_line a b) (λ x. line_tests (eqb x a) (eqb x b) (eqb x 10) (eqb x 13)) bs)
+    ∙ same_runs (λ x. not ((eqb x a || eqb x b) || eqb x 10)
+    && not (eqb x 13)) (is_neither_on_line a b) (λ x.
+    line_tests (eqb x a) (eqb x b) (eqb x 10) (eqb x 13)) bs)
 
 -- a run from where a run ends is empty
-run_again : (p : ℕ → Bool) (u : List ℕ) (i : ℕ) → i ≤ length u → run_end p u (run_end p u i) ≡ run_end p u i
-run_again p u i h = ap (λ n. run_end p u i + n) (by (cases_lt (run_end p u i) (length u))) ∙ add-zero _
+run_again : (p : ℕ → Bool) (u : List ℕ) (i : ℕ) → i ≤ length u
+    → run_end p u (run_end p u i) ≡ run_end p u i
+run_again p u i h = ap (λ n. run_end p u i + n) (by (cases_lt (run_end p u i) (length u)))
+    ∙ add-zero _
   where
-    by : (run_end p u i < length u) ⊎ (length u ≤ run_end p u i) → prefix_len p (drop (run_end p u i) u) ≡ 0
+    by : (run_end p u i < length u) ⊎ (length u ≤ run_end p u i)
+        → prefix_len p (drop (run_end p u i) u) ≡ 0
     by (inl within) =
         let left : length (drop i u) ≡ length u - i = length-drop i u in
-        let stops : p (get_or (drop i u) (prefix_len p (drop i u)) 0) ≡ false = prefix_len_stops p (drop i u) 0 (omega arith) in
-        let here : get_or (drop i u) (prefix_len p (drop i u)) 0 ≡ get_or u (run_end p u i) 0 = get_or-drop i u _ 0 in
+        let stops : p (get_or (drop i u) (prefix_len p (drop i u)) 0) ≡ false =
+        prefix_len_stops p (drop i u) 0 (omega arith) in
+        let here : get_or (drop i u) (prefix_len p (drop i u)) 0 ≡ get_or u (run_end p u i) 0 =
+        get_or-drop i u _ 0 in
         prefix_len-drop_no p u (run_end p u i) 0 within (ap p (sym here) ∙ stops)
     by (inr past) = rw (drop_past u (run_end p u i) past) refl
 
-pub stop_again : (a b : ℕ) (u : List ℕ) (i : ℕ) → i ≤ length u → stop_on_line a b u (stop_on_line a b u i) ≡ stop_on_line a b u i
+pub stop_again : (a b : ℕ) (u : List ℕ) (i : ℕ) → i ≤ length u
+    → stop_on_line a b u (stop_on_line a b u i) ≡ stop_on_line a b u i
 unfolding stop_on_line
 stop_again a b u i h = run_again (is_neither_on_line a b) u i h
 
@@ -152,7 +183,8 @@ unfolding stop_on_line
 inside_on a b u i = omega arith
 
 -- where the run stops within a line stands one of the two
-pub inside_is : (a b : ℕ) (u : List ℕ) (i c : ℕ) → stop_on_line a b u i ≡ i → Some c ≡ slice_get u i → is_line_end c ≡ false → (c ≡ a → ⊥) → c ≡ b
+pub inside_is : (a b : ℕ) (u : List ℕ) (i c : ℕ) → stop_on_line a b u i ≡ i → Some c ≡ slice_get u i
+    → is_line_end c ≡ false → (c ≡ a → ⊥) → c ≡ b
 unfolding stop_on_line
 inside_is a b u i c stop s plain other = by stops (cases_eq c b)
   where
@@ -161,7 +193,8 @@ inside_is a b u i c stop s plain other = by stops (cases_eq c b)
         let within : i < length u = within_some u _ c s in
         let none : prefix_len (is_neither_on_line a b) (drop i u) ≡ 0 = omega arith in
         let first : drop i u ≡ c ∷ drop (i + 1) u = drop_some u i c s in
-        first_stops (is_neither_on_line a b) c (drop (i + 1) u) (ap (prefix_len (is_neither_on_line a b)) (sym first) ∙ none)
+        first_stops (is_neither_on_line a b) c (drop (i + 1) u)
+        (ap (prefix_len (is_neither_on_line a b)) (sym first) ∙ none)
 
     by : is_neither_on_line a b c ≡ false → (c ≡ b) ⊎ (c ≡ b → ⊥) → c ≡ b
     by t (inl e) = e

@@ -25,7 +25,7 @@ use Rattle.squawk_lexer.specs.Token.{token_form, prefix_of, lexeme_of_form, lexe
 use Rattle.squawk_lexer.specs.declared.token.LiteralKind.{LiteralKind}
 use Rattle.squawk_lexer.specs.declared.token.TokenKind.{TokenKind}
 use Rattle.squawk_lexer.specs.declared.token.TokenKind.TheVariants as kinds
-use Rattle.squawk_lexer.specs.Cut.{form_of, is_trivia}
+use Rattle.squawk_lexer.specs.Cut.{is_trivia}
 use Rattle.squawk_lexer.proofs.Steps.{drop_read}
 use Rattle.squawk_lexer.proofs.StartSteps.{start_white}
 
@@ -37,9 +37,11 @@ junk_on u i = by (is_ident_start (get_or u i 0)) refl
     by false e = rw e (omega arith)
 
 pub exponent_on : (u : List ℕ) (i : ℕ) → i + 1 ≤ exponent_end u i
-exponent_on u i = by (is_sign (get_or u (i + 1) 0) && is_digit (get_or u (i + 2) 0)) (is_digit (get_or u (i + 1) 0)) refl refl
+exponent_on u i = by (is_sign (get_or u (i + 1) 0)
+    && is_digit (get_or u (i + 2) 0)) (is_digit (get_or u (i + 1) 0)) refl refl
   where
-    by : (b d : Bool) → (is_sign (get_or u (i + 1) 0) && is_digit (get_or u (i + 2) 0)) ≡ b → is_digit (get_or u (i + 1) 0) ≡ d → i + 1 ≤ exponent_end u i
+    by : (b d : Bool) → (is_sign (get_or u (i + 1) 0) && is_digit (get_or u (i + 2) 0)) ≡ b
+        → is_digit (get_or u (i + 1) 0) ≡ d → i + 1 ≤ exponent_end u i
     by true d e f = rw e (omega arith)
     by false true e f = rw (e, f) (omega arith)
     by false false e f = rw (e, f) (omega arith)
@@ -57,7 +59,8 @@ with_exponent_on u i = omega (arith, exponent_on u i, junk_on u (exponent_end u 
 pub fractional_on : (u : List ℕ) (i : ℕ) → i ≤ (fractional u i).end
 fractional_on u i = by (is_exponent_letter (get_or u (fraction_end u i) 0)) refl
   where
-    by : (b : Bool) → is_exponent_letter (get_or u (fraction_end u i) 0) ≡ b → i ≤ (fractional u i).end
+    by : (b : Bool) → is_exponent_letter (get_or u (fraction_end u i) 0) ≡ b
+        → i ≤ (fractional u i).end
     by true e = rw e (omega (arith, fraction_on u i, with_exponent_on u (fraction_end u i)))
     by false e = rw e (omega (arith, fraction_on u i, junk_on u (fraction_end u i)))
 
@@ -70,14 +73,18 @@ le_on a b c p q = omega arith
 
 pub decimal_on : (u : List ℕ) (a : ℕ) → a ≤ (decimal_from u a).end
 decimal_on u a =
-    either_on _ (fractional u (a + 1)) _ a (le_on a (a + 1) _ (omega arith) (fractional_on u (a + 1)))
+    either_on _ (fractional u (a + 1)) _ a (le_on a (a + 1) _ (omega arith)
+    (fractional_on u (a + 1)))
     (either_on _ (with_exponent u a) (int Decimal false u a) a (with_exponent_on u a) (junk_on u a))
 
 pub number_on : (u : List ℕ) → 1 ≤ (number u).end
 number_on u =
-    either_on _ (based_int Binary u (digits_end u 2)) _ 1 (le_on 1 (digits_end u 2) _ (omega arith) (junk_on u (digits_end u 2)))
-    (either_on _ (based_int Octal u (digits_end u 2)) _ 1 (le_on 1 (digits_end u 2) _ (omega arith) (junk_on u (digits_end u 2)))
-    (either_on _ (based_int Hexadecimal u (hex_digits_end u 2)) (decimal_from u (digits_end u 1)) 1 (le_on 1 (hex_digits_end u 2) _ (omega arith) (junk_on u (hex_digits_end u 2)))
+    either_on _ (based_int Binary u (digits_end u 2)) _ 1
+    (le_on 1 (digits_end u 2) _ (omega arith) (junk_on u (digits_end u 2)))
+    (either_on _ (based_int Octal u (digits_end u 2)) _ 1
+    (le_on 1 (digits_end u 2) _ (omega arith) (junk_on u (digits_end u 2)))
+    (either_on _ (based_int Hexadecimal u (hex_digits_end u 2)) (decimal_from u (digits_end u 1)) 1
+    (le_on 1 (hex_digits_end u 2) _ (omega arith) (junk_on u (hex_digits_end u 2)))
     (le_on 1 (digits_end u 1) _ (omega arith) (decimal_on u (digits_end u 1)))))
 
 pub opened_on : (s : StringPrefix) (u : List ℕ) → 1 ≤ (lexeme_of_prefix s u).end
@@ -99,10 +106,13 @@ options_on u i None = omega arith
 options_on u i (Some n) = omega arith
 
 pub output_start_on : (b : Bool) (u : List ℕ) (i : ℕ) → i ≤ output_start b u i
-output_start_on b u i = later (b && eqb (get_or u i 0) 40) (options_end u i (marked_len_at u i)) i i (options_on u i (marked_len_at u i)) (omega arith)
+output_start_on b u i =
+    later (b && eqb (get_or u i 0) 40) (options_end u i (marked_len_at u i)) i i
+    (options_on u i (marked_len_at u i)) (omega arith)
 
 pub output_end_on : (u : List ℕ) (p : ℕ) → p ≤ output_end u p
-output_end_on u p = later (eqb (get_or u p 0) 124) (line_end u p) (arguments_end u p) p (omega arith) (omega arith)
+output_end_on u p =
+    later (eqb (get_or u p 0) 124) (line_end u p) (arguments_end u p) p (omega arith) (omega arith)
 
 pub command_on : (u : List ℕ) → 1 ≤ command_end u
 command_on u =
@@ -110,22 +120,29 @@ command_on u =
     let p = output_start (is_among option_words (command_word u)) u i in
     later (takes_line (command_word u)) (line_end u (word_end u)) _ 1 (omega arith)
     (later (is_among pipe_words (command_word u)) (output_end u p) (arguments_end u (word_end u)) 1
-    (omega (arith, output_end_on u p, output_start_on (is_among option_words (command_word u)) u i)) (omega arith))
+    (omega (arith, output_end_on u p, output_start_on (is_among option_words (command_word u)) u i))
+    (omega arith))
 
 pub psql_on : (u : List ℕ) → 1 ≤ (psql u).end
 psql_on u =
     either_on (eqb (get_or u 1 0) 92) (lexeme_until (kinds.PsqlCommand false) 2) _ 1 (omega arith)
     (either_on (eqb (get_or u 1 0) 59) (lexeme_until kinds.Semi 2) _ 1 (omega arith)
-    (either_on (eqb (get_or u 1 0) 58) (lexeme_until kinds.Colon 2) (lexeme_until (kinds.PsqlCommand (is_among query_ending_words (command_word u))) (command_end u)) 1 (omega arith) (command_on u)))
+    (either_on (eqb (get_or u 1 0) 58) (lexeme_until kinds.Colon 2)
+    (lexeme_until (kinds.PsqlCommand (is_among query_ending_words (command_word u)))
+    (command_end u)) 1 (omega arith) (command_on u)))
 
-begun_on : (strings : Strings) (s : TokenForm) (u : List ℕ) → 0 < length u → s ≡ token_form (get_or u 0 0) (get_or u 1 0) → 1 ≤ (lexeme_of_form strings s u).end
-begun_on strings Whitespace u h e = rw (drop_read u 0 h, start_white (get_or u 0 0) (get_or u 1 0) e) (omega arith)
+begun_on : (strings : Strings) (s : TokenForm) (u : List ℕ) → 0 < length u
+    → s ≡ token_form (get_or u 0 0) (get_or u 1 0) → 1 ≤ (lexeme_of_form strings s u).end
+begun_on strings Whitespace u h e =
+    rw (drop_read u 0 h, start_white (get_or u 0 0) (get_or u 1 0) e) (omega arith)
 begun_on strings LineComment u h e = omega arith
 begun_on strings BlockComment u h e = omega arith
 begun_on strings String u h e = omega arith
 begun_on strings QuotedIdent u h e = omega arith
 begun_on strings Word u h e = opened_on (prefix_of (get_or u 0 0) (get_or u 1 0) (get_or u 2 0)) u
-begun_on strings Dollar u h e = either_on (is_dollar_quote_start u) (dollar_string u) (parameter u) 1 (omega arith) (omega (arith, junk_on u (run_end is_digit u 1)))
+begun_on strings Dollar u h e =
+    either_on (is_dollar_quote_start u) (dollar_string u) (parameter u) 1 (omega arith)
+    (omega (arith, junk_on u (run_end is_digit u 1)))
 begun_on strings Number u h e = number_on u
 begun_on strings DotDot u h e = omega arith
 begun_on strings Fraction u h e = fractional_on u 1
@@ -133,15 +150,18 @@ begun_on strings Psql u h e = psql_on u
 begun_on strings Symbol u h e = omega arith
 
 -- a token has a character
-pub lexeme_at_some : (strings : Strings) (s : Bool) (u : List ℕ) → 0 < length u → 0 < (lexeme_at strings s u).end
+pub lexeme_at_some : (strings : Strings) (s : Bool) (u : List ℕ) → 0 < length u
+    → 0 < (lexeme_at strings s u).end
 lexeme_at_some strings s u h = by (s && eqb (get_or u 0 0) byte_order_mark) refl
   where
-    by : (b : Bool) → (s && eqb (get_or u 0 0) byte_order_mark) ≡ b → 0 < (lexeme_at strings s u).end
+    by : (b : Bool) → (s && eqb (get_or u 0 0) byte_order_mark) ≡ b
+        → 0 < (lexeme_at strings s u).end
     by true e = rw e (omega arith)
     by false e = rw e (begun_on strings (token_form (get_or u 0 0) (get_or u 1 0)) u h refl)
 
 -- and a byte
-pub token_positive : (strings : Strings) (s : Bool) (u : List ℕ) → 0 < length u → 0 < (token_at strings s u).len
+pub token_positive : (strings : Strings) (s : Bool) (u : List ℕ) → 0 < length u
+    → 0 < (token_at strings s u).len
 token_positive strings s u h = some (lexeme_at strings s u).end u (lexeme_at_some strings s u h) h
   where
     some : (n : ℕ) (u : List ℕ) → 0 < n → 0 < length u → 0 < utf8_len (take n u)
@@ -167,10 +187,10 @@ record IsReal (x : Lexeme) : Type 0 where
 pub record IsOther (x : Lexeme) : Type 0 where
   pub real : is_eof x.kind ≡ false
   pub other : is_semi x.kind ≡ false
-  pub plain : is_trivia (form_of x.kind) ≡ false
+  pub plain : is_trivia x.kind ≡ false
 
 -- a command is no gap
-pub command_plain : (b : Bool) → is_trivia (form_of (kinds.PsqlCommand b)) ≡ false
+pub command_plain : (b : Bool) → is_trivia (kinds.PsqlCommand b) ≡ false
 command_plain true = refl
 command_plain false = refl
 
@@ -195,18 +215,22 @@ literal_other k n = record { real = refl; other = refl; plain = refl }
 
 pub fractional_other : (u : List ℕ) (i : ℕ) → IsOther (fractional u i)
 fractional_other u i =
-    either_other (is_exponent_letter (get_or u (fraction_end u i) 0)) (with_exponent u (fraction_end u i)) (numeric None u (fraction_end u i)) (literal_other _ _) (literal_other _ _)
+    either_other (is_exponent_letter (get_or u (fraction_end u i) 0))
+    (with_exponent u (fraction_end u i)) (numeric None u (fraction_end u i)) (literal_other _ _)
+    (literal_other _ _)
 
 decimal_other : (u : List ℕ) (a : ℕ) → IsOther (decimal_from u a)
 decimal_other u a =
     either_other _ (fractional u (a + 1)) _ (fractional_other u (a + 1))
-    (either_other _ (with_exponent u a) (int Decimal false u a) (literal_other _ _) (literal_other _ _))
+    (either_other _ (with_exponent u a) (int Decimal false u a) (literal_other _ _)
+    (literal_other _ _))
 
 pub number_other : (u : List ℕ) → IsOther (number u)
 number_other u =
     either_other _ (based_int Binary u (digits_end u 2)) _ (literal_other _ _)
     (either_other _ (based_int Octal u (digits_end u 2)) _ (literal_other _ _)
-    (either_other _ (based_int Hexadecimal u (hex_digits_end u 2)) (decimal_from u (digits_end u 1)) (literal_other _ _) (decimal_other u (digits_end u 1))))
+    (either_other _ (based_int Hexadecimal u (hex_digits_end u 2)) (decimal_from u (digits_end u 1))
+    (literal_other _ _) (decimal_other u (digits_end u 1))))
 
 pub opened_other : (s : StringPrefix) (u : List ℕ) → IsOther (lexeme_of_prefix s u)
 opened_other National u = literal_other _ _
@@ -218,13 +242,18 @@ opened_other UnicodeIdent u = record { real = refl; other = refl; plain = refl }
 opened_other Plain u = record { real = refl; other = refl; plain = refl }
 
 pub dollar_other : (u : List ℕ) → IsOther (dollar u)
-dollar_other u = either_other (is_dollar_quote_start u) (dollar_string u) (parameter u) (literal_other _ _) (record { real = refl; other = refl; plain = refl })
+dollar_other u =
+    either_other (is_dollar_quote_start u) (dollar_string u) (parameter u) (literal_other _ _)
+    (record { real = refl; other = refl; plain = refl })
 
 psql_real : (u : List ℕ) → IsReal (psql u)
 psql_real u =
-    either_real (eqb (get_or u 1 0) 92) (lexeme_until (kinds.PsqlCommand false) 2) _ (record { real = refl })
+    either_real (eqb (get_or u 1 0) 92) (lexeme_until (kinds.PsqlCommand false) 2) _
+    (record { real = refl })
     (either_real (eqb (get_or u 1 0) 59) (lexeme_until kinds.Semi 2) _ (record { real = refl })
-    (either_real (eqb (get_or u 1 0) 58) (lexeme_until kinds.Colon 2) (lexeme_until (kinds.PsqlCommand (is_among query_ending_words (command_word u))) (command_end u)) (record { real = refl }) (record { real = refl })))
+    (either_real (eqb (get_or u 1 0) 58) (lexeme_until kinds.Colon 2)
+    (lexeme_until (kinds.PsqlCommand (is_among query_ending_words (command_word u)))
+    (command_end u)) (record { real = refl }) (record { real = refl })))
 
 begun_real : (strings : Strings) (s : TokenForm) (u : List ℕ) → IsReal (lexeme_of_form strings s u)
 begun_real strings Whitespace u = record { real = refl }
@@ -232,7 +261,10 @@ begun_real strings LineComment u = record { real = refl }
 begun_real strings BlockComment u = record { real = refl }
 begun_real strings String u = record { real = refl }
 begun_real strings QuotedIdent u = record { real = refl }
-begun_real strings Word u = record { real = (opened_other (prefix_of (get_or u 0 0) (get_or u 1 0) (get_or u 2 0)) u).real }
+begun_real strings Word u = record {
+  real =
+      (opened_other (prefix_of (get_or u 0 0) (get_or u 1 0) (get_or u 2 0)) u).real;
+}
 begun_real strings Dollar u = record { real = (dollar_other u).real }
 begun_real strings Number u = record { real = (number_other u).real }
 begun_real strings DotDot u = record { real = refl }
@@ -240,9 +272,11 @@ begun_real strings Fraction u = record { real = (fractional_other u 1).real }
 begun_real strings Psql u = psql_real u
 begun_real strings Symbol u = record { real = symbol_real (get_or u 0 0) }
 
-pub token_never_eof : (strings : Strings) (s : Bool) (u : List ℕ) → (token_at strings s u).kind ≡ kinds.Eof → ⊥
+pub token_never_eof : (strings : Strings) (s : Bool) (u : List ℕ)
+    → (token_at strings s u).kind ≡ kinds.Eof → ⊥
 token_never_eof strings s u e =
     let is_real : IsReal (lexeme_at strings s u) =
-    either_real (s && eqb (get_or u 0 0) byte_order_mark) (lexeme_until kinds.Whitespace 1) (lexeme_of strings u) (record { real = refl })
+    either_real (s && eqb (get_or u 0 0) byte_order_mark) (lexeme_until kinds.Whitespace 1)
+    (lexeme_of strings u) (record { real = refl })
     (begun_real strings (token_form (get_or u 0 0) (get_or u 1 0)) u) in
     false≢true (sym is_real.real ∙ ap is_eof e)

@@ -20,7 +20,8 @@ ExponentBefore (Some place) junk = place < junk
 
 abbrev pub LiteralFlagsWithin : LiteralKind → ℕ → Type 0
 LiteralFlagsWithin (Int base empty junk) len = JunkWithin junk len
-LiteralFlagsWithin (Numeric empty_exponent junk) len = ExponentBefore empty_exponent junk × JunkWithin junk len
+LiteralFlagsWithin (Numeric empty_exponent junk) len = ExponentBefore empty_exponent junk
+    × JunkWithin junk len
 LiteralFlagsWithin _ len = ⊤
 
 -- the places that the flags of a token of this kind name lie in its bytes, in their order
@@ -33,7 +34,8 @@ FlagsWithin _ len = ⊤
 abbrev pub FlagsLieWithin : Type 0
 FlagsLieWithin =
     (strings : Strings) (at_start : Bool) (u : List ℕ) → 1 ≤ length u
-    → (1 ≤ (token_at strings at_start u).len) × FlagsWithin (token_at strings at_start u).kind (token_at strings at_start u).len
+    → (1 ≤ (token_at strings at_start u).len)
+    × FlagsWithin (token_at strings at_start u).kind (token_at strings at_start u).len
 
 -- the token is the first of some text, in one of the two readings
 pub record IsCut (t : Token) : Type 0 where

@@ -1,4 +1,5 @@
--- What the grammar says of the token at the front of a text: its kind with the flags, and how many characters it has.
+-- What the grammar says of the token at the front of a text: its kind with the flags, and how many
+-- characters it has.
 use Rattle.std.specs.Prelude.{ℕ}
 use Rattle.squawk_lexer.specs.declared.token.TokenKind.{TokenKind}
 use Rattle.squawk_lexer.specs.declared.token.TokenKind.TheVariants.{Literal}

@@ -19,11 +19,13 @@ based_int base u n = int base (n == 2 && junk_end u n == n) u n
 
 -- a number with a point or an exponent which ends at n, and junk
 abbrev pub numeric : Option ℕ → List ℕ → ℕ → Lexeme
-numeric empty_exponent u n = literal_until (Numeric empty_exponent (utf8_len (take n u))) (junk_end u n)
+numeric empty_exponent u n =
+    literal_until (Numeric empty_exponent (utf8_len (take n u))) (junk_end u n)
 
 -- a number with an exponent whose letter stands at i
 abbrev pub with_exponent : List ℕ → ℕ → Lexeme
-with_exponent u i = numeric (if exponent_end u i == i + 1 then Some (utf8_len (take i u)) else None) u (exponent_end u i)
+with_exponent u i = numeric (if exponent_end u i == i + 1 then Some (utf8_len (take i u))
+    else None) u (exponent_end u i)
 
 -- a number whose point stands before i
 abbrev pub fractional : List ℕ → ℕ → Lexeme
@@ -38,14 +40,23 @@ decimal_from u a =
     else if is_exponent_letter (slice_index u a) then with_exponent u a
     else int Decimal false u a
 
--- a text that begins with a digit; 48 is `0`, which a letter makes a base: `b` or `B`, `o` or `O`, `x` or `X`
+-- a text that begins with a digit; 48 is `0`, which a letter makes a base: `b` or `B`, `o` or `O`,
+-- `x` or `X`
 abbrev pub number : List ℕ → Lexeme
 number u =
-    if slice_index u 0 == 48 && (slice_index u 1 == 98 || slice_index u 1 == 66) then based_int Binary u (digits_end u 2)  -- b, B
-    else if slice_index u 0 == 48 && (slice_index u 1 == 111 || slice_index u 1 == 79) then based_int Octal u (digits_end u 2)  -- o, O
-    else if slice_index u 0 == 48 && (slice_index u 1 == 120 || slice_index u 1 == 88) then based_int Hexadecimal u (hex_digits_end u 2)  -- x, X
+    -- b, B
+    if slice_index u 0 == 48 && (slice_index u 1 == 98 || slice_index u 1 == 66)
+    then based_int Binary u (digits_end u 2)
+    -- o, O
+    else if slice_index u 0 == 48 && (slice_index u 1 == 111 || slice_index u 1 == 79)
+    then based_int Octal u (digits_end u 2)
+    -- x, X
+    else if slice_index u 0 == 48 && (slice_index u 1 == 120 || slice_index u 1 == 88)
+    then based_int Hexadecimal u (hex_digits_end u 2)
     else decimal_from u (digits_end u 1)
 
 -- a text that begins with `$` and no delimiter: digits without `_`, and junk
 abbrev pub parameter : List ℕ → Lexeme
-parameter u = lexeme_until (PositionalParam (utf8_len (take (run_end is_digit u 1) u))) (junk_end u (run_end is_digit u 1))
+parameter u =
+    lexeme_until (PositionalParam (utf8_len (take (run_end is_digit u 1) u)))
+    (junk_end u (run_end is_digit u 1))

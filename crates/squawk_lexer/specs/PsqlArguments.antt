@@ -1,5 +1,6 @@
--- What a quote, the arguments and one argument of a psql command are, what the mark of an argument is, and which is the first
--- that is marked `)`. The laws say that the definitions by which psql's commands end agree with these, each for every text.
+-- What a quote, the arguments and one argument of a psql command are, what the mark of an argument
+-- is, and which is the first that is marked `)`. The laws say that the definitions by which psql's
+-- commands end agree with these, each for every text.
 use Rattle.std.specs.Prelude.{◌≡◌, ℕ, zero, suc, ◌+◌, ◌<◌, Bool, true, false, ◌||◌, ◌==◌, List, [], ◌∷◌, length, drop, slice_index, slice_get, Option, Some, None, option_map, if◌then◌else◌}
 use Rattle.std.specs.List.{prefix_len}
 use Rattle.squawk_lexer.specs.Classes.{is_line_end, is_not_line_end, is_blank}
@@ -12,26 +13,33 @@ abbrev pub begins_pair : ℕ → List ℕ → Bool
 begins_pair q (c ∷ d ∷ cs) = is_escape_pair q c d
 begins_pair q cs = false
 
--- the first n characters behind the opening of a quote are whole pieces on its line, none of which is q by itself
+-- the first n characters behind the opening of a quote are whole pieces on its line, none of which
+-- is q by itself
 pub data IsPieces (q : ℕ) : List ℕ → ℕ → Type 0 where
   NoPiece : (cs : List ℕ) → IsPieces q cs 0
-  OnePiece : (c : ℕ) (cs : List ℕ) (n : ℕ) → is_line_end c ≡ false → (c == q) ≡ false → begins_pair q (c ∷ cs) ≡ false → IsPieces q cs n → IsPieces q (c ∷ cs) (1 + n)
-  PairPiece : (c d : ℕ) (cs : List ℕ) (n : ℕ) → is_escape_pair q c d ≡ true → IsPieces q cs n → IsPieces q (c ∷ d ∷ cs) (2 + n)
+  OnePiece : (c : ℕ) (cs : List ℕ) (n : ℕ) → is_line_end c ≡ false → (c == q) ≡ false
+      → begins_pair q (c ∷ cs) ≡ false → IsPieces q cs n → IsPieces q (c ∷ cs) (1 + n)
+  PairPiece : (c d : ℕ) (cs : List ℕ) (n : ℕ) → is_escape_pair q c d ≡ true → IsPieces q cs n
+      → IsPieces q (c ∷ d ∷ cs) (2 + n)
 
 -- a quote ends behind the first q that is a piece by itself
 abbrev pub QuotesCloseFirst : Type 0
-QuotesCloseFirst = (q : ℕ) (cs : List ℕ) (n : ℕ) → close_len q cs ≡ Some n → (m : ℕ) × (n ≡ m + 1) × IsPieces q cs m × (slice_get cs m ≡ Some q)
+QuotesCloseFirst = (q : ℕ) (cs : List ℕ) (n : ℕ) → close_len q cs ≡ Some n → (m : ℕ) × (n ≡ m + 1)
+    × IsPieces q cs m × (slice_get cs m ≡ Some q)
 
 -- and where it does not, no piece on its line is one
 abbrev pub OpenQuotesStayOpen : Type 0
-OpenQuotesStayOpen = (q : ℕ) (cs : List ℕ) → close_len q cs ≡ None → IsPieces q cs (prefix_len is_not_line_end cs)
+OpenQuotesStayOpen = (q : ℕ) (cs : List ℕ) → close_len q cs ≡ None
+    → IsPieces q cs (prefix_len is_not_line_end cs)
 
 -- ---- sequences of parts
 
--- the first n characters of a text are whole parts, none of which begins with a character that `ends`
+-- the first n characters of a text are whole parts, none of which begins with a character that
+-- `ends`
 pub data IsParts (ends : ℕ → Bool) : List ℕ → ℕ → Type 0 where
   NoPart : (cs : List ℕ) → IsParts ends cs 0
-  OnePart : (c : ℕ) (cs : List ℕ) (n : ℕ) → ends c ≡ false → IsParts ends (drop (part_rest c cs) cs) n → IsParts ends (c ∷ cs) (1 + part_rest c cs + n)
+  OnePart : (c : ℕ) (cs : List ℕ) (n : ℕ) → ends c ≡ false
+      → IsParts ends (drop (part_rest c cs) cs) n → IsParts ends (c ∷ cs) (1 + part_rest c cs + n)
 
 -- and no more parts follow: the next character, where there is one, `ends`
 pub record IsLongest (ends : ℕ → Bool) (cs : List ℕ) (n : ℕ) : Type 0 where
@@ -66,10 +74,12 @@ ArgumentIsLongest = (cs : List ℕ) → IsLongest ends_argument cs (argument_len
 abbrev pub ArgumentIsUnique : Type 0
 ArgumentIsUnique = (cs : List ℕ) (n : ℕ) → IsLongest ends_argument cs n → n ≡ argument_len 0 cs
 
--- what the rest of an argument makes of a mark, part by part; the first `inside` characters are inside a part
+-- what the rest of an argument makes of a mark, part by part; the first `inside` characters are
+-- inside a part
 abbrev pub mark_from : ℕ → Option ℕ → List ℕ → Option ℕ
 mark_from inside mark [] = mark
-mark_from zero mark (c ∷ cs) = if ends_argument c then mark else mark_from (part_rest c cs) (mark_after mark c cs) cs
+mark_from zero mark (c ∷ cs) = if ends_argument c then mark
+    else mark_from (part_rest c cs) (mark_after mark c cs) cs
 mark_from (suc inside) mark (c ∷ cs) = mark_from inside mark cs
 
 -- the mark of the argument that begins a text
@@ -78,7 +88,8 @@ mark_of cs = mark_from 0 None cs
 
 -- ---- the first argument whose mark is `)`
 
--- How many characters come up to its end. The first `inside` characters are those of an argument with another mark.
+-- How many characters come up to its end. The first `inside` characters are those of an argument
+-- with another mark.
 abbrev pub first_marked : ℕ → List ℕ → Option ℕ
 first_marked inside [] = None
 first_marked zero (c ∷ cs) =

@@ -6,8 +6,10 @@ use Rattle.std.specs.Str.{bytes_eq, str_eq_ignore_ascii_case}
 -- the commands that send the query buffer, end it or throw it away
 abbrev pub query_ending_words : List (List ℕ)
 query_ending_words =
-    codes "g" ∷ codes "gx" ∷ codes "gdesc" ∷ codes "gexec" ∷ codes "gset" ∷ codes "getresults" ∷ codes "crosstabview" ∷ codes "watch"
-    ∷ codes "parse" ∷ codes "close_prepared" ∷ codes "sendpipeline" ∷ codes "startpipeline" ∷ codes "syncpipeline" ∷ codes "endpipeline"
+    codes "g" ∷ codes "gx" ∷ codes "gdesc" ∷ codes "gexec" ∷ codes "gset" ∷ codes "getresults"
+    ∷ codes "crosstabview" ∷ codes "watch"
+    ∷ codes "parse" ∷ codes "close_prepared" ∷ codes "sendpipeline" ∷ codes "startpipeline"
+    ∷ codes "syncpipeline" ∷ codes "endpipeline"
     ∷ codes "flush" ∷ codes "flushrequest" ∷ codes "r" ∷ codes "reset" ∷ []
 
 -- the commands whose output may go to a pipe
@@ -20,7 +22,8 @@ option_words = codes "g" ∷ codes "gx" ∷ []
 
 -- the commands that take the rest of the line as it stands, `copy` apart
 abbrev pub whole_line_words : List (List ℕ)
-whole_line_words = codes "!" ∷ codes "ef" ∷ codes "ev" ∷ codes "sf" ∷ codes "sf+" ∷ codes "sv" ∷ codes "sv+" ∷ codes "h" ∷ codes "help" ∷ []
+whole_line_words = codes "!" ∷ codes "ef" ∷ codes "ev" ∷ codes "sf" ∷ codes "sf+" ∷ codes "sv"
+    ∷ codes "sv+" ∷ codes "h" ∷ codes "help" ∷ []
 
 -- whether the word is one of them, byte by byte
 abbrev pub is_among : List (List ℕ) → List ℕ → Bool

@@ -1,4 +1,5 @@
--- A text is a list of characters, and a place in it counts the characters before it. Lengths of tokens are in bytes.
+-- A text is a list of characters, and a place in it counts the characters before it. Lengths of
+-- tokens are in bytes.
 use Rattle.std.specs.Prelude.{ℕ, List}
 use Rattle.std.specs.List.{sum_by}
 use Rattle.std.specs.Char.{len_utf8}

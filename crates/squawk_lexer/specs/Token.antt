@@ -28,11 +28,14 @@ has_escapes Backslash = true
 
 -- a string in `'` whose inside begins at i
 abbrev pub string : (Bool → LiteralKind) → Bool → List ℕ → ℕ → Lexeme
-string kind escapes u i = literal_until (kind (is_terminated escapes apostrophe u i)) (quoted_end escapes apostrophe u i)
+string kind escapes u i =
+    literal_until (kind (is_terminated escapes apostrophe u i)) (quoted_end escapes apostrophe u i)
 
 -- an identifier in `"` whose inside begins at i
 abbrev pub quoted_ident : Bool → List ℕ → ℕ → Lexeme
-quoted_ident uescape u i = lexeme_until (kinds.QuotedIdent (is_terminated false quotation_mark u i) uescape) (quoted_end false quotation_mark u i)
+quoted_ident uescape u i =
+    lexeme_until (kinds.QuotedIdent (is_terminated false quotation_mark u i) uescape)
+    (quoted_end false quotation_mark u i)
 
 -- a small letter or its capital
 abbrev pub is_letter : ℕ → ℕ → Bool
@@ -61,7 +64,8 @@ lexeme_of_prefix Plain u = lexeme_until kinds.Ident (run_end is_ident_cont u 1)
 
 -- a text that begins with an id-start
 abbrev pub ident_or_string : List ℕ → Lexeme
-ident_or_string u = lexeme_of_prefix (prefix_of (slice_index u 0) (slice_index u 1) (slice_index u 2)) u
+ident_or_string u =
+    lexeme_of_prefix (prefix_of (slice_index u 0) (slice_index u 1) (slice_index u 2)) u
 
 -- what the first two characters begin: the first row that fits decides
 unfoldable pub token_form : ℕ → ℕ → TokenForm
@@ -83,7 +87,8 @@ token_form c d =
 abbrev pub lexeme_of_form : Strings → TokenForm → List ℕ → Lexeme
 lexeme_of_form strings Whitespace u = lexeme_until kinds.Whitespace (run_end is_whitespace u 0)
 lexeme_of_form strings LineComment u = lexeme_until kinds.LineComment (line_end u 2)
-lexeme_of_form strings BlockComment u = lexeme_until (kinds.BlockComment (is_comment_closed 0 u 2)) (comment_end 0 u 2)
+lexeme_of_form strings BlockComment u =
+    lexeme_until (kinds.BlockComment (is_comment_closed 0 u 2)) (comment_end 0 u 2)
 lexeme_of_form strings String u = string Str (has_escapes strings) u 1
 lexeme_of_form strings QuotedIdent u = quoted_ident false u 1
 lexeme_of_form strings Word u = ident_or_string u
@@ -101,7 +106,8 @@ lexeme_of strings u = lexeme_of_form strings (token_form (slice_index u 0) (slic
 -- the same, where `at_start` says that the whole text begins here: U+FEFF is then white by itself
 abbrev pub lexeme_at : Strings → Bool → List ℕ → Lexeme
 lexeme_at strings at_start u =
-    if at_start && slice_index u 0 == byte_order_mark then lexeme_until kinds.Whitespace 1 else lexeme_of strings u
+    if at_start && slice_index u 0 == byte_order_mark then lexeme_until kinds.Whitespace 1
+    else lexeme_of strings u
 
 -- its kind and its length in bytes
 abbrev pub token_at : Strings → Bool → List ℕ → Token

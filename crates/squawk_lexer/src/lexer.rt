@@ -13,7 +13,8 @@ use crate::classes::Class;
 use crate::cursor::Cursor;
 use crate::token::{LiteralKind, Strings, Token, TokenKind, literal};
 
-/// The byte order mark, U+FEFF: three bytes. It is white where it begins a text, and a letter anywhere else.
+/// The byte order mark, U+FEFF: three bytes. It is white where it begins a text, and a letter
+/// anywhere else.
 pub const BOM: &str = "\u{feff}";
 
 /// A token of one character.
@@ -103,7 +104,8 @@ impl<'a> Cursor<'a> {
         requires at { self.old.at ≡ 0 }
         requires some { 0 < length self.old.text }
         ensures text { self.new.text ≡ self.old.text }
-        ensures gives { lexeme_until result self.new.at ≡ lexeme_until (symbol (slice_index self.old.text 0)) 1 }
+        ensures gives { lexeme_until result self.new.at
+            ≡ lexeme_until (symbol (slice_index self.old.text 0)) 1 }
     {
         let kind = symbol_of(self.byte(0));
         self.bump();
@@ -113,7 +115,8 @@ impl<'a> Cursor<'a> {
     /// Moves behind white characters.
     fn whitespace(&mut self) -> TokenKind
         ensures text { self.new.text ≡ self.old.text }
-        ensures gives { lexeme_until result self.new.at ≡ lexeme_until TokenKind.Whitespace (run_end is_whitespace self.old.text self.old.at) }
+        ensures gives { lexeme_until result self.new.at
+            ≡ lexeme_until TokenKind.Whitespace (run_end is_whitespace self.old.text self.old.at) }
     {
         self.eat_while(Class::Whitespace);
         TokenKind::Whitespace
@@ -176,14 +179,16 @@ impl<'a> Cursor<'a> {
     }
 }
 
-/// The token at the front of a text, and what follows it. `at_start` says that the whole text begins here.
+/// The token at the front of a text, and what follows it. `at_start` says that the whole text
+/// begins here.
 pub(crate) fn cut(text: &str, at_start: bool, strings: Strings) -> (Token, &str)
     requires some { 0 < length text.now }
     requires fits { length text.now < 2 ^ 32 }
     ensures token { result.0 ≡ token_at strings at_start (chars text.now) }
     ensures small { length result.1.now < 2 ^ 32 }
     ensures utf8 { is_utf8 result.1.now ≡ true }
-    ensures rest { chars result.1.now ≡ drop (lexeme_at strings at_start (chars text.now)).end (chars text.now) }
+    ensures rest { chars result.1.now
+        ≡ drop (lexeme_at strings at_start (chars text.now)).end (chars text.now) }
 {
     let mut cursor = Cursor::new(text);
     let kind = if at_start && cursor.first() == '\u{FEFF}' {
@@ -199,14 +204,15 @@ pub(crate) fn cut(text: &str, at_start: bool, strings: Strings) -> (Token, &str)
     (token, cursor.rest())
 }
 
-/// The token that begins at the byte `at` of a text, by the rules of `docs/GRAMMAR.md`. A backslash in a string without a
-/// prefix is a character like any other, as the SQL standard says.
+/// The token that begins at the byte `at` of a text, by the rules of `docs/GRAMMAR.md`. A backslash
+/// in a string without a prefix is a character like any other, as the SQL standard says.
 ///
-/// `at` is a place in bytes, below the text's length and between two characters. The text has at most 4294967295 bytes.
+/// `at` is a place in bytes, below the text's length and between two characters. The text has at
+/// most 4294967295 bytes.
 ///
-/// The answer is what a cut of the text from `at` on gives first, so a place inside a token begins one of its own. It has
-/// a byte at least, ends between two characters, and is never `Eof`. A byte order mark is `Whitespace` by itself exactly
-/// where `at` is 0. No memory is taken.
+/// The answer is what a cut of the text from `at` on gives first, so a place inside a token begins
+/// one of its own. It has a byte at least, ends between two characters, and is never `Eof`. A byte
+/// order mark is `Whitespace` by itself exactly where `at` is 0. No memory is taken.
 pub fn cut_at(input: &str, at: usize) -> Token
     requires inside { at < length input.now }
     requires boundary { IsCharBoundary input.now at }
@@ -224,14 +230,15 @@ pub fn cut_at(input: &str, at: usize) -> Token
     cut_at_in(input, at, Strings::Standard)
 }
 
-/// The token that begins at the byte `at` of a text, by the rules of `docs/GRAMMAR.md`. `strings` says how strings without
-/// a prefix are read.
+/// The token that begins at the byte `at` of a text, by the rules of `docs/GRAMMAR.md`. `strings`
+/// says how strings without a prefix are read.
 ///
-/// `at` is a place in bytes, below the text's length and between two characters. The text has at most 4294967295 bytes.
+/// `at` is a place in bytes, below the text's length and between two characters. The text has at
+/// most 4294967295 bytes.
 ///
-/// The answer is what a cut of the text from `at` on gives first, so a place inside a token begins one of its own. It has
-/// a byte at least, ends between two characters, and is never `Eof`. A byte order mark is `Whitespace` by itself exactly
-/// where `at` is 0. No memory is taken.
+/// The answer is what a cut of the text from `at` on gives first, so a place inside a token begins
+/// one of its own. It has a byte at least, ends between two characters, and is never `Eof`. A byte
+/// order mark is `Whitespace` by itself exactly where `at` is 0. No memory is taken.
 pub fn cut_at_in(input: &str, at: usize, strings: Strings) -> Token
     requires inside { at < length input.now }
     requires boundary { IsCharBoundary input.now at }

@@ -23,7 +23,8 @@ fn is_exponent_letter(c: char) -> bool
 
 impl<'a> Cursor<'a> {
     fn is_at_signed_digit(&self) -> bool
-        ensures { result ≡ (is_sign (slice_index self.now.text self.now.at) && is_digit (slice_index self.now.text (self.now.at + 1))) }
+        ensures { result ≡ (is_sign (slice_index self.now.text self.now.at)
+            && is_digit (slice_index self.now.text (self.now.at + 1))) }
     {
         is_sign(self.first()) && is_digit(self.second())
     }
@@ -62,7 +63,8 @@ impl<'a> Cursor<'a> {
     /// Moves behind junk after a number with a point or an exponent.
     fn numeric(&mut self, empty_exponent_start: Option<u32>) -> TokenKind
         ensures text { self.new.text ≡ self.old.text }
-        ensures gives { lexeme_until result self.new.at ≡ numeric empty_exponent_start self.old.text self.old.at }
+        ensures gives { lexeme_until result self.new.at
+            ≡ numeric empty_exponent_start self.old.text self.old.at }
     {
         let kind = LiteralKind::Numeric {
             empty_exponent_start,

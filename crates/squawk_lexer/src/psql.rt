@@ -213,11 +213,14 @@ impl<'a> Cursor<'a> {
         }
     }
 
-    /// Moves behind the first argument whose mark is `)`, and tells whether there is one; else behind all arguments.
+    /// Moves behind the first argument whose mark is `)`, and tells whether there is one; else
+    /// behind all arguments.
     #[tactic(auto, using(crate::proofs::PsqlSteps::marked_steps))]
     fn eat_marked(&mut self) -> bool
         ensures text { self.new.text ≡ self.old.text }
-        ensures at { self.new.at ≡ self.old.at + unwrap_or (marked_len_at self.old.text self.old.at) (arguments_len 0 (drop self.old.at self.old.text)) }
+        ensures at { self.new.at ≡ self.old.at
+            + unwrap_or (marked_len_at self.old.text self.old.at)
+            (arguments_len 0 (drop self.old.at self.old.text)) }
         ensures found { result ≡ is_some (marked_len_at self.old.text self.old.at) }
     {
         let mut mark = None;
@@ -238,13 +241,14 @@ impl<'a> Cursor<'a> {
         is_parenthesis(mark)
     }
 
-    /// Moves behind the part of the arguments that begins with the character at the place. Given the mark of its argument
-    /// before the part, gives that behind it.
+    /// Moves behind the part of the arguments that begins with the character at the place. Given
+    /// the mark of its argument before the part, gives that behind it.
     #[tactic(auto, using(crate::proofs::PsqlSteps::part_steps))]
     fn eat_part(&mut self, c: char, mark: Option<char>) -> Option<char>
         requires { Some c ≡ slice_get self.old.text self.old.at }
         ensures text { self.new.text ≡ self.old.text }
-        ensures at { self.new.at ≡ self.old.at + 1 + part_rest c (drop (self.old.at + 1) self.old.text) }
+        ensures at { self.new.at ≡ self.old.at + 1
+            + part_rest c (drop (self.old.at + 1) self.old.text) }
         ensures mark { result ≡ mark_after mark c (drop (self.old.at + 1) self.old.text) }
     {
         self.bump();
@@ -262,13 +266,16 @@ impl<'a> Cursor<'a> {
         }
     }
 
-    /// Moves behind a quote, from behind its opening, and gives the last character before a closing quote.
+    /// Moves behind a quote, from behind its opening, and gives the last character before a closing
+    /// quote.
     #[tactic(auto, using(crate::proofs::PsqlSteps::quote_steps))]
     fn eat_quote(&mut self, quote: char) -> Option<char>
         requires { is_quote quote ≡ true }
         ensures text { self.new.text ≡ self.old.text }
         ensures at { self.new.at ≡ self.old.at + quote_len quote (drop self.old.at self.old.text) }
-        ensures last { result ≡ last_inside (drop self.old.at self.old.text) (close_len quote (drop self.old.at self.old.text)) }
+        ensures last { result
+            ≡ last_inside (drop self.old.at self.old.text)
+            (close_len quote (drop self.old.at self.old.text)) }
     {
         let start = self.position();
         self.pass_pieces(quote);
@@ -302,7 +309,8 @@ impl<'a> Cursor<'a> {
         requires plain { is_line_end (slice_index self.old.text self.old.at) ≡ false }
         requires other { slice_index self.old.text self.old.at ≢ quote }
         ensures text { self.new.text ≡ self.old.text }
-        ensures close { close_end quote self.new.text self.new.at ≡ close_end quote self.old.text self.old.at }
+        ensures close { close_end quote self.new.text self.new.at
+            ≡ close_end quote self.old.text self.old.at }
         ensures line { line_end self.new.text self.new.at ≡ line_end self.old.text self.old.at }
         ensures on { self.old.at < self.new.at }
     {
@@ -316,7 +324,8 @@ impl<'a> Cursor<'a> {
     /// The last character since the byte `start`, if one comes behind it.
     fn last_since(&self, start: u32) -> Option<char>
         requires { self.now.at ≤ length self.now.text }
-        ensures { (i : ℕ) → i ≤ self.now.at → start ≡ utf8_len (take i self.now.text) → result ≡ last_before self.now.text i self.now.at }
+        ensures { (i : ℕ) → i ≤ self.now.at → start ≡ utf8_len (take i self.now.text)
+            → result ≡ last_before self.now.text i self.now.at }
     {
         if self.position() == start {
             return None;

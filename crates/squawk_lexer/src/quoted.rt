@@ -13,7 +13,8 @@ pub(crate) fn second_stop(quote: u8, escapes: bool) -> u8
 }
 
 impl<'a> Cursor<'a> {
-    /// Moves behind a text in quotes, from behind the opening quote, and tells whether a quote ended it.
+    /// Moves behind a text in quotes, from behind the opening quote, and tells whether a quote
+    /// ended it.
     #[inline(never)]
     #[tactic(auto, using(crate::proofs::QuotedSteps::quoted_steps))]
     pub(crate) fn quoted(&mut self, quote: u8, escapes: bool) -> bool

@@ -9,7 +9,8 @@ ghost use Rattle.squawk_lexer.specs.Bytes.{HasIdentCont};
 use crate::classes::{Class, is_digit, is_hex_digit, is_in};
 use memchr::{memchr, memchr2, memchr3};
 
-// Each byte that an identifier goes on with stands at its own place or is `*`, and `,` stands at every other.
+// Each byte that an identifier goes on with stands at its own place or is `*`, and `,` stands at
+// every other.
 static ID_CONT: [u8; 256] = *b"\
     ,,,,,,,,,,,,,,,,,,,,,,,,,,,,,,,,\
     ,,,,$,,,,,,,,,,,0123456789,,,,,,\
@@ -83,7 +84,8 @@ pub(crate) fn others_len(a: u8, b: u8, bytes: &[u8]) -> usize
 /// The same, but no more than `NEAR`.
 fn near_others_len(a: u8, b: u8, bytes: &[u8]) -> usize
     ensures within { result ≤ length bytes.now }
-    ensures on { result + prefix_len (is_neither a b) (drop result bytes.now) ≡ prefix_len (is_neither a b) bytes.now }
+    ensures on { result + prefix_len (is_neither a b) (drop result bytes.now)
+        ≡ prefix_len (is_neither a b) bytes.now }
     ensures stops { result < NEAR → result ≡ prefix_len (is_neither a b) bytes.now }
 {
     let mut len = 0;
@@ -119,7 +121,8 @@ pub(crate) fn inside_len(a: u8, b: u8, bytes: &[u8]) -> usize
 /// The same, but no more than `NEAR`.
 fn near_inside_len(a: u8, b: u8, bytes: &[u8]) -> usize
     ensures within { result ≤ length bytes.now }
-    ensures on { result + prefix_len (is_neither_on_line a b) (drop result bytes.now) ≡ prefix_len (is_neither_on_line a b) bytes.now }
+    ensures on { result + prefix_len (is_neither_on_line a b) (drop result bytes.now)
+        ≡ prefix_len (is_neither_on_line a b) bytes.now }
     ensures stops { result < NEAR → result ≡ prefix_len (is_neither_on_line a b) bytes.now }
 {
     let mut len = 0;

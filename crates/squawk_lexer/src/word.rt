@@ -47,12 +47,14 @@ impl<'a> Cursor<'a> {
     /// What the first three characters open.
     fn opens(&self) -> StringPrefix
         requires { self.now.at ≡ 0 }
-        ensures { result ≡ prefix_of (slice_index self.now.text 0) (slice_index self.now.text 1) (slice_index self.now.text 2) }
+        ensures { result ≡ prefix_of (slice_index self.now.text 0) (slice_index self.now.text 1)
+            (slice_index self.now.text 2) }
     {
         opening_of(self.byte(0), self.byte(1), self.byte(2))
     }
 
-    /// Moves behind a string, of which one character comes before the opening quote, and tells whether a quote ended it.
+    /// Moves behind a string, of which one character comes before the opening quote, and tells
+    /// whether a quote ended it.
     fn string(&mut self, escapes: bool) -> bool
         ensures text { self.new.text ≡ self.old.text }
         ensures at { self.new.at
@@ -68,7 +70,8 @@ impl<'a> Cursor<'a> {
     /// Moves behind an identifier in quotes, from behind the opening quote.
     pub(crate) fn quoted_ident(&mut self, uescape: bool) -> TokenKind
         ensures text { self.new.text ≡ self.old.text }
-        ensures gives { lexeme_until result self.new.at ≡ quoted_ident uescape self.old.text self.old.at }
+        ensures gives { lexeme_until result self.new.at
+            ≡ quoted_ident uescape self.old.text self.old.at }
     {
         let terminated = self.quoted(b'"', false);
         TokenKind::QuotedIdent {

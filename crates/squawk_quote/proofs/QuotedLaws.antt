@@ -26,7 +26,8 @@ undoubled_doubled q (c ∷ cs) = by (eqb c q) refl (undoubled_doubled q cs)
     same : eqb q q ≡ true
     same = grind (arith, nat_tests)
 
-    by : (b : Bool) → eqb c q ≡ b → undoubled q (doubled q cs) ≡ cs → undoubled q (cond b (q ∷ q ∷ doubled q cs) (c ∷ doubled q cs)) ≡ c ∷ cs
+    by : (b : Bool) → eqb c q ≡ b → undoubled q (doubled q cs) ≡ cs
+        → undoubled q (cond b (q ∷ q ∷ doubled q cs) (c ∷ doubled q cs)) ≡ c ∷ cs
     by true t e =
         let is : q ≡ c = grind (arith, nat_tests) in
         rw same (ap (λ w. q ∷ w) e ∙ ap (λ d. d ∷ cs) is)
@@ -34,11 +35,13 @@ undoubled_doubled q (c ∷ cs) = by (eqb c q) refl (undoubled_doubled q cs)
 
 -- ---- where the quoted text ends
 
-plain_len : (q c : ℕ) (w : List ℕ) → eqb c q ≡ false → 1 ≤ length w → quoted_len false q (c ∷ w) ≡ option_map (λ n. n + 1) (quoted_len false q w)
+plain_len : (q c : ℕ) (w : List ℕ) → eqb c q ≡ false → 1 ≤ length w
+    → quoted_len false q (c ∷ w) ≡ option_map (λ n. n + 1) (quoted_len false q w)
 plain_len q c [] t h = absurd (omega arith)
 plain_len q c (d ∷ ds) t h = rw t refl
 
-pub doubled_len : (q : ℕ) (v : List ℕ) → quoted_len false q (doubled q v ++ q ∷ []) ≡ Some (length (doubled q v) + 1)
+pub doubled_len : (q : ℕ) (v : List ℕ) → quoted_len false q (doubled q v ++ q ∷ [])
+    ≡ Some (length (doubled q v) + 1)
 doubled_len q [] = let same : eqb q q ≡ true = grind (arith, nat_tests) in rw same refl
 doubled_len q (c ∷ cs) = by (eqb c q) refl (doubled_len q cs)
   where
@@ -46,7 +49,8 @@ doubled_len q (c ∷ cs) = by (eqb c q) refl (doubled_len q cs)
     w = doubled q cs
 
     by : (b : Bool) → eqb c q ≡ b → quoted_len false q (w ++ q ∷ []) ≡ Some (length w + 1)
-        → quoted_len false q (cond b (q ∷ q ∷ w) (c ∷ w) ++ q ∷ []) ≡ Some (length (cond b (q ∷ q ∷ w) (c ∷ w)) + 1)
+        → quoted_len false q (cond b (q ∷ q ∷ w) (c ∷ w) ++ q ∷ [])
+        ≡ Some (length (cond b (q ∷ q ∷ w) (c ∷ w)) + 1)
     by true t e =
         let same : eqb q q ≡ true = grind (arith, nat_tests) in
         let sum : length w + 1 + 2 ≡ length (q ∷ q ∷ w) + 1 = omega arith in
@@ -58,9 +62,11 @@ doubled_len q (c ∷ cs) = by (eqb c q) refl (doubled_len q cs)
 -- ---- one token
 
 -- a text that is one lexeme is one token
-pub one_token : (strings : Strings) (c : ℕ) (cs : List ℕ) → (lexeme_at strings true (c ∷ cs)).end ≡ length (c ∷ cs)
+pub one_token : (strings : Strings) (c : ℕ) (cs : List ℕ)
+    → (lexeme_at strings true (c ∷ cs)).end ≡ length (c ∷ cs)
     → tokens strings (c ∷ cs) ≡ token_at strings true (c ∷ cs) ∷ []
-one_token strings c cs e = ap (λ ts. token_at strings true (c ∷ cs) ∷ ts) (ap (λ n. tokens_from strings (n - 1) false cs) e ∙ all (length (c ∷ cs) - 1) cs (omega arith))
+one_token strings c cs e = ap (λ ts. token_at strings true (c ∷ cs) ∷ ts) (ap (λ n.
+    tokens_from strings (n - 1) false cs) e ∙ all (length (c ∷ cs) - 1) cs (omega arith))
   where
     all : (n : ℕ) (w : List ℕ) → length w ≤ n → tokens_from strings n false w ≡ []
     all n [] h = refl
@@ -70,35 +76,46 @@ one_token strings c cs e = ap (λ ts. token_at strings true (c ∷ cs) ∷ ts) (
 -- a quoted text's own characters
 pub inside_quoted : (q : ℕ) (w : List ℕ) → inside 1 (q ∷ (w ++ q ∷ [])) ≡ w
 inside_quoted q w =
-    let len : length (q ∷ (w ++ q ∷ [])) - (1 + 1) ≡ length w = omega (arith, length-append w (q ∷ [])) in
+    let len : length (q ∷ (w ++ q ∷ [])) - (1 + 1) ≡ length w =
+    omega (arith, length-append w (q ∷ [])) in
     ap (λ n. take n (w ++ q ∷ [])) len ∙ take-append_seam w (q ∷ [])
 
 -- a string is one terminated token
-pub string_lexeme : (v : List ℕ) → lexeme_at Standard true (string_of v) ≡ literal_until (Str true) (length (string_of v))
+pub string_lexeme : (v : List ℕ) → lexeme_at Standard true (string_of v)
+    ≡ literal_until (Str true) (length (string_of v))
 unfolding token_form
-string_lexeme v = rw (doubled_len 39 v) (ap (literal_until (Str true)) (let e : 1 + (length (doubled 39 v) + 1) ≡ length (string_of v) = omega (arith, length-append (doubled 39 v) (39 ∷ [])) in e))
+string_lexeme v =
+    rw (doubled_len 39 v) (ap (literal_until (Str true)) (let e : 1 + (length (doubled 39 v) + 1)
+    ≡ length (string_of v) = omega (arith, length-append (doubled 39 v) (39 ∷ [])) in e))
 
-pub ident_lexeme : (v : List ℕ) → lexeme_at Standard true (ident_of v) ≡ lexeme_until (kinds.QuotedIdent true false) (length (ident_of v))
+pub ident_lexeme : (v : List ℕ) → lexeme_at Standard true (ident_of v)
+    ≡ lexeme_until (kinds.QuotedIdent true false) (length (ident_of v))
 unfolding token_form
-ident_lexeme v = rw (doubled_len 34 v) (ap (lexeme_until (kinds.QuotedIdent true false)) (let e : 1 + (length (doubled 34 v) + 1) ≡ length (ident_of v) = omega (arith, length-append (doubled 34 v) (34 ∷ [])) in e))
+ident_lexeme v =
+    rw (doubled_len 34 v) (ap (lexeme_until (kinds.QuotedIdent true false))
+    (let e : 1 + (length (doubled 34 v) + 1) ≡ length (ident_of v) =
+    omega (arith, length-append (doubled 34 v) (34 ∷ [])) in e))
 
 -- and its value is the one that was quoted
 pub string_value : (v : List ℕ) → value_of (string_of v) ≡ Some v
 string_value v =
-    ap (λ ts. value_in ts (string_of v)) (one_token Standard 39 (doubled 39 v ++ 39 ∷ []) (ap (λ (x : Lexeme). x.end) (string_lexeme v)))
+    ap (λ ts. value_in ts (string_of v)) (one_token Standard 39 (doubled 39 v ++ 39
+    ∷ []) (ap (λ (x : Lexeme). x.end) (string_lexeme v)))
     ∙ ap (λ (x : Lexeme). value_by x.kind (string_of v)) (string_lexeme v)
     ∙ ap (λ w. Some (undoubled 39 w)) (inside_quoted 39 (doubled 39 v))
     ∙ ap Some (undoubled_doubled 39 v)
 
 pub ident_value : (v : List ℕ) → value_of (ident_of v) ≡ Some v
 ident_value v =
-    ap (λ ts. value_in ts (ident_of v)) (one_token Standard 34 (doubled 34 v ++ 34 ∷ []) (ap (λ (x : Lexeme). x.end) (ident_lexeme v)))
+    ap (λ ts. value_in ts (ident_of v)) (one_token Standard 34 (doubled 34 v ++ 34
+    ∷ []) (ap (λ (x : Lexeme). x.end) (ident_lexeme v)))
     ∙ ap (λ (x : Lexeme). value_by x.kind (ident_of v)) (ident_lexeme v)
     ∙ ap (λ w. Some (undoubled 34 w)) (inside_quoted 34 (doubled 34 v))
     ∙ ap Some (undoubled_doubled 34 v)
 
 -- and these are tokens of their kinds
-token_is : (c : ℕ) (cs : List ℕ) (x : Lexeme) → lexeme_at Standard true (c ∷ cs) ≡ x → x.end ≡ length (c ∷ cs) → IsToken x.kind (c ∷ cs)
+token_is : (c : ℕ) (cs : List ℕ) (x : Lexeme) → lexeme_at Standard true (c ∷ cs) ≡ x
+    → x.end ≡ length (c ∷ cs) → IsToken x.kind (c ∷ cs)
 token_is c cs x e len =
     one_token Standard c cs (ap (λ (y : Lexeme). y.end) e ∙ len)
     ∙ ap (λ (y : Lexeme). record { kind = y.kind; len = utf8_len (take y.end (c ∷ cs)) } ∷ []) e
@@ -106,7 +123,9 @@ token_is c cs x e len =
     ∙ ap (λ w. record { kind = x.kind; len = utf8_len w } ∷ []) (take-length (c ∷ cs))
 
 pub string_token : (v : List ℕ) → IsToken (kinds.Literal (Str true)) (string_of v)
-string_token v = token_is 39 (doubled 39 v ++ 39 ∷ []) (literal_until (Str true) (length (string_of v))) (string_lexeme v) refl
+string_token v = token_is 39 (doubled 39 v ++ 39
+    ∷ []) (literal_until (Str true) (length (string_of v))) (string_lexeme v) refl
 
 pub ident_token : (v : List ℕ) → IsToken (kinds.QuotedIdent true false) (ident_of v)
-ident_token v = token_is 34 (doubled 34 v ++ 34 ∷ []) (lexeme_until (kinds.QuotedIdent true false) (length (ident_of v))) (ident_lexeme v) refl
+ident_token v = token_is 34 (doubled 34 v ++ 34
+    ∷ []) (lexeme_until (kinds.QuotedIdent true false) (length (ident_of v))) (ident_lexeme v) refl

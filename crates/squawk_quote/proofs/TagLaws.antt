@@ -16,7 +16,8 @@ abbrev stands : ℕ → List ℕ → Bool
 stands n [] = false
 stands n (c ∷ cs) = (eqb 36 c && rest_here n n cs) || stands n cs
 
--- what is open behind a part of the value: a run of k letters of which m more are wanted, or too many, or none
+-- what is open behind a part of the value: a run of k letters of which m more are wanted, or too
+-- many, or none
 record Runs (n : ℕ) (v : List ℕ) : Type 0 where
   open_run : (k m : ℕ) → n ≡ k + m → has_tag n (Some k) v ≡ (rest_here n m v || stands n v)
   past_run : (k : ℕ) → n < k → has_tag n (Some k) v ≡ stands n v
@@ -44,26 +45,45 @@ runs_none n = record { open_run = at_end; past_run = λ k h. other_than k n h; n
 
 -- behind a `$`
 behind_dollar : (n : ℕ) (cs : List ℕ) → Runs n cs → Runs n (36 ∷ cs)
-behind_dollar n cs r = record { open_run = here; past_run = λ k h. rw (other_than k n h) begun; no_run = begun }
+behind_dollar n cs r = record {
+  open_run = here;
+  past_run = λ k h.
+      rw (other_than k n h) begun;
+  no_run = begun;
+}
   where
     begun : has_tag n (Some 0) cs ≡ (rest_here n n cs || stands n cs)
     begun = r.open_run 0 n (omega arith)
 
-    here : (k m : ℕ) → n ≡ k + m → has_tag n (Some k) (36 ∷ cs) ≡ (rest_here n m (36 ∷ cs) || stands n (36 ∷ cs))
-    here k zero e = let t : eqb n k ≡ true = rw (let is : n ≡ k = omega arith in is) (self k) in rw t refl
+    here : (k m : ℕ) → n ≡ k + m → has_tag n (Some k) (36 ∷ cs)
+        ≡ (rest_here n m (36 ∷ cs) || stands n (36 ∷ cs))
+    here k zero e = let t : eqb n k ≡ true = rw (let is : n ≡ k = omega arith in is) (self k) in
+        rw t refl
     here k (suc m) e = rw (more_than k n (omega arith)) begun
 
 -- behind a letter
 behind_letter : (n : ℕ) (cs : List ℕ) → Runs n cs → Runs n (113 ∷ cs)
-behind_letter n cs r = record { open_run = here; past_run = λ k h. r.past_run (k + 1) (omega arith); no_run = r.no_run }
+behind_letter n cs r = record {
+  open_run = here;
+  past_run = λ k h.
+      r.past_run (k + 1) (omega arith);
+  no_run = r.no_run;
+}
   where
-    here : (k m : ℕ) → n ≡ k + m → has_tag n (Some k) (113 ∷ cs) ≡ (rest_here n m (113 ∷ cs) || stands n (113 ∷ cs))
+    here : (k m : ℕ) → n ≡ k + m → has_tag n (Some k) (113 ∷ cs)
+        ≡ (rest_here n m (113 ∷ cs) || stands n (113 ∷ cs))
     here k zero e = r.past_run (k + 1) (omega arith)
     here k (suc m) e = r.open_run (k + 1) m (omega arith)
 
 -- behind any other character
-behind_other : (n c : ℕ) (cs : List ℕ) → eqb c 36 ≡ false → eqb c 113 ≡ false → Runs n cs → Runs n (c ∷ cs)
-behind_other n c cs d q r = record { open_run = here; past_run = λ k h. rw (d, q, dollar) r.no_run; no_run = rw (d, dollar) r.no_run }
+behind_other : (n c : ℕ) (cs : List ℕ) → eqb c 36 ≡ false → eqb c 113 ≡ false → Runs n cs
+    → Runs n (c ∷ cs)
+behind_other n c cs d q r = record {
+  open_run = here;
+  past_run = λ k h.
+      rw (d, q, dollar) r.no_run;
+  no_run = rw (d, dollar) r.no_run;
+}
   where
     dollar : eqb 36 c ≡ false
     dollar = grind (arith, nat_tests)
@@ -71,7 +91,8 @@ behind_other n c cs d q r = record { open_run = here; past_run = λ k h. rw (d, 
     letter : eqb 113 c ≡ false
     letter = grind (arith, nat_tests)
 
-    here : (k m : ℕ) → n ≡ k + m → has_tag n (Some k) (c ∷ cs) ≡ (rest_here n m (c ∷ cs) || stands n (c ∷ cs))
+    here : (k m : ℕ) → n ≡ k + m → has_tag n (Some k) (c ∷ cs)
+        ≡ (rest_here n m (c ∷ cs) || stands n (c ∷ cs))
     here k zero e = rw (d, q, dollar) r.no_run
     here k (suc m) e = rw (d, q, dollar, letter) r.no_run
 
@@ -82,7 +103,8 @@ runs n (c ∷ cs) = by (runs n cs) (cases_eq c 36) (cases_eq c 113)
     by : Runs n cs → (c ≡ 36) ⊎ (c ≡ 36 → ⊥) → (c ≡ 113) ⊎ (c ≡ 113 → ⊥) → Runs n (c ∷ cs)
     by r (inl is) q = subst (λ x. Runs n (x ∷ cs)) (sym is) (behind_dollar n cs r)
     by r (inr d) (inl is) = subst (λ x. Runs n (x ∷ cs)) (sym is) (behind_letter n cs r)
-    by r (inr d) (inr q) = behind_other n c cs (let e : eqb c 36 ≡ false = grind (arith, nat_tests) in e) (let e : eqb c 113 ≡ false = grind (arith, nat_tests) in e) r
+    by r (inr d) (inr q) = behind_other n c cs (let e : eqb c 36 ≡ false = grind (arith, nat_tests)
+        in e) (let e : eqb c 113 ≡ false = grind (arith, nat_tests) in e) r
 
 -- ---- where the delimiter is found
 
@@ -92,21 +114,26 @@ ends_later (Some m) n = by (cases_eq m n)
   where
     by : (m ≡ n) ⊎ (m ≡ n → ⊥) → eqb (m + 1) (n + 1) ≡ eqb m n
     by (inl is) = rw is (self (n + 1) ∙ sym (self n))
-    by (inr is_not) = let a : eqb (m + 1) (n + 1) ≡ false = grind (arith, nat_tests) in let b : eqb m n ≡ false = grind (arith, nat_tests) in a ∙ sym b
+    by (inr is_not) = let a : eqb (m + 1) (n + 1) ≡ false = grind (arith, nat_tests) in
+        let b : eqb m n ≡ false = grind (arith, nat_tests) in a ∙ sym b
 
 fits_stands : (n : ℕ) (v : List ℕ) → fits v n ≡ not (stands n v)
-fits_stands n [] = rw (find_self n) (ap (eqb (length (delimiter n))) (let e : 0 + length (delimiter n) ≡ length (delimiter n) = omega arith in e) ∙ self (length (delimiter n)))
+fits_stands n [] =
+    rw (find_self n) (ap (eqb (length (delimiter n))) (let e : 0 + length (delimiter n)
+    ≡ length (delimiter n) = omega arith in e) ∙ self (length (delimiter n)))
 fits_stands n (c ∷ cs) = by (eqb 36 c && rest_here n n cs) refl (fits_stands n cs)
   where
     d : List ℕ
     d = delimiter n
 
     by : (b : Bool) → (eqb 36 c && rest_here n n cs) ≡ b → fits cs n ≡ not (stands n cs)
-        → ends_at (cond b (Some (length d)) (option_map (λ m. m + 1) (find_end d (cs ++ d)))) (length (c ∷ cs) + length d) ≡ not (b || stands n cs)
+        → ends_at (cond b (Some (length d)) (option_map (λ m. m + 1) (find_end d (cs ++ d))))
+        (length (c ∷ cs) + length d) ≡ not (b || stands n cs)
     by true t e = other_than (length (c ∷ cs) + length d) (length d) (omega arith)
     by false t e =
         let sum : length (c ∷ cs) + length d ≡ length cs + length d + 1 = omega arith in
-        ap (ends_at (option_map (λ m. m + 1) (find_end d (cs ++ d)))) sum ∙ ends_later (find_end d (cs ++ d)) (length cs + length d) ∙ e
+        ap (ends_at (option_map (λ m. m + 1) (find_end d (cs ++ d)))) sum
+        ∙ ends_later (find_end d (cs ++ d)) (length cs + length d) ∙ e
 
 -- a delimiter fits exactly where its tag does not stand in the value
 pub fits_is : (v : List ℕ) (n : ℕ) → fits v n ≡ not (has_tag n None v)

@@ -1,4 +1,5 @@
--- Values, and the texts that spell them: strings, quoted identifiers and dollar strings. Texts and values are lists of characters.
+-- Values, and the texts that spell them: strings, quoted identifiers and dollar strings. Texts and
+-- values are lists of characters.
 use Rattle.std.specs.Prelude.{◌≡◌, ℕ, zero, suc, ◌+◌, ◌-◌, Bool, true, false, ◌&&◌, ◌||◌, ◌==◌, List, [], ◌∷◌, ◌++◌, take, drop, length, Option, Some, None, if◌then◌else◌}
 use Rattle.squawk_lexer.specs.declared.token.Token.{Token}
 use Rattle.squawk_lexer.specs.declared.token.TokenKind.{TokenKind}
@@ -45,7 +46,8 @@ ends_at (Some m) n = m == n
 
 -- whether the delimiter comes behind the value first where it is put there
 abbrev pub fits : List ℕ → ℕ → Bool
-fits value n = ends_at (find_end (delimiter n) (value ++ delimiter n)) (length value + length (delimiter n))
+fits value n =
+    ends_at (find_end (delimiter n) (value ++ delimiter n)) (length value + length (delimiter n))
 
 -- the first n from there on that fits, among so many
 abbrev pub first_fit : List ℕ → ℕ → ℕ → ℕ

@@ -16,7 +16,8 @@ const LIMIT: usize = 4294967295;
 
 /// Appends a character, or a quote twice.
 fn push_doubled(out: &mut String, quote: char, c: char) -> Result<(), AllocError>
-    ensures { OnOk result (string_bytes out.new ≡ string_bytes out.old ++ encode_utf8_all (doubled quote (c ∷ []))) }
+    ensures { OnOk result (string_bytes out.new
+        ≡ string_bytes out.old ++ encode_utf8_all (doubled quote (c ∷ []))) }
 {
     if c == quote {
         out.push(quote)?;
@@ -26,7 +27,8 @@ fn push_doubled(out: &mut String, quote: char, c: char) -> Result<(), AllocError
 
 /// Appends a text with each quote twice.
 fn push_all(out: &mut String, quote: char, value: &str) -> Result<(), AllocError>
-    ensures { OnOk result (string_bytes out.new ≡ string_bytes out.old ++ encode_utf8_all (doubled quote (chars value.now))) }
+    ensures { OnOk result (string_bytes out.new
+        ≡ string_bytes out.old ++ encode_utf8_all (doubled quote (chars value.now))) }
 {
     for c in value.chars() {
         push_doubled(out, quote, c)?;
@@ -36,8 +38,10 @@ fn push_all(out: &mut String, quote: char, value: &str) -> Result<(), AllocError
 
 /// The value between two quotes.
 fn quoted(alloc: Global, quote: char, value: &str) -> Result<String, FrontError>
-    ensures text { IfOk result (λ out. string_bytes out ≡ encode_utf8_all (quoted_text quote (chars value.now))) }
-    ensures too_long { IsErrOf result FrontError.TooLong → LIMIT < length (encode_utf8_all (quoted_text quote (chars value.now))) }
+    ensures text { IfOk result (λ out. string_bytes out
+        ≡ encode_utf8_all (quoted_text quote (chars value.now))) }
+    ensures too_long { IsErrOf result FrontError.TooLong
+        → LIMIT < length (encode_utf8_all (quoted_text quote (chars value.now))) }
     ensures fits { IfOk result (λ out. length (string_bytes out) < 2 ^ 32) }
 {
     let mut out = String::new(alloc);
@@ -52,11 +56,14 @@ fn quoted(alloc: Global, quote: char, value: &str) -> Result<String, FrontError>
 
 /// The value as a string: `'`, the value with each `'` twice, and `'`.
 pub fn quote_string(alloc: Global, value: &str) -> Result<String, FrontError>
-    ensures text { IfOk result (λ out. string_bytes out ≡ encode_utf8_all (string_of (chars value.now))) }
+    ensures text { IfOk result (λ out. string_bytes out
+        ≡ encode_utf8_all (string_of (chars value.now))) }
     // It is one terminated token, and its value is the one that was given.
     ensures token { IfOk result (λ out. IsToken (Literal (Str true)) (chars (string_bytes out))) }
-    ensures value { IfOk result (λ out. value_of (chars (string_bytes out)) ≡ Some (chars value.now)) }
-    ensures too_long { IsErrOf result FrontError.TooLong → LIMIT < length (encode_utf8_all (string_of (chars value.now))) }
+    ensures value { IfOk result (λ out. value_of (chars (string_bytes out))
+        ≡ Some (chars value.now)) }
+    ensures too_long { IsErrOf result FrontError.TooLong
+        → LIMIT < length (encode_utf8_all (string_of (chars value.now))) }
     ensures fits { IfOk result (λ out. length (string_bytes out) < 2 ^ 32) }
 {
     quoted(alloc, '\'', value)
@@ -64,11 +71,15 @@ pub fn quote_string(alloc: Global, value: &str) -> Result<String, FrontError>
 
 /// The value as a quoted identifier: `"`, the value with each `"` twice, and `"`.
 pub fn quote_ident(alloc: Global, value: &str) -> Result<String, FrontError>
-    ensures text { IfOk result (λ out. string_bytes out ≡ encode_utf8_all (ident_of (chars value.now))) }
+    ensures text { IfOk result (λ out. string_bytes out
+        ≡ encode_utf8_all (ident_of (chars value.now))) }
     // It is one terminated token, and its value is the one that was given.
-    ensures token { IfOk result (λ out. IsToken (QuotedIdent true false) (chars (string_bytes out))) }
-    ensures value { IfOk result (λ out. value_of (chars (string_bytes out)) ≡ Some (chars value.now)) }
-    ensures too_long { IsErrOf result FrontError.TooLong → LIMIT < length (encode_utf8_all (ident_of (chars value.now))) }
+    ensures token { IfOk result (λ out.
+        IsToken (QuotedIdent true false) (chars (string_bytes out))) }
+    ensures value { IfOk result (λ out. value_of (chars (string_bytes out))
+        ≡ Some (chars value.now)) }
+    ensures too_long { IsErrOf result FrontError.TooLong
+        → LIMIT < length (encode_utf8_all (ident_of (chars value.now))) }
     ensures fits { IfOk result (λ out. length (string_bytes out) < 2 ^ 32) }
 {
     quoted(alloc, '"', value)

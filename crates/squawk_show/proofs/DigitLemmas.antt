@@ -13,33 +13,50 @@ decimal-one n h = decimal_digit n h
 
 pub decimal-two : (n : ℕ) → 10 ≤ n → n < 100 → decimal n ≡ (48 + n / 10) ∷ (48 + n % 10) ∷ []
 decimal-two n low high =
-    decimal_step n low (omega arith) ∙ ap (λ ds. ds ++ (48 + n % 10) ∷ []) (decimal-one (n / 10) (omega arith))
+    decimal_step n low (omega arith)
+    ∙ ap (λ ds. ds ++ (48 + n % 10) ∷ []) (decimal-one (n / 10) (omega arith))
 
-pub decimal-three : (n : ℕ) → 100 ≤ n → n < 1000 → decimal n ≡ (48 + n / 100) ∷ (48 + n / 10 % 10) ∷ (48 + n % 10) ∷ []
+pub decimal-three : (n : ℕ) → 100 ≤ n → n < 1000
+    → decimal n ≡ (48 + n / 100) ∷ (48 + n / 10 % 10) ∷ (48 + n % 10) ∷ []
 decimal-three n low high =
     let e : n / 10 / 10 ≡ n / 100 = omega arith in
-    decimal_step n (omega arith) (omega arith) ∙ ap (λ ds. ds ++ (48 + n % 10) ∷ []) (decimal-two (n / 10) (omega arith) (omega arith)) ∙ ap (λ d. (48 + d) ∷ (48 + n / 10 % 10) ∷ (48 + n % 10) ∷ []) e
+    decimal_step n (omega arith) (omega arith)
+    ∙ ap (λ ds. ds ++ (48 + n % 10) ∷ []) (decimal-two (n / 10) (omega arith) (omega arith))
+    ∙ ap (λ d. (48 + d) ∷ (48 + n / 10 % 10) ∷ (48 + n % 10) ∷ []) e
 
-pub decimal-four : (n : ℕ) → 1000 ≤ n → n < 10000 → decimal n ≡ (48 + n / 1000) ∷ (48 + n / 100 % 10) ∷ (48 + n / 10 % 10) ∷ (48 + n % 10) ∷ []
+pub decimal-four : (n : ℕ) → 1000 ≤ n → n < 10000
+    → decimal n ≡ (48 + n / 1000) ∷ (48 + n / 100 % 10) ∷ (48 + n / 10 % 10) ∷ (48 + n % 10) ∷ []
 decimal-four n low high =
     let e : n / 10 / 100 ≡ n / 1000 = omega arith in
     let f : n / 10 / 10 ≡ n / 100 = omega arith in
-    decimal_step n (omega arith) (omega arith) ∙ ap (λ ds. ds ++ (48 + n % 10) ∷ []) (decimal-three (n / 10) (omega arith) (omega arith)) ∙ ap (λ d. (48 + d) ∷ (48 + n / 10 / 10 % 10) ∷ (48 + n / 10 % 10) ∷ (48 + n % 10) ∷ []) e ∙ ap (λ d. (48 + n / 1000) ∷ (48 + d % 10) ∷ (48 + n / 10 % 10) ∷ (48 + n % 10) ∷ []) f
+    decimal_step n (omega arith) (omega arith)
+    ∙ ap (λ ds. ds ++ (48 + n % 10) ∷ []) (decimal-three (n / 10) (omega arith) (omega arith))
+    ∙ ap (λ d. (48 + d) ∷ (48 + n / 10 / 10 % 10) ∷ (48 + n / 10 % 10) ∷ (48 + n % 10) ∷ []) e
+    ∙ ap (λ d. (48 + n / 1000) ∷ (48 + d % 10) ∷ (48 + n / 10 % 10) ∷ (48 + n % 10) ∷ []) f
 
 -- a number of more than four digits is its front and its last four digits
-pub decimal-more : (n : ℕ) → 10000 ≤ n → n < 2 ^ 32 → decimal n ≡ decimal (n / 10000) ++ last_four (n % 10000)
+pub decimal-more : (n : ℕ) → 10000 ≤ n → n < 2 ^ 32
+    → decimal n ≡ decimal (n / 10000) ++ last_four (n % 10000)
 decimal-more n low high =
     let q1 = n / 10 in
     let q2 = q1 / 10 in
     let q3 = q2 / 10 in
     let q4 = q3 / 10 in
-    let e1 : decimal n ≡ decimal q1 ++ (48 + n % 10) ∷ [] = decimal_step n (omega arith) (omega arith) in
-    let e2 : decimal q1 ≡ decimal q2 ++ (48 + q1 % 10) ∷ [] = decimal_step q1 (omega arith) (omega arith) in
-    let e3 : decimal q2 ≡ decimal q3 ++ (48 + q2 % 10) ∷ [] = decimal_step q2 (omega arith) (omega arith) in
-    let e4 : decimal q3 ≡ decimal q4 ++ (48 + q3 % 10) ∷ [] = decimal_step q3 (omega arith) (omega arith) in
-    let f3 : decimal q2 ≡ decimal q4 ++ (48 + q3 % 10) ∷ (48 + q2 % 10) ∷ [] = e3 ∙ ap (λ ds. ds ++ (48 + q2 % 10) ∷ []) e4 ∙ append_assoc (decimal q4) _ _ in
-    let f2 : decimal q1 ≡ decimal q4 ++ (48 + q3 % 10) ∷ (48 + q2 % 10) ∷ (48 + q1 % 10) ∷ [] = e2 ∙ ap (λ ds. ds ++ (48 + q1 % 10) ∷ []) f3 ∙ append_assoc (decimal q4) _ _ in
-    let f1 : decimal n ≡ decimal q4 ++ (48 + q3 % 10) ∷ (48 + q2 % 10) ∷ (48 + q1 % 10) ∷ (48 + n % 10) ∷ [] = e1 ∙ ap (λ ds. ds ++ (48 + n % 10) ∷ []) f2 ∙ append_assoc (decimal q4) _ _ in
+    let e1 : decimal n ≡ decimal q1 ++ (48 + n % 10) ∷ [] =
+    decimal_step n (omega arith) (omega arith) in
+    let e2 : decimal q1 ≡ decimal q2 ++ (48 + q1 % 10) ∷ [] =
+    decimal_step q1 (omega arith) (omega arith) in
+    let e3 : decimal q2 ≡ decimal q3 ++ (48 + q2 % 10) ∷ [] =
+    decimal_step q2 (omega arith) (omega arith) in
+    let e4 : decimal q3 ≡ decimal q4 ++ (48 + q3 % 10) ∷ [] =
+    decimal_step q3 (omega arith) (omega arith) in
+    let f3 : decimal q2 ≡ decimal q4 ++ (48 + q3 % 10) ∷ (48 + q2 % 10) ∷ [] = e3
+    ∙ ap (λ ds. ds ++ (48 + q2 % 10) ∷ []) e4 ∙ append_assoc (decimal q4) _ _ in
+    let f2 : decimal q1 ≡ decimal q4 ++ (48 + q3 % 10) ∷ (48 + q2 % 10) ∷ (48 + q1 % 10) ∷ [] = e2
+    ∙ ap (λ ds. ds ++ (48 + q1 % 10) ∷ []) f3 ∙ append_assoc (decimal q4) _ _ in
+    let f1 : decimal n ≡ decimal q4 ++ (48 + q3 % 10) ∷ (48 + q2 % 10) ∷ (48 + q1 % 10)
+    ∷ (48 + n % 10) ∷ [] = e1 ∙ ap (λ ds. ds ++ (48 + n % 10) ∷ []) f2
+    ∙ append_assoc (decimal q4) _ _ in
     let m = n % 10000 in
     let g4 : q4 ≡ n / 10000 = omega arith in
     let g3 : q3 % 10 ≡ m / 1000 % 10 = omega arith in
@@ -49,37 +66,53 @@ decimal-more n low high =
     f1 ∙ rw (g4, g3, g2, g1, g0) refl
 
 -- what begins with the digits of a number
-pub front-from : (n : ℕ) (ds rest : List ℕ) → decimal n ≡ ds → take (length (decimal n)) (ds ++ rest) ≡ decimal n
-front-from n ds rest e = ap (λ xs. take (length xs) (ds ++ rest)) e ∙ take_at ds rest (length ds) refl ∙ sym e
+pub front-from : (n : ℕ) (ds rest : List ℕ) → decimal n ≡ ds
+    → take (length (decimal n)) (ds ++ rest) ≡ decimal n
+front-from n ds rest e = ap (λ xs. take (length xs) (ds ++ rest)) e
+    ∙ take_at ds rest (length ds) refl ∙ sym e
 
-one_of : (Is : ℕ → ℕ → Type 0) (n x : ℕ) (xs : List ℕ) → AreFours Is n xs → Is n x → (k : ℕ) → k < n + 1 → (k < n) ⊎ (n ≤ k) → Is k (slice_index (xs ++ x ∷ []) k)
+one_of : (Is : ℕ → ℕ → Type 0) (n x : ℕ) (xs : List ℕ) → AreFours Is n xs → Is n x → (k : ℕ)
+    → k < n + 1 → (k < n) ⊎ (n ≤ k) → Is k (slice_index (xs ++ x ∷ []) k)
 one_of Is n x xs so_far is k below (inl before) =
-    subst (Is k) (sym (get_or_append_left xs (x ∷ []) 0 k (omega (arith, so_far.counted, before)))) (so_far.each k before)
+    subst (Is k) (sym (get_or_append_left xs (x ∷ []) 0 k (omega (arith, so_far.counted, before))))
+    (so_far.each k before)
 one_of Is n x xs so_far is k below (inr last) =
     let e : n ≡ k = omega (arith, below, last) in
-    subst (λ m. Is m (slice_index (xs ++ x ∷ []) m)) e (subst (Is n) (sym (get_or_push xs x 0 n so_far.counted)) is)
+    subst (λ m. Is m (slice_index (xs ++ x ∷ []) m)) e
+    (subst (Is n) (sym (get_or_push xs x 0 n so_far.counted)) is)
 
 -- one number more
-pub fours-more : (Is : ℕ → ℕ → Type 0) (n x : ℕ) (xs : List ℕ) → AreFours Is n xs → Is n x → AreFours Is (n + 1) (xs ++ x ∷ [])
+pub fours-more : (Is : ℕ → ℕ → Type 0) (n x : ℕ) (xs : List ℕ) → AreFours Is n xs → Is n x
+    → AreFours Is (n + 1) (xs ++ x ∷ [])
 fours-more Is n x xs so_far is = record {
   counted = length_push xs x ∙ ap (λ m. m + 1) so_far.counted;
   each = λ k below. one_of Is n x xs so_far is k below (cases_lt k n);
 }
 
 -- a number of more than four digits
-pub digits-more : (n front back width : ℕ) → 10000 ≤ n → n < 2 ^ 32 → width ≡ length (decimal (n / 10000)) → width ≤ 4 → BeginsWith (n / 10000) front → EndsWith (n % 10000) back → AreDigits n front back width (width + 4)
+pub digits-more : (n front back width : ℕ) → 10000 ≤ n → n < 2 ^ 32
+    → width ≡ length (decimal (n / 10000)) → width ≤ 4 → BeginsWith (n / 10000) front
+    → EndsWith (n % 10000) back → AreDigits n front back width (width + 4)
 digits-more n front back width low high wide narrow begins ends =
     let all : width + 4 - width ≡ 4 = omega arith in
     record {
       narrow = narrow;
       ordered = let h : width ≤ width + 4 = omega arith in h;
       short = let h : width + 4 ≤ width + 4 = omega arith in h;
-      written = ap (λ m. take m (bytes_of front) ++ take (width + 4 - width) (bytes_of back)) wide ∙ ap (λ xs. xs ++ take (width + 4 - width) (bytes_of back)) begins ∙ ap (λ m. decimal (n / 10000) ++ take m (bytes_of back)) all ∙ ap (λ xs. decimal (n / 10000) ++ take 4 xs) ends ∙ sym (decimal-more n low high);
+      written = ap (λ m. take m (bytes_of front) ++ take (width + 4 - width) (bytes_of back)) wide
+          ∙ ap (λ xs. xs ++ take (width + 4 - width) (bytes_of back)) begins
+          ∙ ap (λ m. decimal (n / 10000) ++ take m (bytes_of back)) all
+          ∙ ap (λ xs. decimal (n / 10000) ++ take 4 xs) ends ∙ sym (decimal-more n low high);
     }
 
 -- bytes written at a place: what was before it, and a front of what was written
-pub put-front : (at k n : ℕ) (xs ys zs : List ℕ) → at ≤ length xs → ys ≡ zs → n ≤ length zs → take (at + n) (put_mid at k xs ys) ≡ take at xs ++ take n zs
+pub put-front : (at k n : ℕ) (xs ys zs : List ℕ) → at ≤ length xs → ys ≡ zs → n ≤ length zs
+    → take (at + n) (put_mid at k xs ys) ≡ take at xs ++ take n zs
 put-front at k n xs ys zs within same short =
     let post = post_of at k xs in
     let size = length-take-le at xs within in
-    take-add at n (take at xs ++ (ys ++ post)) ∙ ap (λ ws. ws ++ take n (drop at (take at xs ++ (ys ++ post)))) (take_at (take at xs) (ys ++ post) at size) ∙ ap (λ ws. take at xs ++ take n ws) (drop_at (take at xs) (ys ++ post) at size ∙ ap (λ ws. ws ++ post) same) ∙ ap (λ ws. take at xs ++ ws) (take-append-le n zs post short)
+    take-add at n (take at xs ++ (ys ++ post))
+    ∙ ap (λ ws. ws ++ take n (drop at (take at xs ++ (ys ++ post)))) (take_at (take at xs) (ys
+    ++ post) at size) ∙ ap (λ ws. take at xs
+    ++ take n ws) (drop_at (take at xs) (ys ++ post) at size ∙ ap (λ ws. ws ++ post) same)
+    ∙ ap (λ ws. take at xs ++ ws) (take-append-le n zs post short)

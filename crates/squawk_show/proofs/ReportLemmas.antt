@@ -12,8 +12,15 @@ depth_after-le depth Exit = omega arith
 depth_after-le depth (Error number at) = omega arith
 
 -- the lines so far, with that of one more step
-pub step_lines-more : (depth i : ℕ) (spans : List (ℕ × ℕ)) (steps : List StrStep) (out all : List ℕ) (x : StrStep) (r : ℕ × ℕ) → i < length steps → i < length spans → x ≡ get_or steps i x → r ≡ get_or spans i r → out ++ step_lines depth (drop i steps) (drop i spans) ≡ all → (out ++ step_line depth x r) ++ step_lines (depth_after depth x) (drop (i + 1) steps) (drop (i + 1) spans) ≡ all
+pub step_lines-more : (depth i : ℕ) (spans : List (ℕ
+    × ℕ)) (steps : List StrStep) (out all : List ℕ) (x : StrStep) (r : ℕ × ℕ) → i < length steps
+    → i < length spans → x ≡ get_or steps i x → r ≡ get_or spans i r
+    → out ++ step_lines depth (drop i steps) (drop i spans) ≡ all
+    → (out ++ step_line depth x r)
+    ++ step_lines (depth_after depth x) (drop (i + 1) steps) (drop (i + 1) spans) ≡ all
 step_lines-more depth i spans steps out all x r in_steps in_spans read_step read_span so_far =
     let at_step = drop_more steps i x in_steps ∙ ap (λ y. y ∷ drop (i + 1) steps) (sym read_step) in
     let at_span = drop_more spans i r in_spans ∙ ap (λ y. y ∷ drop (i + 1) spans) (sym read_span) in
-    append_assoc out (step_line depth x r) (step_lines (depth_after depth x) (drop (i + 1) steps) (drop (i + 1) spans)) ∙ (sym (ap (λ ys. out ++ step_lines depth (drop i steps) ys) at_span ∙ ap (λ ys. out ++ step_lines depth ys (r ∷ drop (i + 1) spans)) at_step) ∙ so_far)
+    append_assoc out (step_line depth x r) (step_lines (depth_after depth x) (drop (i + 1) steps)
+    (drop (i + 1) spans)) ∙ (sym (ap (λ ys. out ++ step_lines depth (drop i steps) ys) at_span
+    ∙ ap (λ ys. out ++ step_lines depth ys (r ∷ drop (i + 1) spans)) at_step) ∙ so_far)

@@ -9,7 +9,8 @@ next_count n = min (n + 1) (2 ^ 64 - 1)
 abbrev pub Rose : ℕ → ℕ → Type 0
 Rose before now = next_count before ≤ now
 
--- a count of faults never falls, and has risen, or stands at its last value, where the answer is an `Err`
+-- a count of faults never falls, and has risen, or stands at its last value, where the answer is an
+-- `Err`
 pub record HasCause {T E : Type 0} (before now : ℕ) (result : Result T E) : Type 0 where
   pub later : before ≤ now
   pub failed : OnErr result (Rose before now)

@@ -1,4 +1,5 @@
--- The digits of numbers as bytes, four at a time, and each four as the number that they are in the order of a `u32`.
+-- The digits of numbers as bytes, four at a time, and each four as the number that they are in the
+-- order of a `u32`.
 use Rattle.std.specs.Prelude.{ℕ, ◌≡◌, ◌+◌, ◌-◌, ◌<◌, ◌≤◌, ◌/◌, ◌%◌, List, [], ◌∷◌, ◌++◌, length, take, decimal, slice_index}
 use Rattle.std.specs.Int.{w32, to_le_bytes}
 
@@ -31,7 +32,8 @@ AreFronts bound fours = AreFours BeginsWith bound fours
 abbrev pub AreBacks : ℕ → List ℕ → Type 0
 AreBacks bound fours = AreFours EndsWith bound fours
 
--- the digits of a number: the first `width` bytes of one four, and then others of another, `len` in all
+-- the digits of a number: the first `width` bytes of one four, and then others of another, `len` in
+-- all
 pub record AreDigits (number front back width len : ℕ) : Type 0 where
   pub narrow : width ≤ 4
   pub ordered : width ≤ len

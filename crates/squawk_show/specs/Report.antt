@@ -18,7 +18,8 @@ kind_text kind = unwrap_or (slice_get texts kind) []
 
 -- depth, letter, printed kind and range, with spaces between, and an LF
 abbrev pub line : (depth letter kind : ℕ) → ℕ × ℕ → List ℕ
-line depth letter kind range = decimal depth ++ (32 ∷ letter ∷ 32 ∷ []) ++ kind_text kind ++ (32 ∷ []) ++ range_text range ++ (10 ∷ [])
+line depth letter kind range = decimal depth ++ (32 ∷ letter ∷ 32 ∷ []) ++ kind_text kind
+    ++ (32 ∷ []) ++ range_text range ++ (10 ∷ [])
 
 -- the line of a step with this range: of a node with N, of a leaf with T
 abbrev pub step_line : ℕ → StrStep → ℕ × ℕ → List ℕ
@@ -42,7 +43,8 @@ step_lines depth (x ∷ xs) (r ∷ rs) = step_line depth x r ++ step_lines (dept
 
 -- the line of an error: the letter E, its range and its message
 abbrev pub error_line : ParseError → List ℕ
-error_line e = codes "E " ++ range_text (e.start, e.end) ++ (32 ∷ []) ++ message_of e.number ++ (10 ∷ [])
+error_line e = codes "E " ++ range_text (e.start, e.end) ++ (32 ∷ []) ++ message_of e.number
+    ++ (10 ∷ [])
 
 abbrev pub report : List StrStep → List ParseError → List ℕ
 report steps errors = step_lines 0 steps (ranges steps) ++ flat_map error_line errors

@@ -11,7 +11,7 @@ use Rattle.squawk_show.specs.Reading.{TakesExactly, AppendsFront}
 use Rattle.squawk_show.specs.Report.{report_of}
 use Rattle.squawk_show.specs.declared.error.RunError.{RunError}
 use Rattle.squawk_show.specs.declared.error.RunError.TheVariants.{BadWords, ReadFault, NotUtf8, Front, WriteFault}
-use Rattle.squawk_tree.specs.Children.{children, forms_of, root_child}
+use Rattle.squawk_tree.specs.Children.{children, roles_of, root_child}
 use Rattle.squawk_tree.specs.ParseOf.{parse_of}
 use Rattle.squawk_tree.specs.Steps.{leaves, ranges_through, root_children}
 use Rattle.squawk_tree.specs.Tree.{Tree}
@@ -27,11 +27,14 @@ tree_of text = parse_of Standard Flat text
 
 -- the leaves of a tree are the tokens of a text, each by its range in bytes
 unfoldable pub HasLeavesOf : List ℕ → Tree → Type 0
-HasLeavesOf text tree = leaves tree.steps ≡ ranges_through 0 (token_ends 0 (tokens Standard (chars text)))
+HasLeavesOf text tree = leaves tree.steps
+    ≡ ranges_through 0 (token_ends 0 (tokens Standard (chars text)))
 
--- the children of a tree's root are those into which the tokens of a text are divided, as leaves and nodes
+-- the children of a tree's root are those into which the tokens of a text are divided, as leaves
+-- and nodes
 unfoldable pub HasChildrenOf : List ℕ → Tree → Type 0
-HasChildrenOf text tree = root_children tree.steps ≡ map root_child (children Flat (forms_of (tokens Standard (chars text))))
+HasChildrenOf text tree = root_children tree.steps
+    ≡ map root_child (children Flat (roles_of (tokens Standard (chars text))))
 
 -- the status that a run ends with
 abbrev pub status_of : Result Tree RunError → ℕ
@@ -67,7 +70,8 @@ IsTreeOfAll left tree = (text : List ℕ) × IsAll left text × IsParsed text tr
 
 -- a sink's known bytes grew by a front of the report of that tree
 abbrev pub IsFrontOfAll : Option (List ℕ) → Option (List ℕ) → Option (List ℕ) → Type 0
-IsFrontOfAll left before now = (tree : Tree) × IsTreeOfAll left tree × AppendsFront before now (report_of tree)
+IsFrontOfAll left before now = (tree : Tree) × IsTreeOfAll left tree
+    × AppendsFront before now (report_of tree)
 
 -- all that a source had left is within the limit and no text; so many bytes of it are valid
 abbrev pub IsNoTextOfAll : Option (List ℕ) → ℕ → Type 0
@@ -78,15 +82,18 @@ pub record IsUndisturbed (words before now : ℕ) : Type 0 where
   pub no_words : words ≡ 0
   pub no_fault : ¬ (Rose before now)
 
--- When each refusal of a run may come: by the number of words, by what the source had left and has left, by its
--- faults before and now, and by whether the sink of the output had a fault.
+-- When each refusal of a run may come: by the number of words, by what the source had left and has
+-- left, by its faults before and now, and by whether the sink of the output had a fault.
 abbrev pub IsRefused : ℕ → Option (List ℕ) → Option (List ℕ) → ℕ → ℕ → Type 0 → RunError → Type 0
 IsRefused words old new before now Fault BadWords = 0 < words
 IsRefused words old new before now Fault ReadFault = (words ≡ 0) × Rose before now
-IsRefused words old new before now Fault (NotUtf8 at) = (words ≡ 0) × IsAtEnd new × IsNoTextOfAll old at
-IsRefused words old new before now Fault (Front TooLong) = (words ≡ 0) × TakesExactly old new (limit + 1)
+IsRefused words old new before now Fault (NotUtf8 at) = (words ≡ 0) × IsAtEnd new
+    × IsNoTextOfAll old at
+IsRefused words old new before now Fault (Front TooLong) = (words ≡ 0)
+    × TakesExactly old new (limit + 1)
 IsRefused words old new before now Fault (Front OutOfMemory) = words ≡ 0
-IsRefused words old new before now Fault WriteFault = (words ≡ 0) × IsAtEnd new × Fault × ((tree : Tree) × IsTreeOfAll old tree)
+IsRefused words old new before now Fault WriteFault = (words ≡ 0) × IsAtEnd new × Fault
+    × ((tree : Tree) × IsTreeOfAll old tree)
 
 -- what making the tree of bytes within the limit may refuse
 abbrev pub IsParseRefusal : List ℕ → RunError → Type 0

@@ -177,17 +177,20 @@ impl Digits {
     }
 }
 
-// Writes four bytes at a place of a buffer; any front of them then stands behind what was before the place.
+// Writes four bytes at a place of a buffer; any front of them then stands behind what was before
+// the place.
 #[inline(always)]
 fn put_four(text: &mut [u8], at: usize, four: u32)
     requires { at + 4 ≤ length text.old }
-    ensures written { (n : ℕ) → n ≤ 4 → take (at + n) text.new ≡ take at text.old ++ take n (bytes_of four) }
+    ensures written { (n : ℕ) → n ≤ 4 → take (at + n) text.new
+        ≡ take at text.old ++ take n (bytes_of four) }
     ensures same_length { length text.new ≡ length text.old }
 {
     text[at..at + 4].copy_from_slice(&four.to_le_bytes());
 }
 
-/// Writes a number at a place of a buffer, and answers the place behind it; bytes behind that may be written too.
+/// Writes a number at a place of a buffer, and answers the place behind it; bytes behind that may
+/// be written too.
 #[inline(always)]
 pub(crate) fn put_place(text: &mut [u8], at: usize, place: Place) -> usize
     requires { at + 8 ≤ length text.old }

@@ -8,7 +8,8 @@ use squawk_events::FrontError;
 use std::alloc::{AllocError, AllocFailed};
 use thiserror::Error;
 
-/// Why a run ends without a report. Its displayed text is the line that the program writes, without the LF.
+/// Why a run ends without a report. Its displayed text is the line that the program writes, without
+/// the LF.
 #[derive(Clone, Copy, Debug, PartialEq, Eq, Error)]
 pub enum RunError {
     /// The words of the command line are none of the commands.

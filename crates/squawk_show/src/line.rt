@@ -1,5 +1,5 @@
-//! The lines of a report: most are written in place behind the report, by copies of fixed sizes, and the others made in a buffer from
-//! its end.
+//! The lines of a report: most are written in place behind the report, by copies of fixed sizes,
+//! and the others made in a buffer from its end.
 ghost use Rattle.std.specs.Prelude.{◌≡◌, ◌≤◌, ◌+◌, ◌++◌, ◌∷◌, [], ◌^◌, ◌<◌, length, take, drop, decimal, OnOk};
 ghost use Rattle.squawk_show.specs.Report.{line, error_line, range_text};
 
@@ -112,7 +112,8 @@ fn put_front(text: &mut [u8], depth: usize, letter: u8)
     text[0..4].copy_from_slice(&[b'0' + depth as u8, b' ', letter, b' ']);
 }
 
-// Writes a line around the printed text that stands from the fifth byte of a row on, and answers its length.
+// Writes a line around the printed text that stands from the fifth byte of a row on, and answers
+// its length.
 #[inline(always)]
 fn put_line(
     text: &mut [u8],
@@ -124,7 +125,9 @@ fn put_line(
 ) -> usize
     requires { (length text.old ≡ 64) × ((len ≤ 39) × (depth < 10)) }
     ensures within { result ≤ 64 }
-    ensures written { take result text.new ≡ decimal depth ++ (32 ∷ letter ∷ 32 ∷ []) ++ take len (drop 4 text.old) ++ (32 ∷ []) ++ range_text (start.number, end.number) ++ (10 ∷ []) }
+    ensures written { take result text.new ≡ decimal depth ++ (32 ∷ letter ∷ 32 ∷ [])
+        ++ take len (drop 4 text.old) ++ (32 ∷ []) ++ range_text (start.number, end.number)
+        ++ (10 ∷ []) }
     ensures same_length { length text.new ≡ length text.old }
 {
     put_front(text, depth, letter);
@@ -148,7 +151,9 @@ fn push_short_line(
     end: Place,
 ) -> Result<(), AllocError>
     requires { (length row.now ≡ 64) × ((len ≤ 39) × (depth < 10)) }
-    ensures { OnOk result (out.new.items ≡ out.old.items ++ (decimal depth ++ (32 ∷ letter ∷ 32 ∷ []) ++ take len (drop 4 row.now) ++ (32 ∷ []) ++ range_text (start.number, end.number) ++ (10 ∷ []))) }
+    ensures { OnOk result (out.new.items ≡ out.old.items
+        ++ (decimal depth ++ (32 ∷ letter ∷ 32 ∷ []) ++ take len (drop 4 row.now) ++ (32 ∷ [])
+        ++ range_text (start.number, end.number) ++ (10 ∷ []))) }
 {
     let old = out.len();
     out.extend_from_slice(row)?;
@@ -164,8 +169,9 @@ fn push_short_line(
     Ok(())
 }
 
-/// Appends the line of a node or a leaf, by its letter. Where there are tables of digits, those of the last line's end serve for its
-/// start, if that is the same, and it answers those of its end, or others.
+/// Appends the line of a node or a leaf, by its letter. Where there are tables of digits, those of
+/// the last line's end serve for its start, if that is the same, and it answers those of its end,
+/// or others.
 #[inline(always)]
 pub(crate) fn push_line(
     out: &mut Vec<u8>,

@@ -40,9 +40,9 @@ impl Model for MemorySink {
 }
 
 impl MemorySink {
-    /// A sink with room for so many bytes, which takes at most `largest` of them in a call and fails at the
-    /// calls in `failing`, the first of which is 1. All room is taken at once, so that writing takes no memory.
-    /// The only refusal is want of memory.
+    /// A sink with room for so many bytes, which takes at most `largest` of them in a call and
+    /// fails at the calls in `failing`, the first of which is 1. All room is taken at once, so that
+    /// writing takes no memory. The only refusal is want of memory.
     pub fn new(
         alloc: Global,
         room: usize,

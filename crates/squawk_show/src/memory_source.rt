@@ -39,8 +39,8 @@ impl Model for MemorySource {
 }
 
 impl MemorySource {
-    /// A source of these bytes, which gives at most `largest` of them in a call and fails at the calls in
-    /// `failing`, the first of which is 1. The only refusal is want of memory.
+    /// A source of these bytes, which gives at most `largest` of them in a call and fails at the
+    /// calls in `failing`, the first of which is 1. The only refusal is want of memory.
     pub fn new(
         alloc: Global,
         bytes: &[u8],

@@ -72,7 +72,8 @@ fn show<S: Source, K: Sink>(
     out: &mut K,
 ) -> Result<Parse, RunError>
     ensures words { OnOk result (length words.now ≡ 0) }
-    ensures written { IfOk result (λ tree. Appends (K.taken out.old) (K.taken out.new) (report_of tree)) }
+    ensures written { IfOk result (λ tree.
+        Appends (K.taken out.old) (K.taken out.new) (report_of tree)) }
     ensures tree { IfOk result (IsTreeOfAll (S.left source.old)) }
     ensures lawful { IfOk result IsTree }
     ensures end { OnOk result (IsAtEnd (S.left source.new)) }
@@ -83,7 +84,8 @@ fn show<S: Source, K: Sink>(
     ensures unread { 0 < length words.now → source.new ≡ source.old }
     ensures taken { result ≢ Err (RunError.Front FrontError.TooLong)
         → TakesAtMost (S.left source.old) (S.left source.new) limit }
-    ensures front { IsErrOf result RunError.WriteFault → IsFrontOfAll (S.left source.old) (K.taken out.old) (K.taken out.new) }
+    ensures front { IsErrOf result RunError.WriteFault
+        → IsFrontOfAll (S.left source.old) (K.taken out.old) (K.taken out.new) }
 {
     let (parse, report) = prepare(alloc, words, source)?;
     match write_whole(out, &report) {
@@ -94,9 +96,9 @@ fn show<S: Source, K: Sink>(
 
 /// Reads the source to its end, writes the report of its tree to `out`, and answers how it ended.
 ///
-/// `words` are those of the command line without the program's name; there are to be none. The whole report is
-/// made before its first byte is written, and after that no memory is taken. After a refusal its line is written
-/// to `err`, whose faults change nothing.
+/// `words` are those of the command line without the program's name; there are to be none. The
+/// whole report is made before its first byte is written, and after that no memory is taken. After
+/// a refusal its line is written to `err`, whose faults change nothing.
 pub fn run<S: Source, K: Sink, E: Sink>(
     alloc: Global,
     words: &[String],
@@ -106,36 +108,48 @@ pub fn run<S: Source, K: Sink, E: Sink>(
 ) -> Shown
     ensures status { result.status ≡ status_of result.outcome }
 
-    // With status 0 what was written is the report of the tree of all that the source had left, and nothing else.
-    ensures written { IfOk result.outcome (λ tree. Appends (K.taken out.old) (K.taken out.new) (report_of tree)) }
+    // With status 0 what was written is the report of the tree of all that the source had left, and
+    // nothing else.
+    ensures written { IfOk result.outcome (λ tree.
+        Appends (K.taken out.old) (K.taken out.new) (report_of tree)) }
     ensures tree { IfOk result.outcome (IsTreeOfAll (S.left source.old)) }
     ensures balanced { IfOk result.outcome IsTree }
-    // Its leaves are the tokens of that text, and its root's children those into which the tokens are divided.
-    ensures leaves { IfOk result.outcome (λ tree. IfSome (S.left source.old) (λ text. HasLeavesOf text tree)) }
-    ensures children { IfOk result.outcome (λ tree. IfSome (S.left source.old) (λ text. HasChildrenOf text tree)) }
+    // Its leaves are the tokens of that text, and its root's children those into which the tokens
+    // are divided.
+    ensures leaves { IfOk result.outcome (λ tree.
+        IfSome (S.left source.old) (λ text. HasLeavesOf text tree)) }
+    ensures children { IfOk result.outcome (λ tree.
+        IfSome (S.left source.old) (λ text. HasChildrenOf text tree)) }
 
     // When each refusal comes. Where the words are bad, nothing is read.
     ensures bad_words { IsErrOf result.outcome RunError.BadWords ↔ (0 < length words.now) }
     ensures unread { 0 < length words.now → source.new ≡ source.old }
     ensures taken { result.outcome ≢ Err (RunError.Front FrontError.TooLong)
         → TakesAtMost (S.left source.old) (S.left source.new) limit }
-    ensures read_fault { IsErrOf result.outcome RunError.ReadFault → Rose (S.faults source.old) (S.faults source.new) }
-    ensures not_utf8 { (at : ℕ) → result.outcome ≡ Err (RunError.NotUtf8 at) → IsNoTextOfAll (S.left source.old) at }
+    ensures read_fault { IsErrOf result.outcome RunError.ReadFault
+        → Rose (S.faults source.old) (S.faults source.new) }
+    ensures not_utf8 { (at : ℕ) → result.outcome ≡ Err (RunError.NotUtf8 at)
+        → IsNoTextOfAll (S.left source.old) at }
     ensures too_long { IsErrOf result.outcome (RunError.Front FrontError.TooLong)
         → TakesExactly (S.left source.old) (S.left source.new) (limit + 1) }
-    ensures write_fault { IsErrOf result.outcome RunError.WriteFault → Rose (K.faults out.old) (K.faults out.new) }
-    ensures read_to_end { (result.status ≡ 0) ⊎ (result.status ≡ 4) ⊎ (result.status ≡ 7) → IsAtEnd (S.left source.new) }
+    ensures write_fault { IsErrOf result.outcome RunError.WriteFault
+        → Rose (K.faults out.old) (K.faults out.new) }
+    ensures read_to_end { (result.status ≡ 0) ⊎ (result.status ≡ 4) ⊎ (result.status ≡ 7)
+        → IsAtEnd (S.left source.new) }
 
     // What a refusal leaves, and that nothing is told with status 0.
     ensures untouched { IfErr result.outcome (λ e. e ≢ RunError.WriteFault → out.new ≡ out.old) }
-    ensures front { IsErrOf result.outcome RunError.WriteFault → IsFrontOfAll (S.left source.old) (K.taken out.old) (K.taken out.new) }
+    ensures front { IsErrOf result.outcome RunError.WriteFault
+        → IsFrontOfAll (S.left source.old) (K.taken out.old) (K.taken out.new) }
     ensures quiet { result.status ≡ 0 → err.new ≡ err.old }
-    ensures told { IfErr result.outcome (λ e. AppendsFront (E.taken err.old) (E.taken err.new) (line_of e)) }
+    ensures told { IfErr result.outcome (λ e.
+        AppendsFront (E.taken err.old) (E.taken err.new) (line_of e)) }
     ensures told_whole { IfErr result.outcome (λ e. ¬ (Rose (E.faults err.old) (E.faults err.new))
         → Appends (E.taken err.old) (E.taken err.new) (line_of e)) }
 
-    // With no words and no fault of the source, what it has left decides the status, unless memory ends: a text
-    // within the limit, if `out` has no fault either, bytes within the limit that are no text, and more bytes.
+    // With no words and no fault of the source, what it has left decides the status, unless memory
+    // ends: a text within the limit, if `out` has no fault either, bytes within the limit that are
+    // no text, and more bytes.
     ensures complete { IfSome (S.left source.old) (λ bytes. IsText bytes
         → IsUndisturbed (length words.now) (S.faults source.old) (S.faults source.new)
         → ¬ (Rose (K.faults out.old) (K.faults out.new)) → (result.status ≡ 0) ⊎ (result.status ≡ 6)) }

@@ -35,7 +35,8 @@ impl<R: Read> Source for ReadSource<R> {
         ensures count { MatchResult result (λ _. self.new.faults ≡ self.old.faults)
             (λ _. self.new.faults ≡ next_count self.old.faults) }
         // What is answered is what the reader gave, where the reader tells its bytes.
-        ensures reader { ReadConsumes (R.remaining self.old.reader) (R.remaining self.new.reader) result into.new }
+        ensures reader { ReadConsumes (R.remaining self.old.reader) (R.remaining self.new.reader)
+            result into.new }
     {
         match self.reader.read(into) {
             Ok(count) => Ok(count),
@@ -47,8 +48,8 @@ impl<R: Read> Source for ReadSource<R> {
     }
 }
 
-/// A sink over a writer of std, flushed at each write, which tells no bytes. Each error of the writer, and
-/// each write that takes nothing of a nonempty piece, counts as a fault.
+/// A sink over a writer of std, flushed at each write, which tells no bytes. Each error of the
+/// writer, and each write that takes nothing of a nonempty piece, counts as a fault.
 #[derive(Drop)]
 pub struct WriteSink<W> {
     writer: W,
@@ -69,7 +70,8 @@ impl<W: Write> WriteSink<W> {
 fn write_flushed<W: Write>(writer: &mut W, piece: &[u8]) -> Result<usize, Failed>
     ensures bound { WritesAtMost result piece.now }
     ensures some { IfOk result (λ n. 0 < length piece.now → 0 < n) }
-    ensures bytes { IfOk result (λ n. Appends (W.contents writer.old) (W.contents writer.new) (take n piece.now)) }
+    ensures bytes { IfOk result (λ n.
+        Appends (W.contents writer.old) (W.contents writer.new) (take n piece.now)) }
 {
     let Ok(count) = writer.write(piece) else {
         return Err(Failed);

@@ -17,15 +17,17 @@ const CHUNK: usize = 65536;
 
 /// Reads a source to its end, and answers the bytes, of which there are at most `limit`.
 ///
-/// `ReadFault` comes only where the source failed, and `Front(TooLong)` exactly where `limit + 1` bytes were
-/// taken; more are never taken. Want of memory is the only other refusal. Each turn takes at least one byte,
-/// ends the reading or ends the call.
+/// `ReadFault` comes only where the source failed, and `Front(TooLong)` exactly where `limit + 1`
+/// bytes were taken; more are never taken. Want of memory is the only other refusal. Each turn
+/// takes at least one byte, ends the reading or ends the call.
 pub fn read_all<S: Source>(alloc: Global, source: &mut S, limit: u64) -> Result<Vec<u8>, RunError>
     requires { limit ≤ LIMIT }
-    ensures bytes { IfOk result (λ bytes. Consumes (S.left source.old) (S.left source.new) bytes.items) }
+    ensures bytes { IfOk result (λ bytes.
+        Consumes (S.left source.old) (S.left source.new) bytes.items) }
     ensures end { OnOk result (IsAtEnd (S.left source.new)) }
     ensures within { IfOk result (λ bytes. length bytes.items ≤ limit) }
-    ensures read_fault { IsErrOf result RunError.ReadFault → Rose (S.faults source.old) (S.faults source.new) }
+    ensures read_fault { IsErrOf result RunError.ReadFault
+        → Rose (S.faults source.old) (S.faults source.new) }
     ensures too_long { IsErrOf result (RunError.Front FrontError.TooLong)
         → TakesExactly (S.left source.old) (S.left source.new) (limit + 1) }
     ensures not_too_long { result ≢ Err (RunError.Front FrontError.TooLong)
@@ -52,10 +54,12 @@ fn read_by<S: Source>(
     limit: u64,
 ) -> Result<Vec<u8>, RunError>
     requires { (0 < length chunk.old) × (limit ≤ LIMIT) }
-    ensures bytes { IfOk result (λ bytes. Consumes (S.left source.old) (S.left source.new) bytes.items) }
+    ensures bytes { IfOk result (λ bytes.
+        Consumes (S.left source.old) (S.left source.new) bytes.items) }
     ensures end { OnOk result (IsAtEnd (S.left source.new)) }
     ensures within { IfOk result (λ bytes. length bytes.items ≤ limit) }
-    ensures read_fault { IsErrOf result RunError.ReadFault → Rose (S.faults source.old) (S.faults source.new) }
+    ensures read_fault { IsErrOf result RunError.ReadFault
+        → Rose (S.faults source.old) (S.faults source.new) }
     ensures too_long { IsErrOf result (RunError.Front FrontError.TooLong)
         → TakesExactly (S.left source.old) (S.left source.new) (limit + 1) }
     ensures not_too_long { result ≢ Err (RunError.Front FrontError.TooLong)

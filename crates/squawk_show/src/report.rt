@@ -15,7 +15,8 @@ const FEW: usize = 16384;
 // The bytes of a line, as it is on average.
 const USUAL: usize = 34;
 
-// Appends the line of a step, if it has one, and answers the depth behind it, and the digits of the last end.
+// Appends the line of a step, if it has one, and answers the depth behind it, and the digits of the
+// last end.
 #[inline(always)]
 fn push_step(
     out: &mut Vec<u8>,
@@ -62,7 +63,8 @@ fn make_digits(alloc: Global, steps: usize) -> Result<Option<Digits>, AllocError
 
 // The lines of the nodes and the leaves.
 fn make_step_lines(alloc: Global, parse: &Parse) -> Result<Vec<u8>, AllocError>
-    ensures { IfOk result (λ text. text.items ≡ step_lines 0 parse.now.steps (ranges parse.now.steps)) }
+    ensures { IfOk result (λ text. text.items
+        ≡ step_lines 0 parse.now.steps (ranges parse.now.steps)) }
 {
     let steps = parse.steps().len();
     let digits = make_digits(alloc, steps)?;

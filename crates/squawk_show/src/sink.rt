@@ -14,10 +14,11 @@ pub trait Sink {
     /// How often it has failed, up to the last value of a `u64`.
     ghost faults: { Self → ℕ };
 
-    /// Takes bytes from the front of a piece, and answers how many: at least one of a nonempty piece.
+    /// Takes bytes from the front of a piece, and answers how many: at least one of a nonempty
+    /// piece.
     ///
-    /// `Failed` has taken nothing, where the sink tells its bytes, and comes only where the count of faults
-    /// rose in this call or stands at its last value.
+    /// `Failed` has taken nothing, where the sink tells its bytes, and comes only where the count
+    /// of faults rose in this call or stands at its last value.
     fn write(&mut self, piece: &[u8]) -> Result<usize, Failed>
         ensures bound { WritesAtMost result piece.now }
         ensures some { IfOk result (λ n. 0 < length piece.now → 0 < n) }

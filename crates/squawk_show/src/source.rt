@@ -18,8 +18,8 @@ pub trait Source {
 
     /// Puts the next bytes at the front of a buffer, and answers how many.
     ///
-    /// `Ok(0)` for a nonempty buffer is the end of the input. `Failed` has taken nothing, and comes only
-    /// where the count of faults rose in this call or stands at its last value.
+    /// `Ok(0)` for a nonempty buffer is the end of the input. `Failed` has taken nothing, and comes
+    /// only where the count of faults rose in this call or stands at its last value.
     fn read(&mut self, into: &mut [u8]) -> Result<usize, Failed>
         ensures bound { ReadsAtMost result into.new }
         ensures bytes { ReadConsumes (left self.old) (left self.new) result into.new }

@@ -33,7 +33,8 @@ fn refusal_line(error: RunError) -> LineBuffer
     line
 }
 
-/// Writes the line that tells of a refusal, without memory. Where the sink fails, a front of it was written.
+/// Writes the line that tells of a refusal, without memory. Where the sink fails, a front of it was
+/// written.
 pub(crate) fn tell<E: Sink>(err: &mut E, error: RunError)
     ensures front { AppendsFront (E.taken err.old) (E.taken err.new) (line_of error) }
     ensures whole { ¬ (Rose (E.faults err.old) (E.faults err.new))

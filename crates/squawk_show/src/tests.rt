@@ -1,4 +1,5 @@
-//! What no clause says: the worked examples with ample memory, a fault of each stream, and std's streams.
+//! What no clause says: the worked examples with ample memory, a fault of each stream, and std's
+//! streams.
 use crate::{MemorySink, MemorySource, ReadSource, RunError, Sink, WriteSink, read_all, run};
 use squawk_events::FrontError;
 use std::test::Fail;
@@ -10,9 +11,10 @@ const SELECT_ONE: &[u8] = b"0 N source file 0..9\n\
     2 T integer literal 7..8\n\
     2 T `;` 8..9\n";
 
-// The bytes that a source has, the most that it gives in a call and the calls that fail; the room of the output,
-// the most that it takes in a call and the calls that fail; the most that the sink of lines takes in a call and
-// the calls that fail; and the status, the output and the line that are wanted.
+// The bytes that a source has, the most that it gives in a call and the calls that fail; the room
+// of the output, the most that it takes in a call and the calls that fail; the most that the sink
+// of lines takes in a call and the calls that fail; and the status, the output and the line that
+// are wanted.
 #[derive(Clone, Copy)]
 struct Row<'a> {
     input: &'a [u8],
@@ -73,7 +75,8 @@ fn runs_without_words(rt: HostRuntime) -> Result<(), Fail> {
     let read_line = b"cannot read the input\n";
     let write_line = b"cannot write the output\n";
     let rows = [
-        // empty_text, select_one, lone_command, commands_in_statement, semicolon_in_group, and a mark before a semicolon
+        // empty_text, select_one, lone_command, commands_in_statement, semicolon_in_group, and a
+        // mark before a semicolon
         Row::new(b"", 0, b"0 N source file 0..0\n", b""),
         Row::new(b"select 1;", 0, SELECT_ONE, b""),
         Row::new(b" ;\n\\dt\n", 0, lone_command, b""),
@@ -117,7 +120,8 @@ fn runs_without_words(rt: HostRuntime) -> Result<(), Fail> {
     Ok(())
 }
 
-// Four calls read the input, and three write the report: a fault at each of them is answered, and at none after.
+// Four calls read the input, and three write the report: a fault at each of them is answered, and
+// at none after.
 #[test]
 fn a_fault_at_each_call(rt: HostRuntime) -> Result<(), Fail> {
     for (failing, read_status, write_status, written) in [

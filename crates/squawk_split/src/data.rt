@@ -21,7 +21,8 @@ fn end_line(text: &[u8]) -> usize
     0
 }
 
-/// The length of the inline data that begins the text: up to the end of the first end line, or else all of it.
+/// The length of the inline data that begins the text: up to the end of the first end line, or else
+/// all of it.
 pub(crate) fn data_len(text: &[u8]) -> usize
     ensures value { result ≡ data_len text.now }
     ensures within { result ≤ length text.now }

@@ -13,7 +13,7 @@ use Rattle.squawk_lexer.specs.declared.token.Token.{Token}
 use Rattle.squawk_lexer.specs.declared.token.Strings.{Strings}
 use Rattle.squawk_lexer.specs.Text.{utf8_len}
 use Rattle.squawk_lexer.specs.Token.{lexeme_at, token_at}
-use Rattle.squawk_lexer.specs.Cut.{is_trivia, form_of}
+use Rattle.squawk_lexer.specs.Cut.{is_trivia}
 use Rattle.squawk_squeeze.specs.Squeezed.{Piece, piece, pieces_from, Open, widened, gap, squeezed_pieces, joined, left, gap_bytes, gap_len}
 use Rattle.squawk_squeeze.proofs.SqueezeLaws.{pieces_first}
 
@@ -23,20 +23,33 @@ chars_none (b ∷ bs) h = absurd (omega arith)
 
 length_encodes : (cs : List ℕ) → length (encode_utf8_all cs) ≡ utf8_len cs
 length_encodes [] = refl
-length_encodes (c ∷ cs) = length-append (encode_utf8 c) (encode_utf8_all cs) ∙ omega (arith, length-encode c, length_encodes cs, sum_by-cons len_utf8 c cs)
+length_encodes (c ∷ cs) = length-append (encode_utf8 c) (encode_utf8_all cs)
+    ∙ omega (arith, length-encode c, length_encodes cs, sum_by-cons len_utf8 c cs)
 
 -- the bytes of the first k characters, and the characters behind them
-part_bytes : (bs : List ℕ) (k : ℕ) → IsUtf8 bs → take (utf8_len (take k (chars bs))) bs ≡ encode_utf8_all (take k (chars bs))
+part_bytes : (bs : List ℕ) (k : ℕ) → IsUtf8 bs
+    → take (utf8_len (take k (chars bs))) bs ≡ encode_utf8_all (take k (chars bs))
 part_bytes bs k utf8 =
     let front = take k (chars bs) in
-    let both : bs ≡ encode_utf8_all front ++ encode_utf8_all (drop k (chars bs)) = sym (encodes-chars bs utf8) ∙ ap encode_utf8_all (sym (take-append-drop k (chars bs))) ∙ encodes-append front (drop k (chars bs)) in
-    ap (take (utf8_len front)) both ∙ ap (λ n. take n (encode_utf8_all front ++ encode_utf8_all (drop k (chars bs)))) (sym (length_encodes front)) ∙ take-append_seam (encode_utf8_all front) (encode_utf8_all (drop k (chars bs)))
+    let both : bs ≡ encode_utf8_all front ++ encode_utf8_all (drop k (chars bs)) =
+    sym (encodes-chars bs utf8) ∙ ap encode_utf8_all (sym (take-append-drop k (chars bs)))
+    ∙ encodes-append front (drop k (chars bs)) in
+    ap (take (utf8_len front)) both
+    ∙ ap (λ n. take n (encode_utf8_all front ++ encode_utf8_all (drop k (chars bs))))
+    (sym (length_encodes front))
+    ∙ take-append_seam (encode_utf8_all front) (encode_utf8_all (drop k (chars bs)))
 
-rest_bytes : (bs : List ℕ) (k : ℕ) → IsUtf8 bs → drop (utf8_len (take k (chars bs))) bs ≡ encode_utf8_all (drop k (chars bs))
+rest_bytes : (bs : List ℕ) (k : ℕ) → IsUtf8 bs
+    → drop (utf8_len (take k (chars bs))) bs ≡ encode_utf8_all (drop k (chars bs))
 rest_bytes bs k utf8 =
     let front = take k (chars bs) in
-    let both : bs ≡ encode_utf8_all front ++ encode_utf8_all (drop k (chars bs)) = sym (encodes-chars bs utf8) ∙ ap encode_utf8_all (sym (take-append-drop k (chars bs))) ∙ encodes-append front (drop k (chars bs)) in
-    ap (drop (utf8_len front)) both ∙ ap (λ n. drop n (encode_utf8_all front ++ encode_utf8_all (drop k (chars bs)))) (sym (length_encodes front)) ∙ drop-append_seam (encode_utf8_all front) (encode_utf8_all (drop k (chars bs)))
+    let both : bs ≡ encode_utf8_all front ++ encode_utf8_all (drop k (chars bs)) =
+    sym (encodes-chars bs utf8) ∙ ap encode_utf8_all (sym (take-append-drop k (chars bs)))
+    ∙ encodes-append front (drop k (chars bs)) in
+    ap (drop (utf8_len front)) both
+    ∙ ap (λ n. drop n (encode_utf8_all front ++ encode_utf8_all (drop k (chars bs))))
+    (sym (length_encodes front))
+    ∙ drop-append_seam (encode_utf8_all front) (encode_utf8_all (drop k (chars bs)))
 
 -- ---- a step over one token
 
@@ -51,12 +64,18 @@ some_chars bs utf8 h = by (chars bs) (encodes-chars bs utf8)
     by [] e = absurd (let none : length bs ≡ 0 = ap length (sym e) in omega arith)
     by (c ∷ cs) e = omega arith
 
-record IsStep (strings : Strings) (text : List ℕ) (at : ℕ) (t : Token) (part : List ℕ) : Type 0 where
-  pieces : pieces_from strings 0 (at == 0) (chars (drop at text)) ≡ piece t.kind (chars part) ∷ pieces_from strings 0 (at + t.len == 0) (chars (drop (at + t.len) text))
-  spelt : encode_utf8_all (chars part) ≡ part
+record IsStep (strings : Strings) (text : List ℕ) (at : ℕ) (t : Token) (part : List ℕ) : Type 0
+  where
+    pieces : pieces_from strings 0 (at == 0) (chars (drop at text))
+        ≡ piece t.kind (chars part) ∷ pieces_from strings 0 (at + t.len == 0)
+        (chars (drop (at + t.len) text))
+    spelt : encode_utf8_all (chars part) ≡ part
 
-step : TokensProgress → (strings : Strings) (text : List ℕ) (at : ℕ) (t : Token) (part : List ℕ) → IsUtf8 text → IsCharBoundary text at → at < length text
-    → IsCharBoundary text (at + t.len) → 0 < t.len → t ≡ token_at strings (at == 0) (chars (drop at text)) → part ≡ take t.len (drop at text) → IsUtf8 part
+step : TokensProgress → (strings : Strings) (text : List ℕ) (at : ℕ) (t : Token) (part : List ℕ)
+    → IsUtf8 text → IsCharBoundary text at → at < length text
+    → IsCharBoundary text (at + t.len) → 0 < t.len
+    → t ≡ token_at strings (at == 0) (chars (drop at text)) → part ≡ take t.len (drop at text)
+    → IsUtf8 part
     → IsStep strings text at t part
 step some strings text at t part utf8 here within there long is e part_utf8 =
     let bs = drop at text in
@@ -66,59 +85,88 @@ step some strings text at t part utf8 here within there long is e part_utf8 =
     let bs_utf8 : IsUtf8 bs = IsUtf8-drop text at utf8 here in
     let len : t.len ≡ utf8_len (take k u) = ap (λ (x : Token). x.len) is in
     let kind : t.kind ≡ (lexeme_at strings s u).kind = ap (λ (x : Token). x.kind) is in
-    let front : take k u ≡ chars part = chars_from_encodes (take k u) part part_utf8 (sym (e ∙ ap (λ n. take n bs) len ∙ part_bytes bs k bs_utf8)) in
-    let rest_is : encode_utf8_all (drop k u) ≡ drop (at + t.len) text = sym (sym (drop_on t.len at text) ∙ ap (λ n. drop n bs) len ∙ rest_bytes bs k bs_utf8) in
-    let rest : drop k u ≡ chars (drop (at + t.len) text) = chars_from_encodes (drop k u) (drop (at + t.len) text) (IsUtf8-drop text (at + t.len) utf8 there) rest_is in
+    let front : take k u ≡ chars part =
+    chars_from_encodes (take k u) part part_utf8 (sym (e ∙ ap (λ n. take n bs) len
+    ∙ part_bytes bs k bs_utf8)) in
+    let rest_is : encode_utf8_all (drop k u) ≡ drop (at + t.len) text =
+    sym (sym (drop_on t.len at text) ∙ ap (λ n. drop n bs) len ∙ rest_bytes bs k bs_utf8) in
+    let rest : drop k u ≡ chars (drop (at + t.len) text) =
+    chars_from_encodes (drop k u) (drop (at + t.len) text)
+    (IsUtf8-drop text (at + t.len) utf8 there) rest_is in
     let more : (at + t.len == 0) ≡ false = grind (arith, nat_tests) in
     let full : 1 ≤ length u = some_chars bs bs_utf8 (omega (arith, length-drop at text)) in
     record {
       pieces = pieces_first some strings s u full
-          ∙ ap (λ y. piece (lexeme_at strings s u).kind y ∷ pieces_from strings 0 false (drop k u)) front
+          ∙ ap (λ y. piece (lexeme_at strings s u).kind y
+          ∷ pieces_from strings 0 false (drop k u)) front
           ∙ ap (λ y. piece y (chars part) ∷ pieces_from strings 0 false (drop k u)) (sym kind)
           ∙ ap (λ y. piece t.kind (chars part) ∷ pieces_from strings 0 false y) rest
-          ∙ ap (λ b. piece t.kind (chars part) ∷ pieces_from strings 0 b (chars (drop (at + t.len) text))) (sym more);
+          ∙ ap (λ b. piece t.kind (chars part)
+          ∷ pieces_from strings 0 b (chars (drop (at + t.len) text))) (sym more);
       spelt = encodes-chars part part_utf8;
     }
 
 -- a token of a gap widens it
-pub left_gap : TokensProgress → (strings : Strings) (text : List ℕ) (at : ℕ) (t : Token) (part : List ℕ) → IsUtf8 text → IsCharBoundary text at → at < length text
-    → IsCharBoundary text (at + t.len) → 0 < t.len → t ≡ token_at strings (at == 0) (chars (drop at text)) → part ≡ take t.len (drop at text) → IsUtf8 part
-    → (so_far : Open) → is_trivia (form_of t.kind) ≡ true → left strings so_far text at ≡ left strings (widened so_far (chars part)) text (at + t.len)
+pub left_gap : TokensProgress
+    → (strings : Strings) (text : List ℕ) (at : ℕ) (t : Token) (part : List ℕ) → IsUtf8 text
+    → IsCharBoundary text at → at < length text
+    → IsCharBoundary text (at + t.len) → 0 < t.len
+    → t ≡ token_at strings (at == 0) (chars (drop at text)) → part ≡ take t.len (drop at text)
+    → IsUtf8 part
+    → (so_far : Open) → is_trivia t.kind ≡ true
+    → left strings so_far text at ≡ left strings (widened so_far (chars part)) text (at + t.len)
 left_gap some strings text at t part utf8 here within there long is e part_utf8 so_far gap_is =
     let x = step some strings text at t part utf8 here within there long is e part_utf8 in
     ap (λ ps. joined (squeezed_pieces so_far ps)) x.pieces ∙ rw gap_is refl
 
-gap_spelt : (so_far : Open) (p : Piece) (ps : List Piece) → encode_utf8_all (joined (gap so_far (p ∷ ps))) ≡ gap_bytes so_far ++ (encode_utf8_all p.text ++ encode_utf8_all (joined ps))
+gap_spelt : (so_far : Open) (p : Piece) (ps : List Piece)
+    → encode_utf8_all (joined (gap so_far (p ∷ ps)))
+    ≡ gap_bytes so_far ++ (encode_utf8_all p.text ++ encode_utf8_all (joined ps))
 unfolding encode_utf8
 gap_spelt None p ps = encodes-append p.text (joined ps)
 gap_spelt (Some true) p ps = ap (λ w. 10 ∷ w) (encodes-append p.text (joined ps))
 gap_spelt (Some false) p ps = ap (λ w. 32 ∷ w) (encodes-append p.text (joined ps))
 
 -- any other token is written behind it
-pub left_kept : TokensProgress → (strings : Strings) (text : List ℕ) (at : ℕ) (t : Token) (part : List ℕ) → IsUtf8 text → IsCharBoundary text at → at < length text
-    → IsCharBoundary text (at + t.len) → 0 < t.len → t ≡ token_at strings (at == 0) (chars (drop at text)) → part ≡ take t.len (drop at text) → IsUtf8 part
-    → (so_far : Open) → is_trivia (form_of t.kind) ≡ false → encode_utf8_all (left strings so_far text at) ≡ gap_bytes so_far ++ (part ++ encode_utf8_all (left strings None text (at + t.len)))
+pub left_kept : TokensProgress
+    → (strings : Strings) (text : List ℕ) (at : ℕ) (t : Token) (part : List ℕ) → IsUtf8 text
+    → IsCharBoundary text at → at < length text
+    → IsCharBoundary text (at + t.len) → 0 < t.len
+    → t ≡ token_at strings (at == 0) (chars (drop at text)) → part ≡ take t.len (drop at text)
+    → IsUtf8 part
+    → (so_far : Open) → is_trivia t.kind ≡ false
+    → encode_utf8_all (left strings so_far text at)
+    ≡ gap_bytes so_far ++ (part ++ encode_utf8_all (left strings None text (at + t.len)))
 left_kept some strings text at t part utf8 here within there long is e part_utf8 so_far gap_is =
     let x = step some strings text at t part utf8 here within there long is e part_utf8 in
-    let rest = squeezed_pieces None (pieces_from strings 0 (at + t.len == 0) (chars (drop (at + t.len) text))) in
+    let rest = squeezed_pieces None (pieces_from strings 0 (at + t.len == 0)
+    (chars (drop (at + t.len) text))) in
     ap (λ ps. encode_utf8_all (joined (squeezed_pieces so_far ps))) x.pieces
-    ∙ rw gap_is (gap_spelt so_far (piece t.kind (chars part)) rest ∙ ap (λ w. gap_bytes so_far ++ (w ++ encode_utf8_all (joined rest))) x.spelt)
+    ∙ rw gap_is (gap_spelt so_far (piece t.kind (chars part)) rest
+    ∙ ap (λ w. gap_bytes so_far ++ (w ++ encode_utf8_all (joined rest))) x.spelt)
 
 -- at the end, the gap is left
-pub left_end : (strings : Strings) (text : List ℕ) (at : ℕ) (so_far : Open) → length text ≤ at → encode_utf8_all (left strings so_far text at) ≡ gap_bytes so_far
+pub left_end : (strings : Strings) (text : List ℕ) (at : ℕ) (so_far : Open) → length text ≤ at
+    → encode_utf8_all (left strings so_far text at) ≡ gap_bytes so_far
 unfolding encode_utf8
-left_end strings text at so_far h = by (chars (drop at text)) (chars_none (drop at text) (omega (arith, length-drop at text)))
+left_end strings text at so_far h =
+    by (chars (drop at text)) (chars_none (drop at text) (omega (arith, length-drop at text)))
   where
     alone : (o : Open) → encode_utf8_all (joined (gap o [])) ≡ gap_bytes o
     alone None = refl
     alone (Some true) = refl
     alone (Some false) = refl
 
-    by : (u : List ℕ) → u ≡ [] → encode_utf8_all (joined (squeezed_pieces so_far (pieces_from strings 0 (at == 0) u))) ≡ gap_bytes so_far
-    by u e = ap (λ w. encode_utf8_all (joined (squeezed_pieces so_far (pieces_from strings 0 (at == 0) w)))) e ∙ alone so_far
+    by : (u : List ℕ) → u ≡ []
+        → encode_utf8_all (joined (squeezed_pieces so_far (pieces_from strings 0 (at == 0) u)))
+        ≡ gap_bytes so_far
+    by u e = ap (λ w.
+        encode_utf8_all (joined (squeezed_pieces so_far (pieces_from strings 0 (at == 0) w)))) e
+        ∙ alone so_far
 
 -- the characters of an answer that has these bytes
-pub answer_chars : (out : List ℕ) (cs : List ℕ) → IsUtf8 out → out ≡ encode_utf8_all cs → cs ≡ chars out
+pub answer_chars : (out : List ℕ) (cs : List ℕ) → IsUtf8 out → out ≡ encode_utf8_all cs
+    → cs ≡ chars out
 answer_chars out cs utf8 e = chars_from_encodes cs out utf8 (sym e)
 
 pub gap_bytes_len : (so_far : Open) → length (gap_bytes so_far) ≡ gap_len so_far
@@ -129,17 +177,25 @@ pub gap_len_one : (so_far : Open) → gap_len so_far ≤ 1
 gap_len_one None = omega arith
 gap_len_one (Some b) = omega arith
 
-pub put_kept : (new mid out gap part rest whole : List ℕ) → new ≡ mid ++ part → mid ≡ out ++ gap → whole ≡ gap ++ (part ++ rest) → new ++ rest ≡ out ++ whole
+pub put_kept : (new mid out gap part rest whole : List ℕ) → new ≡ mid ++ part → mid ≡ out ++ gap
+    → whole ≡ gap ++ (part ++ rest) → new ++ rest ≡ out ++ whole
 put_kept new mid out gap part rest whole e f g =
-    ap (λ w. w ++ rest) (e ∙ ap (λ w. w ++ part) f) ∙ append_assoc (out ++ gap) part rest ∙ append_assoc out gap (part ++ rest) ∙ ap (λ w. out ++ w) (sym g)
+    ap (λ w. w ++ rest) (e ∙ ap (λ w. w ++ part) f) ∙ append_assoc (out ++ gap) part rest
+    ∙ append_assoc out gap (part ++ rest) ∙ ap (λ w. out ++ w) (sym g)
 
-pub put_len : (new mid out gap part : List ℕ) → new ≡ mid ++ part → mid ≡ out ++ gap → length new ≡ length out + length gap + length part
+pub put_len : (new mid out gap part : List ℕ) → new ≡ mid ++ part → mid ≡ out ++ gap
+    → length new ≡ length out + length gap + length part
 put_len new mid out gap part e f =
-    ap length e ∙ length-append mid part ∙ ap (λ w. length w + length part) f ∙ ap (λ n. n + length part) (length-append out gap)
+    ap length e ∙ length-append mid part ∙ ap (λ w. length w + length part) f
+    ∙ ap (λ n. n + length part) (length-append out gap)
 
-pub put_last : (strings : Strings) (text : List ℕ) (at : ℕ) (so_far : Open) (new out whole : List ℕ) → new ≡ out ++ gap_bytes so_far → length text ≤ at
+pub put_last : (strings : Strings) (text : List ℕ) (at : ℕ) (so_far : Open) (new out whole : List ℕ)
+    → new ≡ out ++ gap_bytes so_far → length text ≤ at
     → out ++ encode_utf8_all (left strings so_far text at) ≡ whole → new ≡ whole
-put_last strings text at so_far new out whole e h inv = e ∙ ap (λ w. out ++ w) (sym (left_end strings text at so_far h)) ∙ inv
+put_last strings text at so_far new out whole e h inv = e
+    ∙ ap (λ w. out ++ w) (sym (left_end strings text at so_far h)) ∙ inv
 
-pub part_len : (part text : List ℕ) (at n : ℕ) → part ≡ take n (drop at text) → at + n ≤ length text → length part ≡ n
-part_len part text at n e h = ap length e ∙ length-take-le n (drop at text) (omega (arith, length-drop at text))
+pub part_len : (part text : List ℕ) (at n : ℕ) → part ≡ take n (drop at text) → at + n ≤ length text
+    → length part ≡ n
+part_len part text at n e h = ap length e
+    ∙ length-take-le n (drop at text) (omega (arith, length-drop at text))

@@ -10,7 +10,7 @@ use Rattle.squawk_lexer.specs.declared.token.Strings.{Strings}
 use Rattle.squawk_lexer.specs.Kind.{Lexeme, lexeme_until}
 use Rattle.squawk_lexer.specs.Classes.{is_whitespace, is_line_end}
 use Rattle.squawk_lexer.specs.Token.{token_form, lexeme_at}
-use Rattle.squawk_lexer.specs.Cut.{is_trivia, form_of}
+use Rattle.squawk_lexer.specs.Cut.{is_trivia}
 use Rattle.squawk_lexer.specs.Laws.{TokensProgress, TokensWithin}
 use Rattle.squawk_lexer.specs.LookAhead.{Agrees, LexemesLookAhead}
 use Rattle.squawk_lexer.specs.Gaps.{begins_gap, GapsAreSeen, IsGap, TokensStay, TokensStayBefore}
@@ -27,7 +27,8 @@ pub record LexerLaws : Type 0 where
 
 -- ---- pieces
 
-pieces_inside : (strings : Strings) (n : ℕ) (u : List ℕ) → pieces_from strings n false u ≡ pieces_from strings 0 false (drop n u)
+pieces_inside : (strings : Strings) (n : ℕ) (u : List ℕ)
+    → pieces_from strings n false u ≡ pieces_from strings 0 false (drop n u)
 pieces_inside strings zero [] = refl
 pieces_inside strings (suc n) [] = refl
 pieces_inside strings zero (c ∷ cs) = refl
@@ -42,11 +43,14 @@ abbrev first_of : Lexeme → List ℕ → Piece
 first_of x u = piece x.kind (take x.end u)
 
 pub pieces_first : TokensProgress → (strings : Strings) (s : Bool) (u : List ℕ) → 1 ≤ length u
-    → pieces_from strings 0 s u ≡ first_of (lexeme_at strings s u) u ∷ pieces_from strings 0 false (drop (lexeme_at strings s u).end u)
+    → pieces_from strings 0 s u ≡ first_of (lexeme_at strings s u) u
+    ∷ pieces_from strings 0 false (drop (lexeme_at strings s u).end u)
 pieces_first more strings s [] h = absurd (omega arith)
 pieces_first more strings s (c ∷ cs) h =
-    ap (λ ps. first_of (lexeme_at strings s (c ∷ cs)) (c ∷ cs) ∷ ps) (pieces_inside strings ((lexeme_at strings s (c ∷ cs)).end - 1) cs
-    ∙ ap (pieces_from strings 0 false) (drop_end (lexeme_at strings s (c ∷ cs)).end c cs (more strings s (c ∷ cs) h)))
+    ap (λ ps. first_of (lexeme_at strings s (c ∷ cs)) (c ∷ cs)
+    ∷ ps) (pieces_inside strings ((lexeme_at strings s (c ∷ cs)).end - 1) cs
+    ∙ ap (pieces_from strings 0 false) (drop_end (lexeme_at strings s (c ∷ cs)).end c cs
+    (more strings s (c ∷ cs) h)))
 
 -- ---- lists of pieces
 
@@ -57,12 +61,16 @@ kept_gap (Some b) ps = refl
 
 pub kept_same : (so_far : Open) (ps : List Piece) → kept (squeezed_pieces so_far ps) ≡ kept ps
 kept_same so_far [] = kept_gap so_far []
-kept_same so_far (p ∷ ps) = by (is_gap p) refl (kept_same (widened so_far p.text) ps) (kept_same None ps)
+kept_same so_far (p ∷ ps) =
+    by (is_gap p) refl (kept_same (widened so_far p.text) ps) (kept_same None ps)
   where
-    by : (b : Bool) → is_gap p ≡ b → kept (squeezed_pieces (widened so_far p.text) ps) ≡ kept ps → kept (squeezed_pieces None ps) ≡ kept ps
-        → kept (cond b (squeezed_pieces (widened so_far p.text) ps) (gap so_far (p ∷ squeezed_pieces None ps))) ≡ cond b (kept ps) (p ∷ kept ps)
+    by : (b : Bool) → is_gap p ≡ b → kept (squeezed_pieces (widened so_far p.text) ps) ≡ kept ps
+        → kept (squeezed_pieces None ps) ≡ kept ps
+        → kept (cond b (squeezed_pieces (widened so_far p.text) ps)
+        (gap so_far (p ∷ squeezed_pieces None ps))) ≡ cond b (kept ps) (p ∷ kept ps)
     by true t more next = more
-    by false t more next = kept_gap so_far (p ∷ squeezed_pieces None ps) ∙ rw t (ap (λ qs. p ∷ qs) next)
+    by false t more next = kept_gap so_far (p ∷ squeezed_pieces None ps)
+        ∙ rw t (ap (λ qs. p ∷ qs) next)
 
 -- squeezed pieces are squeezed
 widened_gap : (b : Bool) → widened None (gap_char b ∷ []) ≡ Some b
@@ -70,24 +78,34 @@ widened_gap true = refl
 widened_gap false = refl
 
 -- no gap follows a gap
-pub squeezed_twice : (so_far : Open) (ps : List Piece) → squeezed_pieces None (squeezed_pieces so_far ps) ≡ squeezed_pieces so_far ps
+pub squeezed_twice : (so_far : Open) (ps : List Piece)
+    → squeezed_pieces None (squeezed_pieces so_far ps) ≡ squeezed_pieces so_far ps
 squeezed_twice None [] = refl
 squeezed_twice (Some b) [] = ap (λ o. gap o []) (widened_gap b)
-squeezed_twice so_far (p ∷ ps) = by (is_gap p) refl (squeezed_twice (widened so_far p.text) ps) (squeezed_twice None ps)
+squeezed_twice so_far (p ∷ ps) =
+    by (is_gap p) refl (squeezed_twice (widened so_far p.text) ps) (squeezed_twice None ps)
   where
-    next : (o : Open) → is_gap p ≡ false → squeezed_pieces None (squeezed_pieces None ps) ≡ squeezed_pieces None ps
+    next : (o : Open) → is_gap p ≡ false → squeezed_pieces None (squeezed_pieces None ps)
+        ≡ squeezed_pieces None ps
         → squeezed_pieces o (p ∷ squeezed_pieces None ps) ≡ gap o (p ∷ squeezed_pieces None ps)
     next o t e = rw t (ap (λ qs. gap o (p ∷ qs)) e)
 
-    to_gap : (o : Open) → is_gap p ≡ false → squeezed_pieces None (squeezed_pieces None ps) ≡ squeezed_pieces None ps
-        → squeezed_pieces None (gap o (p ∷ squeezed_pieces None ps)) ≡ gap o (p ∷ squeezed_pieces None ps)
+    to_gap : (o : Open) → is_gap p ≡ false → squeezed_pieces None (squeezed_pieces None ps)
+        ≡ squeezed_pieces None ps
+        → squeezed_pieces None (gap o (p ∷ squeezed_pieces None ps))
+        ≡ gap o (p ∷ squeezed_pieces None ps)
     to_gap None t e = next None t e
-    to_gap (Some b) t e = ap (λ o. squeezed_pieces o (p ∷ squeezed_pieces None ps)) (widened_gap b) ∙ next (Some b) t e
+    to_gap (Some b) t e = ap (λ o. squeezed_pieces o (p ∷ squeezed_pieces None ps)) (widened_gap b)
+        ∙ next (Some b) t e
 
-    by : (b : Bool) → is_gap p ≡ b → squeezed_pieces None (squeezed_pieces (widened so_far p.text) ps) ≡ squeezed_pieces (widened so_far p.text) ps
+    by : (b : Bool) → is_gap p ≡ b
+        → squeezed_pieces None (squeezed_pieces (widened so_far p.text) ps)
+        ≡ squeezed_pieces (widened so_far p.text) ps
         → squeezed_pieces None (squeezed_pieces None ps) ≡ squeezed_pieces None ps
-        → squeezed_pieces None (cond b (squeezed_pieces (widened so_far p.text) ps) (gap so_far (p ∷ squeezed_pieces None ps)))
-        ≡ cond b (squeezed_pieces (widened so_far p.text) ps) (gap so_far (p ∷ squeezed_pieces None ps))
+        → squeezed_pieces None (cond b (squeezed_pieces (widened so_far p.text) ps)
+        (gap so_far (p ∷ squeezed_pieces None ps)))
+        ≡ cond b (squeezed_pieces (widened so_far p.text) ps)
+        (gap so_far (p ∷ squeezed_pieces None ps))
     by true t more e = more
     by false t more e = to_gap so_far t e
 
@@ -117,9 +135,19 @@ opens_gap b (p ∷ ps) = by (is_gap p) refl (opens_gap (b || list_any is_line_en
     more : Bool
     more = b || list_any is_line_end p.text
 
-    by : (c : Bool) → is_gap p ≡ c → GapFirst more (joined (squeezed_pieces (Some more) ps)) → GapFirst b (joined (cond c (squeezed_pieces (Some more) ps) (gap (Some b) (p ∷ squeezed_pieces None ps))))
-    by true t g = weaken b more (joined (squeezed_pieces (Some more) ps)) (or_true b (list_any is_line_end p.text)) g
-    by false t g = record { char = b; rest = joined (p ∷ squeezed_pieces None ps); is = refl; keeps = λ e. e }
+    by : (c : Bool) → is_gap p ≡ c → GapFirst more (joined (squeezed_pieces (Some more) ps))
+        → GapFirst b (joined (cond c (squeezed_pieces (Some more) ps)
+        (gap (Some b) (p ∷ squeezed_pieces None ps))))
+    by true t g =
+        weaken b more (joined (squeezed_pieces (Some more) ps))
+        (or_true b (list_any is_line_end p.text)) g
+    by false t g = record {
+      char = b;
+      rest = joined (p ∷ squeezed_pieces None ps);
+      is =
+          refl;
+      keeps = λ e. e;
+    }
 
 -- ---- what a squeezed text begins with
 
@@ -132,16 +160,19 @@ none_behind strings [] h = refl
 none_behind strings (c ∷ cs) h = absurd (omega arith)
 
 abbrev gap_of : Lexeme → Bool
-gap_of x = is_trivia (form_of x.kind)
+gap_of x = is_trivia x.kind
 
 -- the first token is kept, or a gap begins
 abbrev Head : Strings → List ℕ → Type 0
 Head strings u =
     ((gap_of (lexeme_at strings false u) ≡ false)
-    × (behind strings u ≡ take (lexeme_at strings false u).end u ++ behind strings (drop (lexeme_at strings false u).end u)))
-    ⊎ ((gap_of (lexeme_at strings false u) ≡ true) × GapFirst (is_line_end (get_or u 0 0)) (behind strings u))
+    × (behind strings u ≡ take (lexeme_at strings false u).end u
+    ++ behind strings (drop (lexeme_at strings false u).end u)))
+    ⊎ ((gap_of (lexeme_at strings false u) ≡ true)
+    × GapFirst (is_line_end (get_or u 0 0)) (behind strings u))
 
-first_in : (u : List ℕ) (k : ℕ) → 1 ≤ k → is_line_end (get_or u 0 0) ≡ true → list_any is_line_end (take k u) ≡ true
+first_in : (u : List ℕ) (k : ℕ) → 1 ≤ k → is_line_end (get_or u 0 0) ≡ true
+    → list_any is_line_end (take k u) ≡ true
 first_in [] k h t = absurd (false≢true t)
 first_in (c ∷ cs) zero h t = absurd (omega arith)
 first_in (c ∷ cs) (suc k) h t = rw t refl
@@ -161,14 +192,21 @@ head laws strings u some = by (gap_of x) refl
     by : (b : Bool) → gap_of x ≡ b → Head strings u
     by true t =
         let b = list_any is_line_end (take x.end u) in
-        let is : behind strings u ≡ joined (squeezed_pieces (Some b) rest) = ap (λ ps. joined (squeezed_pieces None ps)) first ∙ rw t refl in
-        inr (t, subst (GapFirst (is_line_end (get_or u 0 0))) (sym is) (weaken (is_line_end (get_or u 0 0)) b _ (first_in u x.end (laws.some strings false u some)) (opens_gap b rest)))
+        let is : behind strings u ≡ joined (squeezed_pieces (Some b) rest) =
+        ap (λ ps. joined (squeezed_pieces None ps)) first ∙ rw t refl in
+        inr (
+          t,
+          subst (GapFirst (is_line_end (get_or u 0 0))) (sym is)
+              (weaken (is_line_end (get_or u 0 0)) b _
+              (first_in u x.end (laws.some strings false u some)) (opens_gap b rest)),
+        )
     by false t = inl (t, ap (λ ps. joined (squeezed_pieces None ps)) first ∙ rw t refl)
 
 -- ---- a token that is kept stays
 
 glue : (k n : ℕ) (u x w : List ℕ) → w ≡ take n (drop k u) ++ x → take k u ++ w ≡ take (k + n) u ++ x
-glue k n u x w e = ap (λ y. take k u ++ y) e ∙ sym (append_assoc (take k u) (take n (drop k u)) x) ∙ ap (λ y. y ++ x) (sym (take-add k n u))
+glue k n u x w e = ap (λ y. take k u ++ y) e ∙ sym (append_assoc (take k u) (take n (drop k u)) x)
+    ∙ ap (λ y. y ++ x) (sym (take-add k n u))
 
 agrees_on : (k m : ℕ) (u x : List ℕ) → k + 2 ≤ m → m ≤ length u → Agrees (k + 2) u (take m u ++ x)
 agrees_on k m u x h within =
@@ -178,8 +216,10 @@ agrees_on k m u x h within =
       same = take-append-le (k + 2) (take m u) x (omega (arith, len)) ∙ take-take (k + 2) m u h;
     }
 
-stays : LexerLaws → (strings : Strings) (s : Bool) (u : List ℕ) → 1 ≤ length u → gap_of (lexeme_at strings s u) ≡ false
-    → lexeme_at strings s (take (lexeme_at strings s u).end u ++ behind strings (drop (lexeme_at strings s u).end u)) ≡ lexeme_at strings s u
+stays : LexerLaws → (strings : Strings) (s : Bool) (u : List ℕ) → 1 ≤ length u
+    → gap_of (lexeme_at strings s u) ≡ false
+    → lexeme_at strings s (take (lexeme_at strings s u).end u
+    ++ behind strings (drop (lexeme_at strings s u).end u)) ≡ lexeme_at strings s u
 stays laws strings s u some t = by (cases_lt 0 (length u1))
   where
     k : ℕ
@@ -199,14 +239,19 @@ stays laws strings s u some t = by (cases_lt 0 (length u1))
 
     -- where nothing changes
     whole : w ≡ u1 → lexeme_at strings s (take k u ++ w) ≡ lexeme_at strings s u
-    whole e = ap (λ y. lexeme_at strings s (take k u ++ y)) e ∙ ap (lexeme_at strings s) (take-append-drop k u)
+    whole e = ap (λ y. lexeme_at strings s (take k u ++ y)) e
+        ∙ ap (lexeme_at strings s) (take-append-drop k u)
 
     -- where two characters or more stay
-    looks : (n : ℕ) (x : List ℕ) → 2 ≤ n → n ≤ length u1 → w ≡ take n u1 ++ x → lexeme_at strings s (take k u ++ w) ≡ lexeme_at strings s u
-    looks n x two h e = ap (lexeme_at strings s) (glue k n u x w e) ∙ laws.looks strings s u (take (k + n) u ++ x) (agrees_on k (k + n) u x (omega arith) (omega (arith, len)))
+    looks : (n : ℕ) (x : List ℕ) → 2 ≤ n → n ≤ length u1 → w ≡ take n u1 ++ x
+        → lexeme_at strings s (take k u ++ w) ≡ lexeme_at strings s u
+    looks n x two h e = ap (lexeme_at strings s) (glue k n u x w e)
+        ∙ laws.looks strings s u (take (k + n) u
+        ++ x) (agrees_on k (k + n) u x (omega arith) (omega (arith, len)))
 
     -- behind a token of one character
-    next : 1 ≤ length u1 → w ≡ take 1 u1 ++ behind strings (drop 1 u1) → lexeme_at strings s (take k u ++ w) ≡ lexeme_at strings s u
+    next : 1 ≤ length u1 → w ≡ take 1 u1 ++ behind strings (drop 1 u1)
+        → lexeme_at strings s (take k u ++ w) ≡ lexeme_at strings s u
     next h e = to (cases_lt 0 (length u2))
       where
         u2 : List ℕ
@@ -215,7 +260,8 @@ stays laws strings s u some t = by (cases_lt 0 (length u1))
         long : length u1 ≡ 1 + length u2
         long = omega (arith, length-drop 1 u1)
 
-        of : Head strings u2 → 1 ≤ length u2 → lexeme_at strings s (take k u ++ w) ≡ lexeme_at strings s u
+        of : Head strings u2 → 1 ≤ length u2 → lexeme_at strings s (take k u ++ w)
+            ≡ lexeme_at strings s u
         of (inl (plain, is)) more =
             let n = (lexeme_at strings false u2).end in
             let on : 1 ≤ n = laws.some strings false u2 more in
@@ -223,33 +269,42 @@ stays laws strings s u some t = by (cases_lt 0 (length u1))
             looks (1 + n) (behind strings (drop n u2)) (omega arith) (omega (arith, long))
             (e ∙ glue 1 n u1 (behind strings (drop n u2)) (behind strings u2) is)
         of (inr (gapped, g)) more =
-            let here : begins_gap (drop (k + 1) u) ≡ true = ap begins_gap (sym (drop-drop 1 k u)) ∙ sym (laws.seen strings u2) ∙ gapped in
-            ap (lexeme_at strings s) (glue k 1 u (gap_char g.char ∷ g.rest) w (e ∙ ap (λ y. take 1 u1 ++ y) g.is))
+            let here : begins_gap (drop (k + 1) u) ≡ true = ap begins_gap (sym (drop-drop 1 k u))
+            ∙ sym (laws.seen strings u2) ∙ gapped in
+            ap (lexeme_at strings s) (glue k 1 u (gap_char g.char ∷ g.rest) w (e
+            ∙ ap (λ y. take 1 u1 ++ y) g.is))
             ∙ laws.stay_before strings s u (gap_char g.char) g.rest here (gap_char_is g.char)
 
-        to : (0 < length u2) ⊎ (length u2 ≤ 0) → lexeme_at strings s (take k u ++ w) ≡ lexeme_at strings s u
+        to : (0 < length u2) ⊎ (length u2 ≤ 0)
+            → lexeme_at strings s (take k u ++ w) ≡ lexeme_at strings s u
         to (inl more) = of (head laws strings u2 more) more
-        to (inr none) = whole (e ∙ ap (λ y. take 1 u1 ++ y) (none_behind strings u2 (omega arith)) ∙ take-append-drop 1 u1)
+        to (inr none) = whole (e ∙ ap (λ y. take 1 u1 ++ y) (none_behind strings u2 (omega arith))
+            ∙ take-append-drop 1 u1)
 
-    of : 1 ≤ length u1 → Head strings u1 → lexeme_at strings s (take k u ++ w) ≡ lexeme_at strings s u
+    of : 1 ≤ length u1 → Head strings u1 → lexeme_at strings s (take k u ++ w)
+        ≡ lexeme_at strings s u
     of more (inl (plain, is)) = split (cases_lt 1 (lexeme_at strings false u1).end)
       where
         n : ℕ
         n = (lexeme_at strings false u1).end
 
         split : (1 < n) ⊎ (n ≤ 1) → lexeme_at strings s (take k u ++ w) ≡ lexeme_at strings s u
-        split (inl long) = looks n (behind strings (drop n u1)) long (laws.within strings false u1 more) is
+        split (inl long) =
+            looks n (behind strings (drop n u1)) long (laws.within strings false u1 more) is
         split (inr short) =
             let on : 1 ≤ n = laws.some strings false u1 more in
             let one : n ≡ 1 = omega arith in
             next more (is ∙ ap (λ m. take m u1 ++ behind strings (drop m u1)) one)
     of more (inr (gapped, g)) =
-        let at : get_or u1 0 0 ≡ get_or u k 0 = get_or-drop k u 0 0 ∙ ap (λ n. get_or u n 0) (omega arith) in
+        let at : get_or u1 0 0 ≡ get_or u k 0 = get_or-drop k u 0 0
+        ∙ ap (λ n. get_or u n 0) (omega arith) in
         ap (λ y. lexeme_at strings s (take k u ++ y)) g.is
-        ∙ laws.stay strings s u (gap_char g.char) g.rest t (sym (laws.seen strings u1) ∙ gapped) (gap_char_is g.char)
+        ∙ laws.stay strings s u (gap_char g.char) g.rest t (sym (laws.seen strings u1)
+        ∙ gapped) (gap_char_is g.char)
         (λ e. ap gap_char (g.keeps (ap is_line_end at ∙ e)))
 
-    by : (0 < length u1) ⊎ (length u1 ≤ 0) → lexeme_at strings s (take k u ++ w) ≡ lexeme_at strings s u
+    by : (0 < length u1) ⊎ (length u1 ≤ 0) → lexeme_at strings s (take k u ++ w)
+        ≡ lexeme_at strings s u
     by (inl more) = of more (head laws strings u1 more)
     by (inr none) = whole (none_behind strings u1 (omega arith))
 
@@ -264,20 +319,30 @@ take_first zero c cs w h = absurd (omega arith)
 take_first (suc k) c cs w h = refl
 
 -- a gap's character, before a text that begins with no white
-prefix_none : (class : ℕ → Bool) (w : List ℕ) → class (get_or w 0 0) ≡ false → prefix_len class w ≡ 0
+prefix_none : (class : ℕ → Bool) (w : List ℕ) → class (get_or w 0 0) ≡ false
+    → prefix_len class w ≡ 0
 prefix_none class [] h = refl
 prefix_none class (c ∷ cs) h = rw h refl
 
-gap_token : (strings : Strings) (s : Bool) (b : Bool) (w : List ℕ) → is_whitespace (get_or w 0 0) ≡ false → lexeme_at strings s (gap_char b ∷ w) ≡ lexeme_until kinds.Whitespace 1
+gap_token : (strings : Strings) (s : Bool) (b : Bool) (w : List ℕ)
+    → is_whitespace (get_or w 0 0) ≡ false → lexeme_at strings s (gap_char b ∷ w)
+    ≡ lexeme_until kinds.Whitespace 1
 unfolding token_form
-gap_token strings s true w h = rw (and_false s) (ap (λ n. lexeme_until kinds.Whitespace (0 + (1 + n))) (prefix_none is_whitespace w h))
-gap_token strings s false w h = rw (and_false s) (ap (λ n. lexeme_until kinds.Whitespace (0 + (1 + n))) (prefix_none is_whitespace w h))
+gap_token strings s true w h =
+    rw (and_false s) (ap (λ n. lexeme_until kinds.Whitespace (0 + (1 + n)))
+    (prefix_none is_whitespace w h))
+gap_token strings s false w h =
+    rw (and_false s) (ap (λ n. lexeme_until kinds.Whitespace (0 + (1 + n)))
+    (prefix_none is_whitespace w h))
 
-gap_pieces : LexerLaws → (strings : Strings) (s : Bool) (b : Bool) (w : List ℕ) → is_whitespace (get_or w 0 0) ≡ false
-    → pieces_from strings 0 s (gap_char b ∷ w) ≡ piece kinds.Whitespace (gap_char b ∷ []) ∷ pieces_from strings 0 false w
+gap_pieces : LexerLaws → (strings : Strings) (s : Bool) (b : Bool) (w : List ℕ)
+    → is_whitespace (get_or w 0 0) ≡ false
+    → pieces_from strings 0 s (gap_char b ∷ w)
+    ≡ piece kinds.Whitespace (gap_char b ∷ []) ∷ pieces_from strings 0 false w
 gap_pieces laws strings s b w h =
     pieces_first laws.some strings s (gap_char b ∷ w) (omega arith)
-    ∙ ap (λ x. first_of x (gap_char b ∷ w) ∷ pieces_from strings 0 false (drop x.end (gap_char b ∷ w))) (gap_token strings s b w h)
+    ∙ ap (λ x. first_of x (gap_char b ∷ w)
+    ∷ pieces_from strings 0 false (drop x.end (gap_char b ∷ w))) (gap_token strings s b w h)
 
 -- the pieces of what pieces spell are these
 abbrev Spells : Strings → Bool → List Piece → Type 0
@@ -285,16 +350,22 @@ Spells strings s ps = pieces_from strings 0 s (joined ps) ≡ ps
 
 -- of a text, and of one with a gap before it
 record IsStable (strings : Strings) (n : ℕ) : Type 0 where
-  alone : (s : Bool) (u : List ℕ) → length u ≤ n → Spells strings s (squeezed_pieces None (pieces_from strings 0 s u))
-  after : (b s : Bool) (u : List ℕ) → length u ≤ n → Spells strings s (squeezed_pieces (Some b) (pieces_from strings 0 false u))
+  alone : (s : Bool) (u : List ℕ) → length u ≤ n
+      → Spells strings s (squeezed_pieces None (pieces_from strings 0 s u))
+  after : (b s : Bool) (u : List ℕ) → length u ≤ n
+      → Spells strings s (squeezed_pieces (Some b) (pieces_from strings 0 false u))
 
-after_none : LexerLaws → (strings : Strings) (b s : Bool) (u : List ℕ) → length u ≡ 0 → Spells strings s (squeezed_pieces (Some b) (pieces_from strings 0 false u))
+after_none : LexerLaws → (strings : Strings) (b s : Bool) (u : List ℕ) → length u ≡ 0
+    → Spells strings s (squeezed_pieces (Some b) (pieces_from strings 0 false u))
 after_none laws strings b s [] h = gap_pieces laws strings s b [] refl
 after_none laws strings b s (c ∷ cs) h = absurd (omega arith)
 
-stable_alone : LexerLaws → (strings : Strings) (n : ℕ) → IsStable strings n → (s : Bool) (u : List ℕ) → length u ≤ suc n → Spells strings s (squeezed_pieces None (pieces_from strings 0 s u))
+stable_alone : LexerLaws → (strings : Strings) (n : ℕ) → IsStable strings n
+    → (s : Bool) (u : List ℕ) → length u ≤ suc n
+    → Spells strings s (squeezed_pieces None (pieces_from strings 0 s u))
 stable_alone laws strings n less s [] h = refl
-stable_alone laws strings n less s (c ∷ cs) h = subst (λ ps. Spells strings s (squeezed_pieces None ps)) (sym first) (by (gap_of x) refl)
+stable_alone laws strings n less s (c ∷ cs) h =
+    subst (λ ps. Spells strings s (squeezed_pieces None ps)) (sym first) (by (gap_of x) refl)
   where
     u : List ℕ
     u = c ∷ cs
@@ -329,13 +400,16 @@ stable_alone laws strings n less s (c ∷ cs) h = subst (λ ps. Spells strings s
     len : length (take k u) ≡ k
     len = length-take-le k u inside
 
-    by : (b : Bool) → gap_of x ≡ b → Spells strings s (cond b (squeezed_pieces (widened None (take k u)) rest) (first_of x u ∷ squeezed_pieces None rest))
+    by : (b : Bool) → gap_of x ≡ b
+        → Spells strings s (cond b (squeezed_pieces (widened None (take k u)) rest) (first_of x u
+        ∷ squeezed_pieces None rest))
     by true t = less.after (list_any is_line_end (take k u)) s u1 shorter
     by false t =
         let w = behind strings u1 in
         let v = take k u ++ w in
         let same : lexeme_at strings s v ≡ x = stays laws strings s u some t in
-        let front : take k v ≡ take k u = ap (λ m. take m v) (sym len) ∙ take-append_seam (take k u) w in
+        let front : take k v ≡ take k u = ap (λ m. take m v) (sym len)
+        ∙ take-append_seam (take k u) w in
         let back : drop k v ≡ w = ap (λ m. drop m v) (sym len) ∙ drop-append_seam (take k u) w in
         pieces_first laws.some strings s v (omega (arith, length-append (take k u) w, len, on))
         ∙ ap (λ y. first_of y v ∷ pieces_from strings 0 false (drop y.end v)) same
@@ -343,9 +417,12 @@ stable_alone laws strings n less s (c ∷ cs) h = subst (λ ps. Spells strings s
         ∙ ap (λ y. first_of x u ∷ pieces_from strings 0 false y) back
         ∙ ap (λ ps. first_of x u ∷ ps) (less.alone false u1 shorter)
 
-stable_after : LexerLaws → (strings : Strings) (n : ℕ) → IsStable strings n → (b s : Bool) (u : List ℕ) → length u ≤ suc n → Spells strings s (squeezed_pieces (Some b) (pieces_from strings 0 false u))
+stable_after : LexerLaws → (strings : Strings) (n : ℕ) → IsStable strings n
+    → (b s : Bool) (u : List ℕ) → length u ≤ suc n
+    → Spells strings s (squeezed_pieces (Some b) (pieces_from strings 0 false u))
 stable_after laws strings n less b s [] h = after_none laws strings b s [] refl
-stable_after laws strings n less b s (c ∷ cs) h = subst (λ ps. Spells strings s (squeezed_pieces (Some b) ps)) (sym first) (by (gap_of x) refl)
+stable_after laws strings n less b s (c ∷ cs) h =
+    subst (λ ps. Spells strings s (squeezed_pieces (Some b) ps)) (sym first) (by (gap_of x) refl)
   where
     u : List ℕ
     u = c ∷ cs
@@ -377,15 +454,21 @@ stable_after laws strings n less b s (c ∷ cs) h = subst (λ ps. Spells strings
     more : Bool
     more = b || list_any is_line_end (take k u)
 
-    by : (d : Bool) → gap_of x ≡ d → Spells strings s (cond d (squeezed_pieces (Some more) rest) (gap (Some b) (first_of x u ∷ squeezed_pieces None rest)))
+    by : (d : Bool) → gap_of x ≡ d
+        → Spells strings s (cond d (squeezed_pieces (Some more) rest) (gap (Some b) (first_of x u
+        ∷ squeezed_pieces None rest)))
     by true t = less.after more s u1 shorter
     by false t =
         let qs = first_of x u ∷ squeezed_pieces None rest in
-        let alone : Spells strings false qs = subst (Spells strings false) (ap (squeezed_pieces None) first ∙ rw t refl) (stable_alone laws strings n less false u h) in
+        let alone : Spells strings false qs =
+        subst (Spells strings false) (ap (squeezed_pieces None) first
+        ∙ rw t refl) (stable_alone laws strings n less false u h) in
         let plain : begins_gap u ≡ false = sym (laws.seen strings u) ∙ t in
         let white : is_whitespace c ≡ false = grind (arith, nat_tests) in
-        let at : get_or (joined qs) 0 0 ≡ c = take_first k c cs (joined (squeezed_pieces None rest)) on in
-        gap_pieces laws strings s b (joined qs) (ap is_whitespace at ∙ white) ∙ ap (λ ps. piece kinds.Whitespace (gap_char b ∷ []) ∷ ps) alone
+        let at : get_or (joined qs) 0 0 ≡ c =
+        take_first k c cs (joined (squeezed_pieces None rest)) on in
+        gap_pieces laws strings s b (joined qs) (ap is_whitespace at ∙ white)
+        ∙ ap (λ ps. piece kinds.Whitespace (gap_char b ∷ []) ∷ ps) alone
 
 stable : LexerLaws → (strings : Strings) (n : ℕ) → IsStable strings n
 stable laws strings zero = record {
@@ -393,19 +476,32 @@ stable laws strings zero = record {
   after = λ b s u h. after_none laws strings b s u (omega arith);
 }
   where
-    none : (s : Bool) (u : List ℕ) → length u ≡ 0 → Spells strings s (squeezed_pieces None (pieces_from strings 0 s u))
+    none : (s : Bool) (u : List ℕ) → length u ≡ 0
+        → Spells strings s (squeezed_pieces None (pieces_from strings 0 s u))
     none s [] h = refl
     none s (c ∷ cs) h = absurd (omega arith)
-stable laws strings (suc n) = record { alone = stable_alone laws strings n (stable laws strings n); after = stable_after laws strings n (stable laws strings n) }
+stable laws strings (suc n) = record {
+  alone =
+      stable_alone laws strings n (stable laws strings n);
+  after =
+      stable_after laws strings n (stable laws strings n);
+}
 
 -- the tokens of the squeezed text
-pub squeezed_tokens : LexerLaws → (strings : Strings) (text : List ℕ) → pieces strings (squeezed strings text) ≡ squeezed_pieces None (pieces strings text)
-squeezed_tokens laws strings text = (stable laws strings (length text)).alone true text (omega arith)
+pub squeezed_tokens : LexerLaws → (strings : Strings) (text : List ℕ)
+    → pieces strings (squeezed strings text) ≡ squeezed_pieces None (pieces strings text)
+squeezed_tokens laws strings text =
+    (stable laws strings (length text)).alone true text (omega arith)
 
 -- it has the same tokens but for its gaps
-pub keeps : LexerLaws → (strings : Strings) (text : List ℕ) → kept (pieces strings (squeezed strings text)) ≡ kept (pieces strings text)
-keeps laws strings text = ap kept (squeezed_tokens laws strings text) ∙ kept_same None (pieces strings text)
+pub keeps : LexerLaws → (strings : Strings) (text : List ℕ)
+    → kept (pieces strings (squeezed strings text)) ≡ kept (pieces strings text)
+keeps laws strings text = ap kept (squeezed_tokens laws strings text)
+    ∙ kept_same None (pieces strings text)
 
 -- and is squeezed
-pub once : LexerLaws → (strings : Strings) (text : List ℕ) → squeezed strings (squeezed strings text) ≡ squeezed strings text
-once laws strings text = ap (λ ps. joined (squeezed_pieces None ps)) (squeezed_tokens laws strings text) ∙ ap joined (squeezed_twice None (pieces strings text))
+pub once : LexerLaws → (strings : Strings) (text : List ℕ)
+    → squeezed strings (squeezed strings text) ≡ squeezed strings text
+once laws strings text =
+    ap (λ ps. joined (squeezed_pieces None ps)) (squeezed_tokens laws strings text)
+    ∙ ap joined (squeezed_twice None (pieces strings text))

@@ -7,7 +7,7 @@ use Rattle.squawk_lexer.specs.declared.token.TokenKind.TheVariants.{Whitespace}
 use Rattle.squawk_lexer.specs.declared.token.Strings.{Strings}
 use Rattle.squawk_lexer.specs.Classes.{is_line_end, line_feed}
 use Rattle.squawk_lexer.specs.Token.{lexeme_at}
-use Rattle.squawk_lexer.specs.Cut.{form_of, is_trivia}
+use Rattle.squawk_lexer.specs.Cut.{is_trivia}
 
 -- a token with its text
 pub record Piece : Type 0 where
@@ -17,12 +17,13 @@ pub record Piece : Type 0 where
 abbrev pub piece : TokenKind → List ℕ → Piece
 piece kind text = record { kind = kind; text = text }
 
--- A token begins at each character that is not inside one; the first `inside` characters are. `at_start` says that the whole text
--- begins here.
+-- A token begins at each character that is not inside one; the first `inside` characters are.
+-- `at_start` says that the whole text begins here.
 abbrev pub pieces_from : Strings → ℕ → Bool → List ℕ → List Piece
 pieces_from strings inside at_start [] = []
 pieces_from strings zero at_start (c ∷ cs) =
-    piece (lexeme_at strings at_start (c ∷ cs)).kind (take (lexeme_at strings at_start (c ∷ cs)).end (c ∷ cs))
+    piece (lexeme_at strings at_start (c ∷ cs)).kind
+    (take (lexeme_at strings at_start (c ∷ cs)).end (c ∷ cs))
     ∷ pieces_from strings ((lexeme_at strings at_start (c ∷ cs)).end - 1) false cs
 pieces_from strings (suc inside) at_start (c ∷ cs) = pieces_from strings inside at_start cs
 
@@ -32,7 +33,7 @@ pieces strings text = pieces_from strings 0 true text
 
 -- whether it is white or a comment
 abbrev pub is_gap : Piece → Bool
-is_gap p = is_trivia (form_of p.kind)
+is_gap p = is_trivia p.kind
 
 -- the tokens that are neither
 abbrev pub kept : List Piece → List Piece
@@ -76,7 +77,8 @@ squeezed strings text = joined (squeezed_pieces None (pieces strings text))
 
 -- what the tokens from the byte `at` on become, where so much of a gap has begun before
 abbrev pub left : Strings → Open → List ℕ → ℕ → List ℕ
-left strings so_far text at = joined (squeezed_pieces so_far (pieces_from strings 0 (at == 0) (chars (drop at text))))
+left strings so_far text at =
+    joined (squeezed_pieces so_far (pieces_from strings 0 (at == 0) (chars (drop at text))))
 
 -- how many bytes a gap becomes
 abbrev pub gap_len : Open → ℕ

@@ -4,7 +4,7 @@ ghost use Rattle.std.specs.List.{list_any};
 ghost use Rattle.std.specs.Str.{chars, encode_utf8_all};
 ghost use Rattle.std.specs.String.{string_bytes};
 ghost use Rattle.squawk_lexer.specs.Classes.{is_line_end};
-ghost use Rattle.squawk_lexer.specs.Cut.{is_trivia, form_of};
+ghost use Rattle.squawk_lexer.specs.Cut.{is_trivia};
 ghost use Rattle.squawk_squeeze.specs.Squeezed.{pieces, kept, widened, gap_bytes, squeezed};
 
 use squawk_events::FrontError;
@@ -17,7 +17,7 @@ const LIMIT: usize = 4294967295;
 
 /// Whether a token is white space or a comment.
 fn is_gap(kind: TokenKind) -> bool
-    ensures { result ≡ is_trivia (form_of kind) }
+    ensures { result ≡ is_trivia kind }
 {
     match kind {
         TokenKind::Whitespace | TokenKind::LineComment | TokenKind::BlockComment { .. } => true,
@@ -66,16 +66,19 @@ fn push_gap(out: &mut String, gap: Option<bool>) -> Result<(), AllocError>
     }
 }
 
-/// The text with each longest run of white space and comments made one character: LF where the run has an LF or a CR, or else a space.
-/// All other tokens stay.
+/// The text with each longest run of white space and comments made one character: LF where the run
+/// has an LF or a CR, or else a space. All other tokens stay.
 ///
-/// `TooLong` comes exactly where the text has more than 4294967295 bytes, before any memory is taken, and `OutOfMemory` where there is
-/// no memory for the answer.
+/// `TooLong` comes exactly where the text has more than 4294967295 bytes, before any memory is
+/// taken, and `OutOfMemory` where there is no memory for the answer.
 pub fn squeeze(alloc: Global, text: &str, strings: Strings) -> Result<String, FrontError>
-    ensures squeezed { IfOk result (λ out. string_bytes out ≡ encode_utf8_all (squeezed strings (chars text.now))) }
+    ensures squeezed { IfOk result (λ out. string_bytes out
+        ≡ encode_utf8_all (squeezed strings (chars text.now))) }
     // The tokens that are not in gaps stay, and squeezing again changes nothing.
-    ensures keeps { IfOk result (λ out. kept (pieces strings (chars (string_bytes out))) ≡ kept (pieces strings (chars text.now))) }
-    ensures once { IfOk result (λ out. squeezed strings (chars (string_bytes out)) ≡ chars (string_bytes out)) }
+    ensures keeps { IfOk result (λ out. kept (pieces strings (chars (string_bytes out)))
+        ≡ kept (pieces strings (chars text.now))) }
+    ensures once { IfOk result (λ out. squeezed strings (chars (string_bytes out))
+        ≡ chars (string_bytes out)) }
     ensures no_longer { IfOk result (λ out. length (string_bytes out) ≤ length text.now) }
     ensures too_long { IsErrOf result FrontError.TooLong ↔ (LIMIT < length text.now) }
 {

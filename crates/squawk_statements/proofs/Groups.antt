@@ -3,8 +3,8 @@ use Rattle.std.proofs.lemmas.Bool.{eqb-true}
 use Rattle.std.proofs.lemmas.List.{append-nil}
 use Rattle.std.specs.Prelude.{if◌then◌else◌, ◌==◌, ◌||◌, ℕ, zero, suc, ◌≡◌, ◌&&◌, not, Bool, true, false, List, [], ◌∷◌, ◌++◌, refl}
 use Rattle.std.proofs.Common.{ap, sym, ◌∙◌, append_assoc}
-use Rattle.squawk_statements.specs.Kinds.{form}
-use Rattle.squawk_lexer.specs.Cut.{Form, Trivia, Semicolon, Terminator, Command, Open, Close, Other}
+use Rattle.squawk_kinds.specs.Role.{role}
+use Rattle.squawk_kinds.specs.Role.{Role, Trivia, Semicolon, Terminator, Command, Open, Close, Other}
 use Rattle.squawk_kinds.specs.declared.numbers.TheConstants.Number.{WHITESPACE, COMMENT, SEMICOLON, PSQL_TERMINATOR_TEXT, PSQL_COMMAND_TEXT, L_PAREN, R_PAREN, PAREN_EXPR}
 use Rattle.squawk_events.specs.declared.steps.Step.TheVariants.{Enter, Token, Exit}
 use Rattle.squawk_statements.specs.Groups.{Parts, Done, Plain, Closed, Unclosed, kinds_of, steps_of, is_plain, all_closed, are_parts, stays_open, open_groups_after_all}
@@ -16,15 +16,17 @@ split : (a b : Bool) → (a && b) ≡ true → (a ≡ true) × (b ≡ true)
 split true b h = (refl, h)
 split false b h = absurd (cc)
 
-is_open : form L_PAREN ≡ Open
-unfolding form
+is_open : role L_PAREN ≡ Open
+unfolding role
 is_open = refl
 
-is_close : form R_PAREN ≡ Close
-unfolding form
+is_close : role R_PAREN ≡ Close
+unfolding role
 is_close = refl
 
-plain_step : (d : Division) (n kind : ℕ) (f : Form) → form kind ≡ f → is_plain n f ≡ true → ends_statement d n f ≡ false → (kind_steps d n kind ≡ Token kind ∷ []) × (groups_open_after d n (form kind) ≡ n)
+plain_step : (d : Division) (n kind : ℕ) (f : Role) → role kind ≡ f → is_plain n f ≡ true
+    → ends_statement d n f ≡ false → (kind_steps d n kind ≡ Token kind ∷ [])
+    × (groups_open_after d n (role kind) ≡ n)
 plain_step d n kind Trivia e p h = (rw e refl, rw e refl)
 plain_step d n kind Semicolon e p h = (rw (e, h) refl, rw (e, h) refl)
 plain_step d n kind Terminator e p h = absurd (cc)
@@ -38,51 +40,70 @@ not_false : (b : Bool) → not b ≡ true → b ≡ false
 not_false true h = absurd (cc)
 not_false false h = refl
 
-open_step : (d : Division) (n : ℕ) (ks : List ℕ) → body_steps d n (L_PAREN ∷ ks) ≡ Enter PAREN_EXPR ∷ Token L_PAREN ∷ body_steps d (suc n) ks
+open_step : (d : Division) (n : ℕ) (ks : List ℕ)
+    → body_steps d n (L_PAREN ∷ ks) ≡ Enter PAREN_EXPR ∷ Token L_PAREN ∷ body_steps d (suc n) ks
 open_step d n ks = rw is_open refl
 
-close_step : (d : Division) (n : ℕ) (ks : List ℕ) → body_steps d (suc n) (R_PAREN ∷ ks) ≡ Token R_PAREN ∷ Exit ∷ body_steps d n ks
+close_step : (d : Division) (n : ℕ) (ks : List ℕ)
+    → body_steps d (suc n) (R_PAREN ∷ ks) ≡ Token R_PAREN ∷ Exit ∷ body_steps d n ks
 close_step d n ks = rw is_close refl
 
 -- closed parts give their steps, whatever follows
-pub core_closed : (d : Division) (n : ℕ) (ps : Parts) (ks : List ℕ) → are_parts d n ps ≡ true → all_closed ps ≡ true → body_steps d n (kinds_of ps ++ ks) ≡ steps_of ps ++ body_steps d n ks
+pub core_closed : (d : Division) (n : ℕ) (ps : Parts) (ks : List ℕ) → are_parts d n ps ≡ true
+    → all_closed ps ≡ true → body_steps d n (kinds_of ps ++ ks) ≡ steps_of ps ++ body_steps d n ks
 core_closed d n Done ks h c = refl
 core_closed d n (Plain kind rest) ks h c =
-    let a = split (is_plain n (form kind) && not (ends_statement d n (form kind))) (are_parts d n rest) h in
-    let b = split (is_plain n (form kind)) (not (ends_statement d n (form kind))) a.0 in
-    let s = plain_step d n kind (form kind) refl b.0 (not_false (ends_statement d n (form kind)) b.1) in
-    ap (λ xs. xs ++ body_steps d (groups_open_after d n (form kind)) (kinds_of rest ++ ks)) s.0 ∙ ap (λ m. Token kind ∷ body_steps d m (kinds_of rest ++ ks)) s.1 ∙ ap (λ xs. Token kind ∷ xs) (core_closed d n rest ks a.1 c)
+    let a = split (is_plain n (role kind) && not (ends_statement d n (role kind)))
+    (are_parts d n rest) h in
+    let b = split (is_plain n (role kind)) (not (ends_statement d n (role kind))) a.0 in
+    let s = plain_step d n kind (role kind) refl b.0
+    (not_false (ends_statement d n (role kind)) b.1) in
+    ap (λ xs. xs ++ body_steps d (groups_open_after d n (role kind)) (kinds_of rest ++ ks)) s.0
+    ∙ ap (λ m. Token kind ∷ body_steps d m (kinds_of rest ++ ks)) s.1
+    ∙ ap (λ xs. Token kind ∷ xs) (core_closed d n rest ks a.1 c)
 core_closed d n (Closed inside rest) ks h c =
     let a = split (are_parts d (suc n) inside && all_closed inside) (are_parts d n rest) h in
     let b = split (are_parts d (suc n) inside) (all_closed inside) a.0 in
     open_step d n ((kinds_of inside ++ R_PAREN ∷ kinds_of rest) ++ ks)
-    ∙ ap (λ zs. Enter PAREN_EXPR ∷ Token L_PAREN ∷ body_steps d (suc n) zs) (append_assoc (kinds_of inside) (R_PAREN ∷ kinds_of rest) ks)
-    ∙ ap (λ xs. Enter PAREN_EXPR ∷ Token L_PAREN ∷ xs) (core_closed d (suc n) inside (R_PAREN ∷ kinds_of rest ++ ks) b.0 b.1
-    ∙ ap (λ xs. steps_of inside ++ xs) (close_step d n (kinds_of rest ++ ks) ∙ ap (λ xs. Token R_PAREN ∷ Exit ∷ xs) (core_closed d n rest ks a.1 c))
-    ∙ sym (append_assoc (steps_of inside) (Token R_PAREN ∷ Exit ∷ steps_of rest) (body_steps d n ks)))
+    ∙ ap (λ zs. Enter PAREN_EXPR ∷ Token L_PAREN
+    ∷ body_steps d (suc n) zs) (append_assoc (kinds_of inside) (R_PAREN ∷ kinds_of rest) ks)
+    ∙ ap (λ xs. Enter PAREN_EXPR ∷ Token L_PAREN
+    ∷ xs) (core_closed d (suc n) inside (R_PAREN ∷ kinds_of rest ++ ks) b.0 b.1
+    ∙ ap (λ xs. steps_of inside ++ xs) (close_step d n (kinds_of rest ++ ks)
+    ∙ ap (λ xs. Token R_PAREN ∷ Exit ∷ xs) (core_closed d n rest ks a.1 c))
+    ∙ sym (append_assoc (steps_of inside) (Token R_PAREN ∷ Exit
+    ∷ steps_of rest) (body_steps d n ks)))
 core_closed d n (Unclosed inside) ks h c = absurd (cc)
 
 exit_last : (n : ℕ) → Exit ∷ exits n ≡ exits (suc n)
 exit_last n = refl
 
 -- a core's parts give its steps, and then all open groups end
-pub core_parts : (d : Division) (n : ℕ) (ps : Parts) → are_parts d n ps ≡ true → body_steps d n (kinds_of ps) ≡ steps_of ps ++ exits n
+pub core_parts : (d : Division) (n : ℕ) (ps : Parts) → are_parts d n ps ≡ true
+    → body_steps d n (kinds_of ps) ≡ steps_of ps ++ exits n
 core_parts d n Done h = refl
 core_parts d n (Plain kind rest) h =
-    let a = split (is_plain n (form kind) && not (ends_statement d n (form kind))) (are_parts d n rest) h in
-    let b = split (is_plain n (form kind)) (not (ends_statement d n (form kind))) a.0 in
-    let s = plain_step d n kind (form kind) refl b.0 (not_false (ends_statement d n (form kind)) b.1) in
-    ap (λ xs. xs ++ body_steps d (groups_open_after d n (form kind)) (kinds_of rest)) s.0 ∙ ap (λ m. Token kind ∷ body_steps d m (kinds_of rest)) s.1 ∙ ap (λ xs. Token kind ∷ xs) (core_parts d n rest a.1)
+    let a = split (is_plain n (role kind) && not (ends_statement d n (role kind)))
+    (are_parts d n rest) h in
+    let b = split (is_plain n (role kind)) (not (ends_statement d n (role kind))) a.0 in
+    let s = plain_step d n kind (role kind) refl b.0
+    (not_false (ends_statement d n (role kind)) b.1) in
+    ap (λ xs. xs ++ body_steps d (groups_open_after d n (role kind)) (kinds_of rest)) s.0
+    ∙ ap (λ m. Token kind ∷ body_steps d m (kinds_of rest)) s.1
+    ∙ ap (λ xs. Token kind ∷ xs) (core_parts d n rest a.1)
 core_parts d n (Closed inside rest) h =
     let a = split (are_parts d (suc n) inside && all_closed inside) (are_parts d n rest) h in
     let b = split (are_parts d (suc n) inside) (all_closed inside) a.0 in
     open_step d n (kinds_of inside ++ R_PAREN ∷ kinds_of rest)
-    ∙ ap (λ xs. Enter PAREN_EXPR ∷ Token L_PAREN ∷ xs) (core_closed d (suc n) inside (R_PAREN ∷ kinds_of rest) b.0 b.1
-    ∙ ap (λ xs. steps_of inside ++ xs) (close_step d n (kinds_of rest) ∙ ap (λ xs. Token R_PAREN ∷ Exit ∷ xs) (core_parts d n rest a.1))
+    ∙ ap (λ xs. Enter PAREN_EXPR ∷ Token L_PAREN
+    ∷ xs) (core_closed d (suc n) inside (R_PAREN ∷ kinds_of rest) b.0 b.1
+    ∙ ap (λ xs. steps_of inside ++ xs) (close_step d n (kinds_of rest)
+    ∙ ap (λ xs. Token R_PAREN ∷ Exit ∷ xs) (core_parts d n rest a.1))
     ∙ sym (append_assoc (steps_of inside) (Token R_PAREN ∷ Exit ∷ steps_of rest) (exits n)))
 core_parts d n (Unclosed inside) h =
     open_step d n (kinds_of inside)
-    ∙ ap (λ xs. Enter PAREN_EXPR ∷ Token L_PAREN ∷ xs) (core_parts d (suc n) inside h ∙ sym (append_assoc (steps_of inside) (Exit ∷ []) (exits n)))
+    ∙ ap (λ xs. Enter PAREN_EXPR ∷ Token L_PAREN ∷ xs) (core_parts d (suc n) inside h
+    ∙ sym (append_assoc (steps_of inside) (Exit ∷ []) (exits n)))
 
 -- ---- every core has such parts
 
@@ -100,7 +121,7 @@ enter (Last p) = Last (Unclosed p)
 enter (More p (Last q)) = Last (Closed p q)
 enter (More p (More q s)) = More (Closed p q) s
 
-divide_by : Form → ℕ → ℕ → (ℕ → Stack) → Stack
+divide_by : Role → ℕ → ℕ → (ℕ → Stack) → Stack
 divide_by Open n k rest = enter (rest (suc n))
 divide_by Close zero k rest = push k (rest zero)
 divide_by Close (suc n) k rest = More Done (rest n)
@@ -112,7 +133,7 @@ divide_by Other n k rest = push k (rest n)
 
 divide : ℕ → List ℕ → Stack
 divide n [] = Last Done
-divide n (k ∷ ks) = divide_by (form k) n k (λ m. divide m ks)
+divide n (k ∷ ks) = divide_by (role k) n k (λ m. divide m ks)
 
 stack_kinds : Stack → List ℕ
 stack_kinds (Last p) = kinds_of p
@@ -127,14 +148,21 @@ enter_kinds : (s : Stack) → stack_kinds (enter s) ≡ L_PAREN ∷ stack_kinds 
 unfolding stack_kinds enter
 enter_kinds (Last p) = refl
 enter_kinds (More p (Last q)) = refl
-enter_kinds (More p (More q s)) = ap (λ ks. L_PAREN ∷ ks) (append_assoc (kinds_of p) (R_PAREN ∷ kinds_of q) (R_PAREN ∷ stack_kinds s))
+enter_kinds (More p (More q s)) =
+    ap (λ ks. L_PAREN ∷ ks) (append_assoc (kinds_of p) (R_PAREN ∷ kinds_of q) (R_PAREN
+    ∷ stack_kinds s))
 
 -- the kinds of parentheses
-open_is : (k : ℕ) → form k ≡ Open → k ≡ L_PAREN
-unfolding form
-open_is k h = by (k == WHITESPACE || k == COMMENT) (k == SEMICOLON) (k == PSQL_TERMINATOR_TEXT) (k == PSQL_COMMAND_TEXT) (k == L_PAREN) (k == R_PAREN) refl h
+open_is : (k : ℕ) → role k ≡ Open → k ≡ L_PAREN
+unfolding role
+open_is k h =
+    by (k == WHITESPACE || k == COMMENT) (k == SEMICOLON) (k == PSQL_TERMINATOR_TEXT)
+    (k == PSQL_COMMAND_TEXT) (k == L_PAREN) (k == R_PAREN) refl h
   where
-    by : (t a b c d e : Bool) → (k == L_PAREN) ≡ d → (if t then Trivia else if a then Semicolon else if b then Terminator else if c then Command else if d then Open else if e then Close else Other) ≡ Open → k ≡ L_PAREN
+    by : (t a b c d e : Bool) → (k == L_PAREN) ≡ d
+        → (if t then Trivia else if a then Semicolon else if b then Terminator
+        else if c then Command else if d then Open else if e then Close else Other) ≡ Open
+        → k ≡ L_PAREN
     by true a b c d e is h = cc
     by false true b c d e is h = cc
     by false false true c d e is h = cc
@@ -143,11 +171,16 @@ open_is k h = by (k == WHITESPACE || k == COMMENT) (k == SEMICOLON) (k == PSQL_T
     by false false false false false true is h = cc
     by false false false false false false is h = cc
 
-close_is : (k : ℕ) → form k ≡ Close → k ≡ R_PAREN
-unfolding form
-close_is k h = by (k == WHITESPACE || k == COMMENT) (k == SEMICOLON) (k == PSQL_TERMINATOR_TEXT) (k == PSQL_COMMAND_TEXT) (k == L_PAREN) (k == R_PAREN) refl h
+close_is : (k : ℕ) → role k ≡ Close → k ≡ R_PAREN
+unfolding role
+close_is k h =
+    by (k == WHITESPACE || k == COMMENT) (k == SEMICOLON) (k == PSQL_TERMINATOR_TEXT)
+    (k == PSQL_COMMAND_TEXT) (k == L_PAREN) (k == R_PAREN) refl h
   where
-    by : (t a b c d e : Bool) → (k == R_PAREN) ≡ e → (if t then Trivia else if a then Semicolon else if b then Terminator else if c then Command else if d then Open else if e then Close else Other) ≡ Close → k ≡ R_PAREN
+    by : (t a b c d e : Bool) → (k == R_PAREN) ≡ e
+        → (if t then Trivia else if a then Semicolon else if b then Terminator
+        else if c then Command else if d then Open else if e then Close else Other) ≡ Close
+        → k ≡ R_PAREN
     by true a b c d e is h = cc
     by false true b c d e is h = cc
     by false false true c d e is h = cc
@@ -159,12 +192,15 @@ close_is k h = by (k == WHITESPACE || k == COMMENT) (k == SEMICOLON) (k == PSQL_
 divide_kinds : (n : ℕ) (ks : List ℕ) → stack_kinds (divide n ks) ≡ ks
 unfolding stack_kinds divide divide_by
 divide_kinds n [] = refl
-divide_kinds n (k ∷ ks) = by (form k) n refl (λ m. divide_kinds m ks)
+divide_kinds n (k ∷ ks) = by (role k) n refl (λ m. divide_kinds m ks)
   where
-    by : (f : Form) (n : ℕ) → form k ≡ f → ((m : ℕ) → stack_kinds (divide m ks) ≡ ks) → stack_kinds (divide_by f n k (λ m. divide m ks)) ≡ k ∷ ks
-    by Open n is more = enter_kinds (divide (suc n) ks) ∙ ap (λ zs. L_PAREN ∷ zs) (more (suc n)) ∙ ap (λ j. j ∷ ks) (sym (open_is k is))
+    by : (f : Role) (n : ℕ) → role k ≡ f → ((m : ℕ) → stack_kinds (divide m ks) ≡ ks)
+        → stack_kinds (divide_by f n k (λ m. divide m ks)) ≡ k ∷ ks
+    by Open n is more = enter_kinds (divide (suc n) ks) ∙ ap (λ zs. L_PAREN ∷ zs) (more (suc n))
+        ∙ ap (λ j. j ∷ ks) (sym (open_is k is))
     by Close zero is more = push_kinds k (divide zero ks) ∙ ap (λ zs. k ∷ zs) (more zero)
-    by Close (suc n) is more = ap (λ zs. R_PAREN ∷ zs) (more n) ∙ ap (λ j. j ∷ ks) (sym (close_is k is))
+    by Close (suc n) is more = ap (λ zs. R_PAREN ∷ zs) (more n)
+        ∙ ap (λ j. j ∷ ks) (sym (close_is k is))
     by Trivia n is more = push_kinds k (divide n ks) ∙ ap (λ zs. k ∷ zs) (more n)
     by Semicolon n is more = push_kinds k (divide n ks) ∙ ap (λ zs. k ∷ zs) (more n)
     by Terminator n is more = push_kinds k (divide n ks) ∙ ap (λ zs. k ∷ zs) (more n)
@@ -180,13 +216,16 @@ are_stacked d (suc n) (More p s) = (are_parts d (suc n) p && all_closed p) && ar
 both : (a b : Bool) → a ≡ true → b ≡ true → (a && b) ≡ true
 both a b h k = rw (h, k) refl
 
-push_stacked : (d : Division) (n k : ℕ) (s : Stack) → is_plain n (form k) ≡ true → ends_statement d n (form k) ≡ false → are_stacked d n s ≡ true → are_stacked d n (push k s) ≡ true
+push_stacked : (d : Division) (n k : ℕ) (s : Stack) → is_plain n (role k) ≡ true
+    → ends_statement d n (role k) ≡ false → are_stacked d n s ≡ true
+    → are_stacked d n (push k s) ≡ true
 unfolding are_stacked push
 push_stacked d n k (Last p) plain goes h = rw (plain, goes) h
 push_stacked d zero k (More p s) plain goes h = absurd (cc)
 push_stacked d (suc n) k (More p s) plain goes h = rw (plain, goes) h
 
-enter_stacked : (d : Division) (n : ℕ) (s : Stack) → are_stacked d (suc n) s ≡ true → are_stacked d n (enter s) ≡ true
+enter_stacked : (d : Division) (n : ℕ) (s : Stack) → are_stacked d (suc n) s ≡ true
+    → are_stacked d n (enter s) ≡ true
 unfolding are_stacked enter
 enter_stacked d n (Last p) h = h
 enter_stacked d n (More p (Last q)) h = h
@@ -196,36 +235,68 @@ enter_stacked d zero (More p (More q s)) h = absurd (no (are_parts d 1 p && all_
     no true h = cc
     no false h = cc
 enter_stacked d (suc n) (More p (More q s)) h =
-    let a = split (are_parts d (suc (suc n)) p && all_closed p) ((are_parts d (suc n) q && all_closed q) && are_stacked d n s) h in
+    let a = split (are_parts d (suc (suc n)) p
+    && all_closed p) ((are_parts d (suc n) q && all_closed q) && are_stacked d n s) h in
     let b = split (are_parts d (suc n) q && all_closed q) (are_stacked d n s) a.1 in
     let c = split (are_parts d (suc n) q) (all_closed q) b.0 in
-    both ((((are_parts d (suc (suc n)) p && all_closed p) && are_parts d (suc n) q)) && all_closed q) (are_stacked d n s)
-    (both ((are_parts d (suc (suc n)) p && all_closed p) && are_parts d (suc n) q) (all_closed q) (both (are_parts d (suc (suc n)) p && all_closed p) (are_parts d (suc n) q) a.0 c.0) c.1) b.1
+    both ((((are_parts d (suc (suc n)) p && all_closed p) && are_parts d (suc n) q))
+    && all_closed q) (are_stacked d n s)
+    (both ((are_parts d (suc (suc n)) p && all_closed p)
+    && are_parts d (suc n) q) (all_closed q) (both (are_parts d (suc (suc n)) p
+    && all_closed p) (are_parts d (suc n) q) a.0 c.0) c.1) b.1
 
-divide_stacked : (d : Division) (n : ℕ) (ks : List ℕ) → stays_open d n ks ≡ true → are_stacked d n (divide n ks) ≡ true
+divide_stacked : (d : Division) (n : ℕ) (ks : List ℕ) → stays_open d n ks ≡ true
+    → are_stacked d n (divide n ks) ≡ true
 unfolding are_stacked divide divide_by
 divide_stacked d n [] h = refl
 divide_stacked d n (k ∷ ks) h =
-    let a = split (not (ends_statement d n (form k))) (stays_open d (open_groups_after n (form k)) ks) h in
-    by (form k) n refl (not_false (ends_statement d n (form k)) a.0) a.1 (λ m e. divide_stacked d m ks e)
+    let a = split (not (ends_statement d n (role k)))
+    (stays_open d (open_groups_after n (role k)) ks) h in
+    by (role k) n refl (not_false (ends_statement d n (role k)) a.0) a.1 (λ m e.
+    divide_stacked d m ks e)
   where
-    by : (f : Form) (n : ℕ) → form k ≡ f → ends_statement d n (form k) ≡ false → stays_open d (open_groups_after n (form k)) ks ≡ true → ((m : ℕ) → stays_open d m ks ≡ true → are_stacked d m (divide m ks) ≡ true)
+    by : (f : Role) (n : ℕ) → role k ≡ f → ends_statement d n (role k) ≡ false
+        → stays_open d (open_groups_after n (role k)) ks ≡ true
+        → ((m : ℕ) → stays_open d m ks ≡ true → are_stacked d m (divide m ks) ≡ true)
         → are_stacked d n (divide_by f n k (λ m. divide m ks)) ≡ true
-    by Open n is goes rest more = enter_stacked d n (divide (suc n) ks) (more (suc n) (ap (λ f. stays_open d (open_groups_after n f) ks) (sym is) ∙ rest))
-    by Close zero is goes rest more = push_stacked d zero k (divide zero ks) (ap (is_plain zero) is) goes (more zero (ap (λ f. stays_open d (open_groups_after zero f) ks) (sym is) ∙ rest))
-    by Close (suc n) is goes rest more = more n (ap (λ f. stays_open d (open_groups_after (suc n) f) ks) (sym is) ∙ rest)
-    by Trivia n is goes rest more = push_stacked d n k (divide n ks) (ap (is_plain n) is) goes (more n (ap (λ f. stays_open d (open_groups_after n f) ks) (sym is) ∙ rest))
-    by Semicolon n is goes rest more = push_stacked d n k (divide n ks) (ap (is_plain n) is) goes (more n (ap (λ f. stays_open d (open_groups_after n f) ks) (sym is) ∙ rest))
-    by Terminator n is goes rest more = push_stacked d n k (divide n ks) (ap (is_plain n) is) goes (more n (ap (λ f. stays_open d (open_groups_after n f) ks) (sym is) ∙ rest))
-    by Command n is goes rest more = push_stacked d n k (divide n ks) (ap (is_plain n) is) goes (more n (ap (λ f. stays_open d (open_groups_after n f) ks) (sym is) ∙ rest))
-    by Other n is goes rest more = push_stacked d n k (divide n ks) (ap (is_plain n) is) goes (more n (ap (λ f. stays_open d (open_groups_after n f) ks) (sym is) ∙ rest))
+    by Open n is goes rest more =
+        enter_stacked d n (divide (suc n) ks)
+        (more (suc n) (ap (λ f. stays_open d (open_groups_after n f) ks) (sym is) ∙ rest))
+    by Close zero is goes rest more =
+        push_stacked d zero k (divide zero ks) (ap (is_plain zero) is) goes
+        (more zero (ap (λ f. stays_open d (open_groups_after zero f) ks) (sym is) ∙ rest))
+    by Close (suc n) is goes rest more =
+        more n (ap (λ f. stays_open d (open_groups_after (suc n) f) ks) (sym is) ∙ rest)
+    by Trivia n is goes rest more =
+        push_stacked d n k (divide n ks) (ap (is_plain n) is) goes
+        (more n (ap (λ f. stays_open d (open_groups_after n f) ks) (sym is) ∙ rest))
+    by Semicolon n is goes rest more =
+        push_stacked d n k (divide n ks) (ap (is_plain n) is) goes
+        (more n (ap (λ f. stays_open d (open_groups_after n f) ks) (sym is) ∙ rest))
+    by Terminator n is goes rest more =
+        push_stacked d n k (divide n ks) (ap (is_plain n) is) goes
+        (more n (ap (λ f. stays_open d (open_groups_after n f) ks) (sym is) ∙ rest))
+    by Command n is goes rest more =
+        push_stacked d n k (divide n ks) (ap (is_plain n) is) goes
+        (more n (ap (λ f. stays_open d (open_groups_after n f) ks) (sym is) ∙ rest))
+    by Other n is goes rest more =
+        push_stacked d n k (divide n ks) (ap (is_plain n) is) goes
+        (more n (ap (λ f. stays_open d (open_groups_after n f) ks) (sym is) ∙ rest))
 
-pub core_divides : (d : Division) (ks : List ℕ) → stays_open d 0 ks ≡ true → (ps : Parts) × (kinds_of ps ≡ ks) × (are_parts d 0 ps ≡ true) × (body_steps d 0 ks ≡ steps_of ps)
+pub core_divides : (d : Division) (ks : List ℕ) → stays_open d 0 ks ≡ true → (ps : Parts)
+    × (kinds_of ps ≡ ks) × (are_parts d 0 ps ≡ true) × (body_steps d 0 ks ≡ steps_of ps)
 unfolding stack_kinds are_stacked
 core_divides d ks h = by (divide 0 ks) (divide_kinds 0 ks) (divide_stacked d 0 ks h)
   where
-    by : (s : Stack) → stack_kinds s ≡ ks → are_stacked d 0 s ≡ true → (ps : Parts) × (kinds_of ps ≡ ks) × (are_parts d 0 ps ≡ true) × (body_steps d 0 ks ≡ steps_of ps)
-    by (Last p) kinds parts = (p, kinds, parts, ap (body_steps d 0) (sym kinds) ∙ core_parts d 0 p parts ∙ append-nil (steps_of p))
+    by : (s : Stack) → stack_kinds s ≡ ks → are_stacked d 0 s ≡ true → (ps : Parts)
+        × (kinds_of ps ≡ ks) × (are_parts d 0 ps ≡ true) × (body_steps d 0 ks ≡ steps_of ps)
+    by (Last p) kinds parts = (
+      p,
+      kinds,
+      parts,
+      ap (body_steps d 0) (sym kinds)
+          ∙ core_parts d 0 p parts ∙ append-nil (steps_of p),
+    )
     by (More p s) kinds parts = absurd (cc)
 
 -- ---- and only one such sequence
@@ -261,11 +332,13 @@ divide_close : (n : ℕ) (ks : List ℕ) → divide (suc n) (R_PAREN ∷ ks) ≡
 unfolding divide divide_by
 divide_close n ks = rw is_close refl
 
-divide_plain : (n k : ℕ) (ks : List ℕ) → is_plain n (form k) ≡ true → divide n (k ∷ ks) ≡ push k (divide n ks)
+divide_plain : (n k : ℕ) (ks : List ℕ) → is_plain n (role k) ≡ true
+    → divide n (k ∷ ks) ≡ push k (divide n ks)
 unfolding divide push divide_by
-divide_plain n k ks h = by (form k) n h
+divide_plain n k ks h = by (role k) n h
   where
-    by : (f : Form) (n : ℕ) → is_plain n f ≡ true → divide_by f n k (λ m. divide m ks) ≡ push k (divide n ks)
+    by : (f : Role) (n : ℕ) → is_plain n f ≡ true
+        → divide_by f n k (λ m. divide m ks) ≡ push k (divide n ks)
     by Open n h = absurd (cc)
     by Close zero h = refl
     by Close (suc n) h = absurd (cc)
@@ -275,30 +348,36 @@ divide_plain n k ks h = by (form k) n h
     by Command n h = refl
     by Other n h = refl
 
-divide_onto : (d : Division) (n : ℕ) (ps : Parts) (ks : List ℕ) → are_parts d n ps ≡ true → all_closed ps ≡ true → divide n (kinds_of ps ++ ks) ≡ onto ps (divide n ks)
+divide_onto : (d : Division) (n : ℕ) (ps : Parts) (ks : List ℕ) → are_parts d n ps ≡ true
+    → all_closed ps ≡ true → divide n (kinds_of ps ++ ks) ≡ onto ps (divide n ks)
 unfolding onto
 divide_onto d n Done ks h c = refl
 divide_onto d n (Plain kind rest) ks h c =
-    let a = split (is_plain n (form kind) && not (ends_statement d n (form kind))) (are_parts d n rest) h in
-    let b = split (is_plain n (form kind)) (not (ends_statement d n (form kind))) a.0 in
+    let a = split (is_plain n (role kind) && not (ends_statement d n (role kind)))
+    (are_parts d n rest) h in
+    let b = split (is_plain n (role kind)) (not (ends_statement d n (role kind))) a.0 in
     divide_plain n kind (kinds_of rest ++ ks) b.0 ∙ ap (push kind) (divide_onto d n rest ks a.1 c)
 divide_onto d n (Closed inside rest) ks h c =
     let a = split (are_parts d (suc n) inside && all_closed inside) (are_parts d n rest) h in
     let b = split (are_parts d (suc n) inside) (all_closed inside) a.0 in
     divide_open n ((kinds_of inside ++ R_PAREN ∷ kinds_of rest) ++ ks)
-    ∙ ap (λ zs. enter (divide (suc n) zs)) (append_assoc (kinds_of inside) (R_PAREN ∷ kinds_of rest) ks)
+    ∙ ap (λ zs. enter (divide (suc n) zs)) (append_assoc (kinds_of inside) (R_PAREN
+    ∷ kinds_of rest) ks)
     ∙ ap enter (divide_onto d (suc n) inside (R_PAREN ∷ kinds_of rest ++ ks) b.0 b.1
-    ∙ ap (onto inside) (divide_close n (kinds_of rest ++ ks) ∙ ap (More Done) (divide_onto d n rest ks a.1 c))
+    ∙ ap (onto inside) (divide_close n (kinds_of rest ++ ks)
+    ∙ ap (More Done) (divide_onto d n rest ks a.1 c))
     ∙ onto_done inside (onto rest (divide n ks)) b.1)
     ∙ enter_more inside (onto rest (divide n ks))
 divide_onto d n (Unclosed inside) ks h c = absurd (cc)
 
-divide_last : (d : Division) (n : ℕ) (ps : Parts) → are_parts d n ps ≡ true → divide n (kinds_of ps) ≡ Last ps
+divide_last : (d : Division) (n : ℕ) (ps : Parts) → are_parts d n ps ≡ true
+    → divide n (kinds_of ps) ≡ Last ps
 unfolding push enter divide
 divide_last d n Done h = refl
 divide_last d n (Plain kind rest) h =
-    let a = split (is_plain n (form kind) && not (ends_statement d n (form kind))) (are_parts d n rest) h in
-    let b = split (is_plain n (form kind)) (not (ends_statement d n (form kind))) a.0 in
+    let a = split (is_plain n (role kind) && not (ends_statement d n (role kind)))
+    (are_parts d n rest) h in
+    let b = split (is_plain n (role kind)) (not (ends_statement d n (role kind))) a.0 in
     divide_plain n kind (kinds_of rest) b.0 ∙ ap (push kind) (divide_last d n rest a.1)
 divide_last d n (Closed inside rest) h =
     let a = split (are_parts d (suc n) inside && all_closed inside) (are_parts d n rest) h in
@@ -307,24 +386,34 @@ divide_last d n (Closed inside rest) h =
     ∙ ap enter (divide_onto d (suc n) inside (R_PAREN ∷ kinds_of rest) b.0 b.1
     ∙ ap (onto inside) (divide_close n (kinds_of rest) ∙ ap (More Done) (divide_last d n rest a.1))
     ∙ onto_done inside (Last rest) b.1)
-divide_last d n (Unclosed inside) h = divide_open n (kinds_of inside) ∙ ap enter (divide_last d (suc n) inside h)
+divide_last d n (Unclosed inside) h = divide_open n (kinds_of inside)
+    ∙ ap enter (divide_last d (suc n) inside h)
 
 first_of_stack : Stack → Parts
 first_of_stack (Last p) = p
 first_of_stack (More p s) = p
 
-pub core_divides_once : (d : Division) (ps qs : Parts) → are_parts d 0 ps ≡ true → are_parts d 0 qs ≡ true → kinds_of ps ≡ kinds_of qs → ps ≡ qs
+pub core_divides_once : (d : Division) (ps qs : Parts) → are_parts d 0 ps ≡ true
+    → are_parts d 0 qs ≡ true → kinds_of ps ≡ kinds_of qs → ps ≡ qs
 unfolding first_of_stack
-core_divides_once d ps qs h k same = ap first_of_stack (sym (divide_last d 0 ps h) ∙ ap (divide 0) same ∙ divide_last d 0 qs k)
+core_divides_once d ps qs h k same = ap first_of_stack (sym (divide_last d 0 ps h)
+    ∙ ap (divide 0) same ∙ divide_last d 0 qs k)
 
 -- ---- the closing token
 
 -- the token that ends a statement stands behind all of its groups
-pub core_closing : (d : Division) (n : ℕ) (ks : List ℕ) (k : ℕ) → stays_open d n ks ≡ true → ends_statement d (open_groups_after_all n ks) (form k) ≡ true → body_steps d n (ks ++ k ∷ []) ≡ body_steps d n ks ++ Token k ∷ []
+pub core_closing : (d : Division) (n : ℕ) (ks : List ℕ) (k : ℕ) → stays_open d n ks ≡ true
+    → ends_statement d (open_groups_after_all n ks) (role k) ≡ true
+    → body_steps d n (ks ++ k ∷ []) ≡ body_steps d n ks ++ Token k ∷ []
 core_closing d n [] k h e = rw e (append-nil (exits n ++ Token k ∷ []))
 core_closing d n (j ∷ ks) k h e =
-    let a = split (not (ends_statement d n (form j))) (stays_open d (open_groups_after n (form j)) ks) h in
-    let goes : groups_open_after d n (form j) ≡ open_groups_after n (form j) = rw (not_false (ends_statement d n (form j)) a.0) refl in
+    let a = split (not (ends_statement d n (role j)))
+    (stays_open d (open_groups_after n (role j)) ks) h in
+    let goes : groups_open_after d n (role j) ≡ open_groups_after n (role j) =
+    rw (not_false (ends_statement d n (role j)) a.0) refl in
     ap (λ xs. kind_steps d n j ++ xs)
-    (ap (λ m. body_steps d m (ks ++ k ∷ [])) goes ∙ core_closing d (open_groups_after n (form j)) ks k a.1 e ∙ ap (λ m. body_steps d m ks ++ Token k ∷ []) (sym goes))
-    ∙ sym (append_assoc (kind_steps d n j) (body_steps d (groups_open_after d n (form j)) ks) (Token k ∷ []))
+    (ap (λ m. body_steps d m (ks ++ k ∷ [])) goes
+    ∙ core_closing d (open_groups_after n (role j)) ks k a.1 e
+    ∙ ap (λ m. body_steps d m ks ++ Token k ∷ []) (sym goes))
+    ∙ sym (append_assoc (kind_steps d n j) (body_steps d (groups_open_after d n (role j)) ks)
+    (Token k ∷ []))

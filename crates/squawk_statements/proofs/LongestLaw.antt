@@ -29,22 +29,28 @@ fails-most : (ks : List ℕ) (n : ℕ) (other : Row) → Fails ks other → AtMo
 unfolding Fails AtMost
 fails-most ks n other h = λ k. clash (is_prefix other.0 ks) h k
 
-step : (r : Row) (table : List Row) (ks : List ℕ) (t : Bool) (rest : Option Row) → is_prefix r.0 ks ≡ t → Found table ks rest → Found (r ∷ table) ks (longer (cond t (Some r) None) rest)
+step : (r : Row) (table : List Row) (ks : List ℕ) (t : Bool) (rest : Option Row)
+    → is_prefix r.0 ks ≡ t → Found table ks rest
+    → Found (r ∷ table) ks (longer (cond t (Some r) None) rest)
 unfolding Found Fails AtMost
 step r table ks false None is h = All-cons (Fails ks) r table is h
 step r table ks false (Some row) is h = record {
   listed = contains-later r row table h.listed;
   fits = h.fits;
-  longest = All-cons (AtMost ks (length row.0)) r table (fails-most ks (length row.0) r is) h.longest;
+  longest = All-cons (AtMost ks (length row.0)) r table (fails-most ks (length row.0) r is)
+      h.longest;
 }
 step r table ks true None is h = record {
   listed = contains-first r table;
   fits = is;
-  longest = All-cons (AtMost ks (length r.0)) r table (λ k. omega arith) (All-weaker (Fails ks) (AtMost ks (length r.0)) (fails-most ks (length r.0)) table h);
+  longest = All-cons (AtMost ks (length r.0)) r table (λ k.
+      omega arith) (All-weaker (Fails ks) (AtMost ks (length r.0)) (fails-most ks (length r.0))
+      table h);
 }
 step r table ks true (Some row) is h = by (nat_lt (length r.0) (length row.0)) refl
   where
-    by : (b : Bool) → nat_lt (length r.0) (length row.0) ≡ b → Found (r ∷ table) ks (cond b (Some row) (Some r))
+    by : (b : Bool) → nat_lt (length r.0) (length row.0) ≡ b
+        → Found (r ∷ table) ks (cond b (Some row) (Some r))
     by true less =
         let smaller = ltb-true (length r.0) (length row.0) less in
         record {
@@ -58,13 +64,15 @@ step r table ks true (Some row) is h = by (nat_lt (length r.0) (length row.0)) r
           listed = contains-first r table;
           fits = is;
           longest = All-cons (AtMost ks (length r.0)) r table (λ k. omega arith)
-              (All-weaker (AtMost ks (length row.0)) (AtMost ks (length r.0)) (λ other small k. let e = small k in omega arith) table h.longest);
+              (All-weaker (AtMost ks (length row.0)) (AtMost ks (length r.0)) (λ other small k.
+              let e = small k in omega arith) table h.longest);
         }
 
 found : (table : List Row) (ks : List ℕ) → Found table ks (longest table ks)
 unfolding Found
 found [] ks = All-nil (Fails ks)
-found (row ∷ table) ks = step row table ks (is_prefix row.0 ks) (longest table ks) refl (found table ks)
+found (row ∷ table) ks =
+    step row table ks (is_prefix row.0 ks) (longest table ks) refl (found table ks)
 
 pub longest_is : (ks : List ℕ) (row : Row) → longest rows ks ≡ Some row → IsLongest rows ks row
 unfolding Found

@@ -13,20 +13,25 @@ unfoldable may_begin : ℕ → List ℕ → Bool
 may_begin k [] = true
 may_begin k (r ∷ rs) = r == k
 
-may_begin-prefix : (k : ℕ) (ks row : List ℕ) → is_prefix row (k ∷ ks) ≡ true → may_begin k row ≡ true
+may_begin-prefix : (k : ℕ) (ks row : List ℕ) → is_prefix row (k ∷ ks) ≡ true
+    → may_begin k row ≡ true
 unfolding may_begin
 may_begin-prefix k ks [] h = refl
 may_begin-prefix k ks (r ∷ rs) h = (and_parts (r == k) (is_prefix rs ks) h).0
 
 -- an ordered table decides where it is that part of the whole in which a row may fit
-Decide-from : (test : Row → Bool) (k : ℕ) (table : List Row) → ((ks : List ℕ) (row : Row) → is_prefix row.0 (k ∷ ks) ≡ true → test row ≡ true)
+Decide-from : (test : Row → Bool) (k : ℕ) (table : List Row)
+    → ((ks : List ℕ) (row : Row) → is_prefix row.0 (k ∷ ks) ≡ true → test row ≡ true)
     → filter test rows ≡ table → are_ordered table ≡ true → Decide k table
 unfolding Decide
 Decide-from test k table all is ordered = λ ks.
-    find-longest table (k ∷ ks) ordered ∙ ap (λ t. longest t (k ∷ ks)) (sym is) ∙ longest-filter test (k ∷ ks) (all ks) rows
+    find-longest table (k ∷ ks) ordered ∙ ap (λ t. longest t (k ∷ ks)) (sym is)
+    ∙ longest-filter test (k ∷ ks) (all ks) rows
 
-Decide-by : (k : ℕ) (table : List Row) → filter (λ (row : Row). may_begin k row.0) rows ≡ table → are_ordered table ≡ true → Decide k table
-Decide-by k table is ordered = Decide-from (λ row. may_begin k row.0) k table (λ ks row h. may_begin-prefix k ks row.0 h) is ordered
+Decide-by : (k : ℕ) (table : List Row) → filter (λ (row : Row). may_begin k row.0) rows ≡ table
+    → are_ordered table ≡ true → Decide k table
+Decide-by k table is ordered = Decide-from (λ row. may_begin k row.0) k table (λ ks row h.
+    may_begin-prefix k ks row.0 h) is ordered
 
 pub Decide-create : Decide kind.CREATE_KW create_rows
 unfolding rows other_rows create_rows alter_rows drop_rows may_begin is_first are_ordered
@@ -48,20 +53,28 @@ unfoldable is_other_row : List ℕ → Bool
 is_other_row [] = true
 is_other_row (r ∷ rs) = is_other r
 
-is_other_row-prefix : (k : ℕ) (ks row : List ℕ) → is_other k ≡ true → is_prefix row (k ∷ ks) ≡ true → is_other_row row ≡ true
+is_other_row-prefix : (k : ℕ) (ks row : List ℕ) → is_other k ≡ true → is_prefix row (k ∷ ks) ≡ true
+    → is_other_row row ≡ true
 unfolding is_other_row
 is_other_row-prefix k ks [] h p = refl
-is_other_row-prefix k ks (r ∷ rs) h p = ap is_other (eqb-true r k (and_parts (r == k) (is_prefix rs ks) p).0) ∙ h
+is_other_row-prefix k ks (r ∷ rs) h p =
+    ap is_other (eqb-true r k (and_parts (r == k) (is_prefix rs ks) p).0) ∙ h
 
-is_other-from : (k : ℕ) → k ≢ kind.CREATE_KW → k ≢ kind.ALTER_KW → k ≢ kind.DROP_KW → is_other k ≡ true
+is_other-from : (k : ℕ) → k ≢ kind.CREATE_KW → k ≢ kind.ALTER_KW → k ≢ kind.DROP_KW
+    → is_other k ≡ true
 unfolding is_other
-is_other-from k create alter drop = rw (ne_eqb k kind.CREATE_KW create, ne_eqb k kind.ALTER_KW alter, ne_eqb k kind.DROP_KW drop) refl
+is_other-from k create alter drop =
+    rw (ne_eqb k kind.CREATE_KW create, ne_eqb k kind.ALTER_KW alter, ne_eqb k kind.DROP_KW drop)
+    refl
 
-pub Decide-other : (k : ℕ) → k ≢ kind.CREATE_KW → k ≢ kind.ALTER_KW → k ≢ kind.DROP_KW → Decide k other_rows
-unfolding rows other_rows create_rows alter_rows drop_rows is_other is_other_row is_first are_ordered
+pub Decide-other : (k : ℕ) → k ≢ kind.CREATE_KW → k ≢ kind.ALTER_KW → k ≢ kind.DROP_KW
+    → Decide k other_rows
+unfolding rows other_rows create_rows alter_rows drop_rows is_other is_other_row is_first
+    are_ordered
 Decide-other k create alter drop =
     let h = is_other-from k create alter drop in
-    Decide-from (λ row. is_other_row row.0) k other_rows (λ ks row p. is_other_row-prefix k ks row.0 h p) refl refl
+    Decide-from (λ row. is_other_row row.0) k other_rows (λ ks row p.
+    is_other_row-prefix k ks row.0 h p) refl refl
 
 -- the node of a row that was found is a kind
 unfoldable pub IsKind : Option Row → Type 0
@@ -78,15 +91,18 @@ IsKind-longer (Some row) (Some other) h k = by (nat_lt (length row.0) (length ot
     by true = k
     by false = h
 
-IsKind-longest : (table : List Row) (ks : List ℕ) → list_all (λ (row : Row). nat_lt row.1 2068) table ≡ true → IsKind (longest table ks)
+IsKind-longest : (table : List Row) (ks : List ℕ)
+    → list_all (λ (row : Row). nat_lt row.1 2068) table ≡ true → IsKind (longest table ks)
 unfolding IsKind
 IsKind-longest [] ks h = tt
 IsKind-longest (row ∷ table) ks h =
     let p = and_parts (nat_lt row.1 2068) (list_all (λ (row : Row). nat_lt row.1 2068) table) h in
-    IsKind-longer (cond (is_prefix row.0 ks) (Some row) None) (longest table ks) (by (is_prefix row.0 ks)) (IsKind-longest table ks p.1)
+    IsKind-longer (cond (is_prefix row.0 ks) (Some row) None) (longest table ks)
+    (by (is_prefix row.0 ks)) (IsKind-longest table ks p.1)
   where
     by : (t : Bool) → IsKind (cond t (Some row) None)
-    by true = ltb-true row.1 2068 (and_parts (nat_lt row.1 2068) (list_all (λ (row : Row). nat_lt row.1 2068) table) h).0
+    by true = ltb-true row.1 2068 (and_parts (nat_lt row.1 2068) (list_all (λ (row : Row).
+        nat_lt row.1 2068) table) h).0
     by false = tt
 
 pub IsKind-rows : (ks : List ℕ) → IsKind (longest rows ks)

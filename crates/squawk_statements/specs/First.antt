@@ -1,16 +1,16 @@
 -- The first child of the root, and its node.
 use Rattle.std.specs.Prelude.{ℕ, ◌+◌, List, [], ◌∷◌, map, take, Option, Some, None}
 use Rattle.squawk_kinds.specs.declared.numbers.TheConstants.Number as kind
-use Rattle.squawk_lexer.specs.Cut.{Form, Trivia, Semicolon, Terminator, Command, Open, Close, Other}
+use Rattle.squawk_kinds.specs.Role.{Role, Trivia, Semicolon, Terminator, Command, Open, Close, Other}
 use Rattle.squawk_statements.specs.Children.{first_child}
 use Rattle.squawk_events.specs.Kinds.{without_trivia}
-use Rattle.squawk_statements.specs.Kinds.{form}
+use Rattle.squawk_kinds.specs.Role.{role}
 use Rattle.squawk_statements.specs.Opening.{statement_node}
 use Rattle.squawk_statements.specs.declared.division.Division.{Division}
 use Rattle.squawk_statements.specs.declared.first.ChildShape.{ChildShape}
 
--- the node of a child whose kinds that are no trivia are these, and whose first kind has this form
-abbrev pub node_by : Form → List ℕ → Option ℕ
+-- the node of a child whose kinds that are no trivia are these, and whose first kind has this role
+abbrev pub node_by : Role → List ℕ → Option ℕ
 node_by Trivia ks = None
 node_by Semicolon ks = Some kind.EMPTY_STMT
 node_by Terminator ks = Some kind.PSQL_COMMAND
@@ -22,11 +22,11 @@ node_by Other ks = Some (statement_node ks)
 -- the node of a child of these kinds, trivia among them; none for a leaf
 abbrev pub child_node : List ℕ → Option ℕ
 child_node [] = None
-child_node (k ∷ ks) = node_by (form k) (without_trivia (k ∷ ks))
+child_node (k ∷ ks) = node_by (role k) (without_trivia (k ∷ ks))
 
 -- the first child of a list of kinds, trivia among them
 abbrev pub first_shape : Division → List ℕ → ChildShape
-first_shape division kinds = let child = first_child division (map form kinds) in record {
+first_shape division kinds = let child = first_child division (map role kinds) in record {
   tokens = child.more + 1;
   node = child_node (take (child.more + 1) kinds);
   closed = child.closed;

@@ -3,9 +3,9 @@ use Rattle.std.specs.Prelude.{ℕ, zero, suc, ◌&&◌, not, Bool, true, false, 
 use Rattle.squawk_events.specs.declared.steps.Step.{Step}
 use Rattle.squawk_events.specs.declared.steps.Step.TheVariants.{Enter, Token, Exit}
 use Rattle.squawk_kinds.specs.declared.numbers.TheConstants.Number.{L_PAREN, R_PAREN, PAREN_EXPR}
-use Rattle.squawk_lexer.specs.Cut.{Form, Trivia, Semicolon, Terminator, Command, Open, Close, Other}
+use Rattle.squawk_kinds.specs.Role.{Role, Trivia, Semicolon, Terminator, Command, Open, Close, Other}
 use Rattle.squawk_statements.specs.Children.{ends_statement, open_groups_after}
-use Rattle.squawk_statements.specs.Kinds.{form}
+use Rattle.squawk_kinds.specs.Role.{role}
 use Rattle.squawk_statements.specs.declared.division.Division.{Division}
 
 -- no part, or a plain kind or a group and the parts behind it
@@ -24,11 +24,12 @@ kinds_of (Unclosed inside) = L_PAREN ∷ kinds_of inside
 abbrev pub steps_of : Parts → List Step
 steps_of Done = []
 steps_of (Plain kind rest) = Token kind ∷ steps_of rest
-steps_of (Closed inside rest) = Enter PAREN_EXPR ∷ Token L_PAREN ∷ steps_of inside ++ Token R_PAREN ∷ Exit ∷ steps_of rest
+steps_of (Closed inside rest) = Enter PAREN_EXPR ∷ Token L_PAREN ∷ steps_of inside ++ Token R_PAREN
+    ∷ Exit ∷ steps_of rest
 steps_of (Unclosed inside) = Enter PAREN_EXPR ∷ Token L_PAREN ∷ steps_of inside ++ Exit ∷ []
 
 -- a closing parenthesis is a plain kind exactly outside all groups
-abbrev pub is_plain : ℕ → Form → Bool
+abbrev pub is_plain : ℕ → Role → Bool
 is_plain n Trivia = true
 is_plain n Semicolon = true
 is_plain n Terminator = true
@@ -44,19 +45,23 @@ all_closed (Plain kind rest) = all_closed rest
 all_closed (Closed inside rest) = all_closed rest
 all_closed (Unclosed inside) = false
 
--- the parts of a core inside n groups: no kind ends the statement, and a group that is closed holds none that is not
+-- the parts of a core inside n groups: no kind ends the statement, and a group that is closed holds
+-- none that is not
 abbrev pub are_parts : Division → ℕ → Parts → Bool
 are_parts d n Done = true
-are_parts d n (Plain kind rest) = (is_plain n (form kind) && not (ends_statement d n (form kind))) && are_parts d n rest
-are_parts d n (Closed inside rest) = (are_parts d (suc n) inside && all_closed inside) && are_parts d n rest
+are_parts d n (Plain kind rest) = (is_plain n (role kind) && not (ends_statement d n (role kind)))
+    && are_parts d n rest
+are_parts d n (Closed inside rest) = (are_parts d (suc n) inside && all_closed inside)
+    && are_parts d n rest
 are_parts d n (Unclosed inside) = are_parts d (suc n) inside
 
 -- no kind ends the statement in which n groups are open
 abbrev pub stays_open : Division → ℕ → List ℕ → Bool
 stays_open d n [] = true
-stays_open d n (k ∷ ks) = not (ends_statement d n (form k)) && stays_open d (open_groups_after n (form k)) ks
+stays_open d n (k ∷ ks) = not (ends_statement d n (role k))
+    && stays_open d (open_groups_after n (role k)) ks
 
 -- how many groups are open behind some kinds
 abbrev pub open_groups_after_all : ℕ → List ℕ → ℕ
 open_groups_after_all n [] = n
-open_groups_after_all n (k ∷ ks) = open_groups_after_all (open_groups_after n (form k)) ks
+open_groups_after_all n (k ∷ ks) = open_groups_after_all (open_groups_after n (role k)) ks

@@ -2,23 +2,12 @@
 use Rattle.std.specs.Prelude.{◌≡◌, ℕ, ◌==◌, ◌||◌, Bool, true, false, refl, if◌then◌else◌}
 use Rattle.squawk_events.specs.Kinds.{is_trivia_kind}
 use Rattle.squawk_kinds.specs.declared.numbers.TheConstants.Number as kind
-use Rattle.squawk_lexer.specs.Cut.{Form, is_trivia, Trivia, Semicolon, Terminator, Command, Open, Close, Other}
+use Rattle.squawk_kinds.specs.Role.{Role, role, is_trivia, Trivia, Semicolon, Terminator, Command, Open, Close, Other}
 
--- what a kind is to the division into statements
-unfoldable pub form : ℕ → Form
-form k =
-    if k == kind.WHITESPACE || k == kind.COMMENT then Trivia
-    else if k == kind.SEMICOLON then Semicolon
-    else if k == kind.PSQL_TERMINATOR_TEXT then Terminator
-    else if k == kind.PSQL_COMMAND_TEXT then Command
-    else if k == kind.L_PAREN then Open
-    else if k == kind.R_PAREN then Close
-    else Other
-
--- a kind is trivia where its form is
-pub form_trivia : (k : ℕ) → is_trivia (form k) ≡ is_trivia_kind k
-unfolding form is_trivia_kind
-form_trivia k = by (k == kind.WHITESPACE || k == kind.COMMENT) (k == kind.SEMICOLON) (k == kind.PSQL_TERMINATOR_TEXT) (k == kind.PSQL_COMMAND_TEXT) (k == kind.L_PAREN) (k == kind.R_PAREN)
+-- a kind is trivia where its role is
+pub role_trivia : (k : ℕ) → is_trivia (role k) ≡ is_trivia_kind k
+unfolding role is_trivia_kind
+role_trivia k = by (k == kind.WHITESPACE || k == kind.COMMENT) (k == kind.SEMICOLON) (k == kind.PSQL_TERMINATOR_TEXT) (k == kind.PSQL_COMMAND_TEXT) (k == kind.L_PAREN) (k == kind.R_PAREN)
   where
     by : (t a b c d e : Bool) → is_trivia (if t then Trivia else if a then Semicolon else if b then Terminator else if c then Command else if d then Open else if e then Close else Other) ≡ t
     by true a b c d e = refl

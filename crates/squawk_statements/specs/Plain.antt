@@ -1,7 +1,7 @@
 -- The steps of a list of kinds without trivia.
 use Rattle.std.specs.Prelude.{ℕ, zero, suc, ◌==◌, List, [], ◌∷◌, ◌++◌, unwrap_or, if◌then◌else◌}
-use Rattle.squawk_statements.specs.Kinds.{form}
-use Rattle.squawk_lexer.specs.Cut.{Form, Trivia, Semicolon, Terminator, Command, Open, Close, Other}
+use Rattle.squawk_kinds.specs.Role.{role}
+use Rattle.squawk_kinds.specs.Role.{Role, Trivia, Semicolon, Terminator, Command, Open, Close, Other}
 use Rattle.squawk_kinds.specs.declared.numbers.TheConstants.Number.{PAREN_EXPR, SOURCE_FILE, ERROR}
 use Rattle.squawk_events.specs.declared.steps.Step.{Step}
 use Rattle.squawk_events.specs.declared.steps.Step.TheVariants.{Enter, Token, Exit, Error}
@@ -12,10 +12,10 @@ use Rattle.squawk_statements.specs.declared.division.Division.{Division}
 -- the node of a child of these kinds, none of which is trivia
 abbrev pub node_of : List ℕ → ℕ
 node_of [] = ERROR
-node_of (kind ∷ kinds) = unwrap_or (node_by (form kind) (kind ∷ kinds)) ERROR
+node_of (kind ∷ kinds) = unwrap_or (node_by (role kind) (kind ∷ kinds)) ERROR
 
 -- before a kind's token in a group
-abbrev pub enters_before : Form → List Step
+abbrev pub enters_before : Role → List Step
 enters_before Open = Enter PAREN_EXPR ∷ []
 enters_before Trivia = []
 enters_before Semicolon = []
@@ -25,7 +25,7 @@ enters_before Close = []
 enters_before Other = []
 
 -- behind a kind's token, where n groups are open before it
-abbrev pub exits_after : ℕ → Form → List Step
+abbrev pub exits_after : ℕ → Role → List Step
 exits_after n Trivia = []
 exits_after n Semicolon = []
 exits_after n Terminator = []
@@ -39,27 +39,31 @@ abbrev pub exits : ℕ → List Step
 exits zero = []
 exits (suc n) = Exit ∷ exits n
 
--- the steps of a kind of a child, where n groups are open before it: where the child closes, they end
+-- the steps of a kind of a child, where n groups are open before it: where the child closes, they
+-- end
 abbrev pub kind_steps : Division → ℕ → ℕ → List Step
 kind_steps d n kind =
-    if ends_statement d n (form kind) then exits n ++ Token kind ∷ []
-    else enters_before (form kind) ++ Token kind ∷ exits_after n (form kind)
+    if ends_statement d n (role kind) then exits n ++ Token kind ∷ []
+    else enters_before (role kind) ++ Token kind ∷ exits_after n (role kind)
 
--- how many groups are open behind a form
-abbrev pub groups_open_after : Division → ℕ → Form → ℕ
+-- how many groups are open behind a role
+abbrev pub groups_open_after : Division → ℕ → Role → ℕ
 groups_open_after d n f = if ends_statement d n f then 0 else open_groups_after n f
 
--- The steps of the kinds of a child from here on, where n groups are open. Where its kinds end, all open groups end.
+-- The steps of the kinds of a child from here on, where n groups are open. Where its kinds end, all
+-- open groups end.
 abbrev pub body_steps : Division → ℕ → List ℕ → List Step
 body_steps d n [] = exits n
-body_steps d n (kind ∷ kinds) = kind_steps d n kind ++ body_steps d (groups_open_after d n (form kind)) kinds
+body_steps d n (kind ∷ kinds) = kind_steps d n kind
+    ++ body_steps d (groups_open_after d n (role kind)) kinds
 
 abbrev pub unknown_statement_error : ℕ → List Step
 unknown_statement_error node = if node == ERROR then Error 10 ∷ [] else []
 
 -- the steps of a child of these kinds
 abbrev pub child_steps : Division → List ℕ → List Step
-child_steps d kinds = Enter (node_of kinds) ∷ unknown_statement_error (node_of kinds) ++ body_steps d 0 kinds ++ Exit ∷ []
+child_steps d kinds = Enter (node_of kinds) ∷ unknown_statement_error (node_of kinds)
+    ++ body_steps d 0 kinds ++ Exit ∷ []
 
 abbrev pub children_steps : Division → List (List ℕ) → List Step
 children_steps d [] = []
@@ -67,4 +71,4 @@ children_steps d (part ∷ rest) = child_steps d part ++ children_steps d rest
 
 -- the steps of a list of kinds without trivia
 abbrev pub plain : Division → List ℕ → List Step
-plain d kinds = Enter SOURCE_FILE ∷ children_steps d (parts form d kinds) ++ Exit ∷ []
+plain d kinds = Enter SOURCE_FILE ∷ children_steps d (parts role d kinds) ++ Exit ∷ []

@@ -3,9 +3,9 @@ use Rattle.std.specs.Prelude.{◌≡◌, ℕ, zero, suc, ◌==◌, Bool, true, f
 use Rattle.std.proofs.Common.{ap, sym, ◌∙◌, append_assoc}
 use Rattle.std.proofs.lemmas.List.{take-append-drop, append-nil}
 use Rattle.squawk_events.specs.Kinds.{has_no_trivia}
-use Rattle.squawk_statements.specs.Kinds.{form}
+use Rattle.squawk_kinds.specs.Role.{role}
 use Rattle.squawk_events.specs.Lawful.{IsLawful, is_balanced, closes, token_kinds, has_lawful_numbers}
-use Rattle.squawk_lexer.specs.Cut.{Form, Trivia, Semicolon, Terminator, Command, Open, Close, Other}
+use Rattle.squawk_kinds.specs.Role.{Role, Trivia, Semicolon, Terminator, Command, Open, Close, Other}
 use Rattle.squawk_kinds.specs.declared.numbers.TheConstants.Number.{ERROR}
 use Rattle.squawk_events.specs.declared.steps.Step.{Step}
 use Rattle.squawk_events.specs.declared.steps.Step.TheVariants.{Enter, Token, Exit, Error}
@@ -21,22 +21,30 @@ abbrev raised : ℕ → ℕ → ℕ
 raised zero m = m
 raised (suc n) m = suc (raised n m)
 
-closes_exits : (n m : ℕ) (xs : List Step) → closes (raised n (suc m)) (exits n ++ xs) ≡ closes (suc m) xs
+closes_exits : (n m : ℕ) (xs : List Step) → closes (raised n (suc m)) (exits n ++ xs)
+    ≡ closes (suc m) xs
 closes_exits zero m xs = refl
 closes_exits (suc n) m xs = closes_exits n m xs
 
-closes_token : (n m kind : ℕ) (xs : List Step) → closes (raised n (suc m)) (Token kind ∷ xs) ≡ closes (raised n (suc m)) xs
+closes_token : (n m kind : ℕ) (xs : List Step)
+    → closes (raised n (suc m)) (Token kind ∷ xs) ≡ closes (raised n (suc m)) xs
 closes_token zero m kind xs = refl
 closes_token (suc n) m kind xs = refl
 
-closes_end : (n m kind : ℕ) (xs : List Step) → closes (raised n (suc m)) ((exits n ++ Token kind ∷ []) ++ xs) ≡ closes (suc m) xs
-closes_end n m kind xs = ap (closes (raised n (suc m))) (append_assoc (exits n) (Token kind ∷ []) xs) ∙ closes_exits n m (Token kind ∷ xs)
+closes_end : (n m kind : ℕ) (xs : List Step)
+    → closes (raised n (suc m)) ((exits n ++ Token kind ∷ []) ++ xs) ≡ closes (suc m) xs
+closes_end n m kind xs =
+    ap (closes (raised n (suc m))) (append_assoc (exits n) (Token kind ∷ []) xs)
+    ∙ closes_exits n m (Token kind ∷ xs)
 
--- the steps of a kind of this form
-abbrev steps_by : Division → ℕ → ℕ → Form → List Step
-steps_by d n kind f = if ends_statement d n f then exits n ++ Token kind ∷ [] else enters_before f ++ Token kind ∷ exits_after n f
+-- the steps of a kind of this role
+abbrev steps_by : Division → ℕ → ℕ → Role → List Step
+steps_by d n kind f = if ends_statement d n f then exits n ++ Token kind ∷ []
+    else enters_before f ++ Token kind ∷ exits_after n f
 
-closes_kind : (d : Division) (n m kind : ℕ) (f : Form) (xs : List Step) → closes (raised n (suc m)) (steps_by d n kind f ++ xs) ≡ closes (raised (groups_open_after d n f) (suc m)) xs
+closes_kind : (d : Division) (n m kind : ℕ) (f : Role) (xs : List Step)
+    → closes (raised n (suc m)) (steps_by d n kind f ++ xs)
+    ≡ closes (raised (groups_open_after d n f) (suc m)) xs
 closes_kind d n m kind Trivia xs = closes_token n m kind xs
 closes_kind Flat n m kind Semicolon xs = closes_end n m kind xs
 closes_kind Grouped zero m kind Semicolon xs = refl
@@ -49,25 +57,32 @@ closes_kind d zero m kind Close xs = refl
 closes_kind d (suc n) m kind Close xs = refl
 closes_kind d n m kind Other xs = closes_token n m kind xs
 
-closes_core : (d : Division) (n m : ℕ) (kinds : List ℕ) (xs : List Step) → closes (raised n (suc m)) (body_steps d n kinds ++ xs) ≡ closes (suc m) xs
+closes_core : (d : Division) (n m : ℕ) (kinds : List ℕ) (xs : List Step)
+    → closes (raised n (suc m)) (body_steps d n kinds ++ xs) ≡ closes (suc m) xs
 closes_core d n m [] xs = closes_exits n m xs
 closes_core d n m (kind ∷ kinds) xs =
-    ap (closes (raised n (suc m))) (append_assoc (kind_steps d n kind) (body_steps d (groups_open_after d n (form kind)) kinds) xs)
-    ∙ closes_kind d n m kind (form kind) (body_steps d (groups_open_after d n (form kind)) kinds ++ xs)
-    ∙ closes_core d (groups_open_after d n (form kind)) m kinds xs
+    ap (closes (raised n (suc m))) (append_assoc (kind_steps d n kind)
+    (body_steps d (groups_open_after d n (role kind)) kinds) xs)
+    ∙ closes_kind d n m kind (role kind) (body_steps d (groups_open_after d n (role kind)) kinds
+    ++ xs)
+    ∙ closes_core d (groups_open_after d n (role kind)) m kinds xs
 
-closes_fault : (b : Bool) (m : ℕ) (xs : List Step) → closes (suc m) ((if b then Error 10 ∷ [] else []) ++ xs) ≡ closes (suc m) xs
+closes_fault : (b : Bool) (m : ℕ) (xs : List Step)
+    → closes (suc m) ((if b then Error 10 ∷ [] else []) ++ xs) ≡ closes (suc m) xs
 closes_fault true m xs = refl
 closes_fault false m xs = refl
 
-closes_child : (d : Division) (m : ℕ) (kinds : List ℕ) (xs : List Step) → closes (suc m) (child_steps d kinds ++ xs) ≡ closes (suc m) xs
+closes_child : (d : Division) (m : ℕ) (kinds : List ℕ) (xs : List Step)
+    → closes (suc m) (child_steps d kinds ++ xs) ≡ closes (suc m) xs
 closes_child d m kinds xs =
     let inner = unknown_statement_error (node_of kinds) in
-    ap (closes (suc (suc m))) (append_assoc (inner ++ body_steps d 0 kinds) (Exit ∷ []) xs ∙ append_assoc inner (body_steps d 0 kinds) (Exit ∷ xs))
+    ap (closes (suc (suc m))) (append_assoc (inner ++ body_steps d 0 kinds) (Exit ∷ []) xs
+    ∙ append_assoc inner (body_steps d 0 kinds) (Exit ∷ xs))
     ∙ closes_fault (node_of kinds == ERROR) (suc m) (body_steps d 0 kinds ++ Exit ∷ xs)
     ∙ closes_core d 0 (suc m) kinds (Exit ∷ xs)
 
-closes_children : (d : Division) (m : ℕ) (ps : List (List ℕ)) (xs : List Step) → closes (suc m) (children_steps d ps ++ xs) ≡ closes (suc m) xs
+closes_children : (d : Division) (m : ℕ) (ps : List (List ℕ)) (xs : List Step)
+    → closes (suc m) (children_steps d ps ++ xs) ≡ closes (suc m) xs
 closes_children d m [] xs = refl
 closes_children d m (p ∷ ps) xs =
     ap (closes (suc m)) (append_assoc (child_steps d p) (children_steps d ps) xs)
@@ -86,10 +101,13 @@ tokens_exits : (n : ℕ) (xs : List Step) → token_kinds (exits n ++ xs) ≡ to
 tokens_exits zero xs = refl
 tokens_exits (suc n) xs = tokens_exits n xs
 
-tokens_end : (n kind : ℕ) (xs : List Step) → token_kinds ((exits n ++ Token kind ∷ []) ++ xs) ≡ kind ∷ token_kinds xs
-tokens_end n kind xs = ap token_kinds (append_assoc (exits n) (Token kind ∷ []) xs) ∙ tokens_exits n (Token kind ∷ xs)
+tokens_end : (n kind : ℕ) (xs : List Step) → token_kinds ((exits n ++ Token kind ∷ []) ++ xs)
+    ≡ kind ∷ token_kinds xs
+tokens_end n kind xs = ap token_kinds (append_assoc (exits n) (Token kind ∷ []) xs)
+    ∙ tokens_exits n (Token kind ∷ xs)
 
-tokens_kind : (d : Division) (n kind : ℕ) (f : Form) (xs : List Step) → token_kinds (steps_by d n kind f ++ xs) ≡ kind ∷ token_kinds xs
+tokens_kind : (d : Division) (n kind : ℕ) (f : Role) (xs : List Step)
+    → token_kinds (steps_by d n kind f ++ xs) ≡ kind ∷ token_kinds xs
 tokens_kind d n kind Trivia xs = refl
 tokens_kind Flat n kind Semicolon xs = tokens_end n kind xs
 tokens_kind Grouped zero kind Semicolon xs = refl
@@ -101,21 +119,27 @@ tokens_kind d zero kind Close xs = refl
 tokens_kind d (suc n) kind Close xs = refl
 tokens_kind d n kind Other xs = refl
 
-tokens_core : (d : Division) (n : ℕ) (kinds : List ℕ) (xs : List Step) → token_kinds (body_steps d n kinds ++ xs) ≡ kinds ++ token_kinds xs
+tokens_core : (d : Division) (n : ℕ) (kinds : List ℕ) (xs : List Step)
+    → token_kinds (body_steps d n kinds ++ xs) ≡ kinds ++ token_kinds xs
 tokens_core d n [] xs = tokens_exits n xs
 tokens_core d n (kind ∷ kinds) xs =
-    ap token_kinds (append_assoc (kind_steps d n kind) (body_steps d (groups_open_after d n (form kind)) kinds) xs)
-    ∙ tokens_kind d n kind (form kind) (body_steps d (groups_open_after d n (form kind)) kinds ++ xs)
-    ∙ ap (λ ks. kind ∷ ks) (tokens_core d (groups_open_after d n (form kind)) kinds xs)
+    ap token_kinds (append_assoc (kind_steps d n kind)
+    (body_steps d (groups_open_after d n (role kind)) kinds) xs)
+    ∙ tokens_kind d n kind (role kind) (body_steps d (groups_open_after d n (role kind)) kinds
+    ++ xs)
+    ∙ ap (λ ks. kind ∷ ks) (tokens_core d (groups_open_after d n (role kind)) kinds xs)
 
-tokens_fault : (b : Bool) (xs : List Step) → token_kinds ((if b then Error 10 ∷ [] else []) ++ xs) ≡ token_kinds xs
+tokens_fault : (b : Bool) (xs : List Step) → token_kinds ((if b then Error 10 ∷ [] else []) ++ xs)
+    ≡ token_kinds xs
 tokens_fault true xs = refl
 tokens_fault false xs = refl
 
-tokens_child : (d : Division) (kinds : List ℕ) (xs : List Step) → token_kinds (child_steps d kinds ++ xs) ≡ kinds ++ token_kinds xs
+tokens_child : (d : Division) (kinds : List ℕ) (xs : List Step)
+    → token_kinds (child_steps d kinds ++ xs) ≡ kinds ++ token_kinds xs
 tokens_child d kinds xs =
     let inner = unknown_statement_error (node_of kinds) in
-    ap token_kinds (append_assoc (inner ++ body_steps d 0 kinds) (Exit ∷ []) xs ∙ append_assoc inner (body_steps d 0 kinds) (Exit ∷ xs))
+    ap token_kinds (append_assoc (inner ++ body_steps d 0 kinds) (Exit ∷ []) xs
+    ∙ append_assoc inner (body_steps d 0 kinds) (Exit ∷ xs))
     ∙ tokens_fault (node_of kinds == ERROR) (body_steps d 0 kinds ++ Exit ∷ xs)
     ∙ tokens_core d 0 kinds (Exit ∷ xs)
 
@@ -123,15 +147,18 @@ abbrev joined : {A : Type 0} → List (List A) → List A
 joined [] = []
 joined (xs ∷ rest) = xs ++ joined rest
 
-joined_parts : {A : Type 0} (form_of : A → Form) (n : ℕ) (d : Division) (xs : List A) → joined (parts_from form_of n d xs) ≡ drop n xs
-joined_parts form_of zero d [] = refl
-joined_parts form_of (suc n) d [] = refl
-joined_parts form_of zero d (x ∷ xs) =
-    let m = more_of form_of d x xs in
-    ap (λ ys. x ∷ (take m xs ++ ys)) (joined_parts form_of m d xs) ∙ ap (λ ys. x ∷ ys) (take-append-drop m xs)
-joined_parts form_of (suc n) d (x ∷ xs) = joined_parts form_of n d xs
+joined_parts : {A : Type 0} (role_of : A → Role) (n : ℕ) (d : Division) (xs : List A)
+    → joined (parts_from role_of n d xs) ≡ drop n xs
+joined_parts role_of zero d [] = refl
+joined_parts role_of (suc n) d [] = refl
+joined_parts role_of zero d (x ∷ xs) =
+    let m = more_of role_of d x xs in
+    ap (λ ys. x ∷ (take m xs ++ ys)) (joined_parts role_of m d xs)
+    ∙ ap (λ ys. x ∷ ys) (take-append-drop m xs)
+joined_parts role_of (suc n) d (x ∷ xs) = joined_parts role_of n d xs
 
-tokens_children : (d : Division) (ps : List (List ℕ)) (xs : List Step) → token_kinds (children_steps d ps ++ xs) ≡ joined ps ++ token_kinds xs
+tokens_children : (d : Division) (ps : List (List ℕ)) (xs : List Step)
+    → token_kinds (children_steps d ps ++ xs) ≡ joined ps ++ token_kinds xs
 tokens_children d [] xs = refl
 tokens_children d (p ∷ ps) xs =
     ap token_kinds (append_assoc (child_steps d p) (children_steps d ps) xs)
@@ -141,14 +168,18 @@ tokens_children d (p ∷ ps) xs =
 
 -- ---- numbers
 
-numbers_exits : (n : ℕ) (xs : List Step) → has_lawful_numbers (exits n ++ xs) ≡ has_lawful_numbers xs
+numbers_exits : (n : ℕ) (xs : List Step) → has_lawful_numbers (exits n ++ xs)
+    ≡ has_lawful_numbers xs
 numbers_exits zero xs = refl
 numbers_exits (suc n) xs = numbers_exits n xs
 
-numbers_end : (n kind : ℕ) (xs : List Step) → has_lawful_numbers ((exits n ++ Token kind ∷ []) ++ xs) ≡ has_lawful_numbers xs
-numbers_end n kind xs = ap has_lawful_numbers (append_assoc (exits n) (Token kind ∷ []) xs) ∙ numbers_exits n (Token kind ∷ xs)
+numbers_end : (n kind : ℕ) (xs : List Step)
+    → has_lawful_numbers ((exits n ++ Token kind ∷ []) ++ xs) ≡ has_lawful_numbers xs
+numbers_end n kind xs = ap has_lawful_numbers (append_assoc (exits n) (Token kind ∷ []) xs)
+    ∙ numbers_exits n (Token kind ∷ xs)
 
-numbers_kind : (d : Division) (n kind : ℕ) (f : Form) (xs : List Step) → has_lawful_numbers (steps_by d n kind f ++ xs) ≡ has_lawful_numbers xs
+numbers_kind : (d : Division) (n kind : ℕ) (f : Role) (xs : List Step)
+    → has_lawful_numbers (steps_by d n kind f ++ xs) ≡ has_lawful_numbers xs
 numbers_kind d n kind Trivia xs = refl
 numbers_kind Flat n kind Semicolon xs = numbers_end n kind xs
 numbers_kind Grouped zero kind Semicolon xs = refl
@@ -160,35 +191,44 @@ numbers_kind d zero kind Close xs = refl
 numbers_kind d (suc n) kind Close xs = refl
 numbers_kind d n kind Other xs = refl
 
-numbers_core : (d : Division) (n : ℕ) (kinds : List ℕ) (xs : List Step) → has_lawful_numbers (body_steps d n kinds ++ xs) ≡ has_lawful_numbers xs
+numbers_core : (d : Division) (n : ℕ) (kinds : List ℕ) (xs : List Step)
+    → has_lawful_numbers (body_steps d n kinds ++ xs) ≡ has_lawful_numbers xs
 numbers_core d n [] xs = numbers_exits n xs
 numbers_core d n (kind ∷ kinds) xs =
-    ap has_lawful_numbers (append_assoc (kind_steps d n kind) (body_steps d (groups_open_after d n (form kind)) kinds) xs)
-    ∙ numbers_kind d n kind (form kind) (body_steps d (groups_open_after d n (form kind)) kinds ++ xs)
-    ∙ numbers_core d (groups_open_after d n (form kind)) kinds xs
+    ap has_lawful_numbers (append_assoc (kind_steps d n kind)
+    (body_steps d (groups_open_after d n (role kind)) kinds) xs)
+    ∙ numbers_kind d n kind (role kind) (body_steps d (groups_open_after d n (role kind)) kinds
+    ++ xs)
+    ∙ numbers_core d (groups_open_after d n (role kind)) kinds xs
 
-numbers_fault : (b : Bool) (xs : List Step) → has_lawful_numbers ((if b then Error 10 ∷ [] else []) ++ xs) ≡ has_lawful_numbers xs
+numbers_fault : (b : Bool) (xs : List Step)
+    → has_lawful_numbers ((if b then Error 10 ∷ [] else []) ++ xs) ≡ has_lawful_numbers xs
 numbers_fault true xs = refl
 numbers_fault false xs = refl
 
-numbers_child : (d : Division) (kinds : List ℕ) (xs : List Step) → has_lawful_numbers (child_steps d kinds ++ xs) ≡ has_lawful_numbers xs
+numbers_child : (d : Division) (kinds : List ℕ) (xs : List Step)
+    → has_lawful_numbers (child_steps d kinds ++ xs) ≡ has_lawful_numbers xs
 numbers_child d kinds xs =
     let inner = unknown_statement_error (node_of kinds) in
-    ap has_lawful_numbers (append_assoc (inner ++ body_steps d 0 kinds) (Exit ∷ []) xs ∙ append_assoc inner (body_steps d 0 kinds) (Exit ∷ xs))
+    ap has_lawful_numbers (append_assoc (inner ++ body_steps d 0 kinds) (Exit ∷ []) xs
+    ∙ append_assoc inner (body_steps d 0 kinds) (Exit ∷ xs))
     ∙ numbers_fault (node_of kinds == ERROR) (body_steps d 0 kinds ++ Exit ∷ xs)
     ∙ numbers_core d 0 kinds (Exit ∷ xs)
 
-numbers_children : (d : Division) (ps : List (List ℕ)) (xs : List Step) → has_lawful_numbers (children_steps d ps ++ xs) ≡ has_lawful_numbers xs
+numbers_children : (d : Division) (ps : List (List ℕ)) (xs : List Step)
+    → has_lawful_numbers (children_steps d ps ++ xs) ≡ has_lawful_numbers xs
 numbers_children d [] xs = refl
 numbers_children d (p ∷ ps) xs =
     ap has_lawful_numbers (append_assoc (child_steps d p) (children_steps d ps) xs)
     ∙ numbers_child d p (children_steps d ps ++ xs) ∙ numbers_children d ps xs
 
-pub plain_lawful : (d : Division) (kinds : List ℕ) → IsTrue (has_no_trivia kinds) → IsLawful kinds (plain d kinds)
+pub plain_lawful : (d : Division) (kinds : List ℕ) → IsTrue (has_no_trivia kinds)
+    → IsLawful kinds (plain d kinds)
 plain_lawful d kinds none = record {
-  balanced = closes_children d 0 (parts form d kinds) (Exit ∷ []);
-  tokens = tokens_children d (parts form d kinds) (Exit ∷ []) ∙ append-nil (joined (parts form d kinds)) ∙ joined_parts form 0 d kinds;
-  numbers = numbers_children d (parts form d kinds) (Exit ∷ []);
+  balanced = closes_children d 0 (parts role d kinds) (Exit ∷ []);
+  tokens = tokens_children d (parts role d kinds) (Exit ∷ [])
+      ∙ append-nil (joined (parts role d kinds)) ∙ joined_parts role 0 d kinds;
+  numbers = numbers_children d (parts role d kinds) (Exit ∷ []);
 }
 
 -- a child's steps are a tree of its kinds
@@ -200,4 +240,5 @@ child_balanced d kinds =
     ∙ closes_core d 0 0 kinds (Exit ∷ [])
 
 pub child_tokens : (d : Division) (kinds : List ℕ) → token_kinds (child_steps d kinds) ≡ kinds
-child_tokens d kinds = ap token_kinds (sym (append-nil (child_steps d kinds))) ∙ tokens_child d kinds [] ∙ append-nil kinds
+child_tokens d kinds = ap token_kinds (sym (append-nil (child_steps d kinds)))
+    ∙ tokens_child d kinds [] ∙ append-nil kinds

@@ -10,9 +10,12 @@ use Rattle.squawk_statements.specs.declared.rows.Row.{Row}
 abbrev pub row_of : Row → opening.Row
 row_of row = (row.first ∷ row.more.now, row.node)
 
--- of these rows the first that fits is the longest of the whole table, where the first kind is this one
+-- of these rows the first that fits is the longest of the whole table, where the first kind is this
+-- one
 unfoldable pub Decide : ℕ → List opening.Row → Type 0
-Decide first rows = (more : List ℕ) → find (λ (row : opening.Row). opening.is_prefix row.0 (first ∷ more)) rows ≡ opening.longest opening.rows (first ∷ more)
+Decide first rows = (more : List ℕ)
+    → find (λ (row : opening.Row). opening.is_prefix row.0 (first ∷ more)) rows
+    ≡ opening.longest opening.rows (first ∷ more)
 
 -- the kinds that are read: all, or those that are no trivia
 abbrev pub kinds_read : Bool → List ℕ → List ℕ
@@ -21,7 +24,8 @@ kinds_read past_trivia ks = if past_trivia then without_trivia ks else ks
 -- what the key still takes of these kinds, where it has others so far
 abbrev pub key_after : List ℕ → List ℕ → List ℕ
 key_after [] ks = opening.key ks
-key_after (k ∷ []) ks = if k == kind.CREATE_KW then drop (prefix_len opening.is_modifier ks) ks else ks
+key_after (k ∷ []) ks = if k == kind.CREATE_KW then drop (prefix_len opening.is_modifier ks) ks
+    else ks
 key_after (k ∷ l ∷ so_far) ks = ks
 
 -- whether a kind behind these is a modifier that is left out

@@ -1,8 +1,8 @@
 //! What ends a statement, and what opens and closes a group.
 ghost use Rattle.std.specs.Prelude.{◌≡◌, ◌<◌, ◌^◌};
-ghost use Rattle.squawk_lexer.specs.Cut.{is_trivia};
+ghost use Rattle.squawk_kinds.specs.Role.{is_trivia};
 ghost use Rattle.squawk_statements.specs.Children.{ends_statement, open_groups_after, is_single_token};
-ghost use Rattle.squawk_statements.specs.Kinds.{form};
+ghost use Rattle.squawk_kinds.specs.Role.{role};
 
 use squawk_kinds::SyntaxKind;
 
@@ -16,17 +16,17 @@ pub enum Division {
 }
 
 /// Whether the kind is trivia: white space or a comment.
-#[tactic(auto, unfolding(crate::specs::Kinds::form))]
+#[tactic(auto, unfolding(squawk_kinds::specs::Role::role))]
 pub(crate) fn is_trivia(kind: SyntaxKind) -> bool
-    ensures { result ≡ is_trivia (form kind) }
+    ensures { result ≡ is_trivia (role kind) }
 {
     matches!(kind, SyntaxKind::WHITESPACE | SyntaxKind::COMMENT)
 }
 
 /// Whether the kind is a child of the root by itself where no statement is open.
-#[tactic(auto, unfolding(crate::specs::Kinds::form))]
+#[tactic(auto, unfolding(squawk_kinds::specs::Role::role))]
 pub(crate) fn is_single_token(kind: SyntaxKind) -> bool
-    ensures { result ≡ is_single_token (form kind) }
+    ensures { result ≡ is_single_token (role kind) }
 {
     matches!(
         kind,
@@ -35,9 +35,9 @@ pub(crate) fn is_single_token(kind: SyntaxKind) -> bool
 }
 
 /// Whether the kind ends the statement in which so many groups are open.
-#[tactic(auto, unfolding(crate::specs::Kinds::form))]
+#[tactic(auto, unfolding(squawk_kinds::specs::Role::role))]
 pub(crate) fn is_end(division: Division, groups: usize, kind: SyntaxKind) -> bool
-    ensures { result ≡ ends_statement division groups (form kind) }
+    ensures { result ≡ ends_statement division groups (role kind) }
 {
     match kind {
         SyntaxKind::PSQL_TERMINATOR_TEXT => true,
@@ -50,10 +50,10 @@ pub(crate) fn is_end(division: Division, groups: usize, kind: SyntaxKind) -> boo
 }
 
 /// How many groups are open behind a kind that does not end the statement.
-#[tactic(auto, unfolding(crate::specs::Kinds::form))]
+#[tactic(auto, unfolding(squawk_kinds::specs::Role::role))]
 pub(crate) fn next_groups(groups: usize, kind: SyntaxKind) -> usize
     requires { groups < 2 ^ 63 }
-    ensures { result ≡ open_groups_after groups (form kind) }
+    ensures { result ≡ open_groups_after groups (role kind) }
 {
     match kind {
         SyntaxKind::L_PAREN => groups + 1,

@@ -2,7 +2,7 @@
 ghost use Rattle.std.specs.Prelude.{◌≡◌, ◌≤◌, ◌<◌, ◌+◌, ◌++◌, ℕ, List, IsTrue, length, map, take};
 ghost use Rattle.squawk_statements.specs.Children.{statement, statement_end, first_child};
 ghost use Rattle.squawk_statements.specs.First.{first_shape, child_node};
-ghost use Rattle.squawk_statements.specs.Kinds.{form};
+ghost use Rattle.squawk_kinds.specs.Role.{role};
 ghost use Rattle.squawk_statements.specs.declared.division.Division.TheVariants.{Flat};
 
 use crate::division::{Division, is_end, is_single_token, is_trivia, next_groups};
@@ -11,7 +11,8 @@ use squawk_kinds::SyntaxKind;
 
 /// A child of the root: its number of tokens, its node, and whether it is closed.
 ///
-/// A child without a node is one trivia token by itself. Only a statement that nothing ends is not closed.
+/// A child without a node is one trivia token by itself. Only a statement that nothing ends is not
+/// closed.
 #[derive(Clone, Copy, Debug, PartialEq, Eq)]
 pub struct ChildShape {
     pub tokens: usize,
@@ -31,8 +32,11 @@ pub(crate) struct Rest {
 /// These are the kinds up to the one that ends it, or else up to the last that is no trivia.
 fn rest_of(division: Division, groups: usize, kinds: &[SyntaxKind]) -> Rest
     requires { groups ≤ 1 }
-    ensures more { result.more ≡ (statement (statement_end division groups (map form kinds.now)) (map form kinds.now)).more }
-    ensures closed { result.closed ≡ (statement (statement_end division groups (map form kinds.now)) (map form kinds.now)).closed }
+    ensures more { result.more
+        ≡ (statement (statement_end division groups (map role kinds.now)) (map role kinds.now)).more }
+    ensures closed { result.closed
+        ≡ (statement (statement_end division groups (map role kinds.now))
+        (map role kinds.now)).closed }
     ensures within { result.more ≤ length kinds.now }
 {
     let mut opened = groups;
@@ -59,8 +63,8 @@ fn rest_of(division: Division, groups: usize, kinds: &[SyntaxKind]) -> Rest
 /// What belongs to the first child behind its first kind.
 pub(crate) fn first_rest(division: Division, kinds: &[SyntaxKind]) -> Rest
     requires { 0 < length kinds.now }
-    ensures more { result.more ≡ (first_child division (map form kinds.now)).more }
-    ensures closed { result.closed ≡ (first_child division (map form kinds.now)).closed }
+    ensures more { result.more ≡ (first_child division (map role kinds.now)).more }
+    ensures closed { result.closed ≡ (first_child division (map role kinds.now)).closed }
     ensures within { result.more < length kinds.now }
 {
     let kind = kinds[0];
@@ -74,7 +78,7 @@ pub(crate) fn first_rest(division: Division, kinds: &[SyntaxKind]) -> Rest
 }
 
 /// The node of a child of these kinds; `None` where its one kind is trivia.
-#[tactic(auto, unfolding(crate::specs::Kinds::form))]
+#[tactic(auto, unfolding(squawk_kinds::specs::Role::role))]
 fn child_node(kinds: &[SyntaxKind]) -> Option<SyntaxKind>
     requires { 0 < length kinds.now }
     ensures { result ≡ child_node kinds.now }
@@ -113,7 +117,8 @@ pub fn first_child_in(kinds: &[SyntaxKind], division: Division) -> ChildShape
     ensures shape { result ≡ first_shape division kinds.now }
     ensures some { 0 < result.tokens }
     ensures within { result.tokens ≤ length kinds.now }
-    ensures longer { IsTrue result.closed → (others : List ℕ) → first_shape division (kinds.now ++ others) ≡ result }
+    ensures longer { IsTrue result.closed → (others : List ℕ)
+        → first_shape division (kinds.now ++ others) ≡ result }
 {
     shape_of(kinds, division)
 }
@@ -124,7 +129,8 @@ pub fn first_child(kinds: &[SyntaxKind]) -> ChildShape
     ensures shape { result ≡ first_shape Flat kinds.now }
     ensures some { 0 < result.tokens }
     ensures within { result.tokens ≤ length kinds.now }
-    ensures longer { IsTrue result.closed → (others : List ℕ) → first_shape Flat (kinds.now ++ others) ≡ result }
+    ensures longer { IsTrue result.closed → (others : List ℕ)
+        → first_shape Flat (kinds.now ++ others) ≡ result }
 {
     first_child_in(kinds, Division::Flat)
 }

@@ -1,4 +1,5 @@
-//! Statements and groups: how a text's kinds are divided into the children of the root, their nodes, and the grammar of both.
+//! Statements and groups: how a text's kinds are divided into the children of the root, their
+//! nodes, and the grammar of both.
 #![tactic(auto)]
 
 mod division;

@@ -115,11 +115,13 @@ fn opening_in(kinds: &[SyntaxKind], past_trivia: bool) -> Option<SyntaxKind>
 
 /// The node of a statement whose kinds that are no trivia are these.
 ///
-/// The longest row of the table decides that is a prefix of the kinds, where modifiers such as `OR REPLACE` behind a first `CREATE` are
-/// left out. `None` exactly where no row is: the node is then `ERROR`.
+/// The longest row of the table decides that is a prefix of the kinds, where modifiers such as `OR
+/// REPLACE` behind a first `CREATE` are left out. `None` exactly where no row is: the node is then
+/// `ERROR`.
 pub fn opening(kinds: &[SyntaxKind]) -> Option<SyntaxKind>
     ensures node { result ≡ opening_of kinds.now }
-    ensures none { IsNone result ↔ (list_any (λ row. is_prefix row.0 (key kinds.now)) rows ≡ false) }
+    ensures none { IsNone result ↔ (list_any (λ row. is_prefix row.0 (key kinds.now)) rows
+        ≡ false) }
 {
     opening_in(kinds, false)
 }

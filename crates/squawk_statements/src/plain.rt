@@ -1,7 +1,7 @@
 //! The plain grammar.
 ghost use Rattle.std.specs.Prelude.{◌≡◌, ◌≤◌, ◌<◌, ◌+◌, ◌^◌, [], ◌∷◌, ◌++◌, length, OnOk, IfOk, IsOkUnless, IsTrue};
 ghost use Rattle.squawk_events.specs.Depth.{depth_of};
-ghost use Rattle.squawk_statements.specs.Kinds.{form};
+ghost use Rattle.squawk_kinds.specs.Role.{role};
 ghost use Rattle.squawk_events.specs.declared.error.FrontError.TheVariants.{OutOfMemory};
 ghost use Rattle.squawk_statements.specs.Plain.{node_of, exits, kind_steps, groups_open_after, body_steps, unknown_statement_error, child_steps, plain};
 ghost use Rattle.squawk_statements.specs.declared.division.Division.TheVariants.{Flat};
@@ -28,7 +28,7 @@ fn close_groups(output: &mut Output, groups: usize) -> Result<(), FrontError>
 }
 
 /// Gives the steps of a kind of a child, and answers how many groups are open behind it.
-#[tactic(auto, unfolding(crate::specs::Kinds::form))]
+#[tactic(auto, unfolding(squawk_kinds::specs::Role::role))]
 fn put_kind(
     output: &mut Output,
     division: Division,
@@ -38,7 +38,7 @@ fn put_kind(
     requires open_groups { groups ≤ depth_of output.old }
     requires small { groups < 2 ^ 63 }
     ensures ok { OnOk result (output.new ≡ output.old ++ kind_steps division groups kind) }
-    ensures groups { IfOk result (λ n. n ≡ groups_open_after division groups (form kind)) }
+    ensures groups { IfOk result (λ n. n ≡ groups_open_after division groups (role kind)) }
     ensures depth { IfOk result (λ n. depth_of output.new + groups ≡ depth_of output.old + n) }
     ensures more { IfOk result (λ n. n ≤ groups + 1) }
     ensures refusal { IsOkUnless result OutOfMemory }
@@ -92,7 +92,7 @@ fn put_fault(output: &mut Output, node: SyntaxKind) -> Result<(), FrontError>
 }
 
 /// The node of a child of these kinds, none of which is trivia.
-#[tactic(auto, unfolding(crate::specs::Kinds::form))]
+#[tactic(auto, unfolding(squawk_kinds::specs::Role::role))]
 fn node_of(kinds: &[SyntaxKind]) -> SyntaxKind
     requires { 0 < length kinds.now }
     ensures { result ≡ node_of kinds.now }

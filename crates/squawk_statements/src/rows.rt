@@ -1,12 +1,14 @@
 //! The opening table: the kinds that a statement begins with, and its node.
 //!
-//! Of two rows that begin alike the longer one stands first, so that the first row that fits is the longest.
+//! Of two rows that begin alike the longer one stands first, so that the first row that fits is the
+//! longest.
 ghost use Rattle.std.specs.Prelude.{map};
 ghost use Rattle.squawk_statements.specs.Rows.{row_of, Decide};
 
 use squawk_kinds::numbers::Number;
 
-/// A row: the first kind of a statement, those behind it, and the statement's node, by their numbers.
+/// A row: the first kind of a statement, those behind it, and the statement's node, by their
+/// numbers.
 pub(crate) struct Row {
     pub(crate) first: u16,
     pub(crate) more: &'static [u16],

@@ -4,7 +4,8 @@ use Rattle.squawk_events.specs.declared.steps.StrStep.{StrStep}
 use Rattle.squawk_events.specs.declared.steps.StrStep.TheVariants.{Enter, Token, Exit, Error}
 use Rattle.squawk_tree.specs.Ranges.{ranges_from, other_places}
 
-pub length-ranges_from : (opened : List ℕ) (at : ℕ) (steps : List StrStep) → length (ranges_from opened at steps) ≡ length steps
+pub length-ranges_from : (opened : List ℕ) (at : ℕ) (steps : List StrStep)
+    → length (ranges_from opened at steps) ≡ length steps
 length-ranges_from opened at [] = refl
 length-ranges_from opened at (Enter kind ∷ xs) = ap suc (length-ranges_from (at ∷ opened) at xs)
 length-ranges_from opened at (Token kind start end ∷ xs) = ap suc (length-ranges_from opened end xs)

@@ -2,7 +2,7 @@
 use Rattle.std.specs.Prelude.{ℕ, true, false, ◌==◌, ◌||◌, List, codes, if◌then◌else◌}
 use Rattle.std.specs.Str.{str_eq_ignore_ascii_case}
 use Rattle.squawk_kinds.specs.declared.numbers.TheConstants.Number as kind
-use Rattle.squawk_lexer.specs.Cut.{Form, Trivia, Semicolon, Terminator, Command, Open, Close, Other}
+use Rattle.squawk_kinds.specs.Role.{Role, role, Trivia, Semicolon, Terminator, Command, Open, Close, Other}
 use Rattle.squawk_lexer.specs.declared.token.LiteralKind.{LiteralKind}
 use Rattle.squawk_lexer.specs.declared.token.LiteralKind.TheVariants.{Int, Numeric, Str, NationalStr, ByteStr, BitStr, DollarQuotedString, UnicodeEscStr, EscStr}
 use Rattle.squawk_lexer.specs.declared.token.TokenKind.{TokenKind}
@@ -11,7 +11,8 @@ use Rattle.squawk_tree.specs.declared.leaves.Leaf.{Leaf}
 
 -- the only keyword so far is `select`, in any case of its letters
 abbrev pub word_kind : List ℕ → ℕ
-word_kind word = if str_eq_ignore_ascii_case word (codes "select") then kind.SELECT_KW else kind.IDENT
+word_kind word = if str_eq_ignore_ascii_case word (codes "select") then kind.SELECT_KW
+    else kind.IDENT
 
 abbrev pub literal_kind : LiteralKind → ℕ
 literal_kind (Int base empty_int junk) = kind.INT_NUMBER
@@ -66,16 +67,18 @@ leaf_kind token.Backtick text = kind.BACKTICK
 leaf_kind token.Dot text = kind.DOT
 leaf_kind token.DotDot text = kind.DOT_DOT
 
--- what a kind is to the division into statements
-unfoldable pub form : ℕ → Form
-form k =
-    if k == kind.WHITESPACE || k == kind.COMMENT then Trivia
-    else if k == kind.SEMICOLON then Semicolon
-    else if k == kind.PSQL_TERMINATOR_TEXT then Terminator
-    else if k == kind.PSQL_COMMAND_TEXT then Command
-    else if k == kind.L_PAREN then Open
-    else if k == kind.R_PAREN then Close
-    else Other
+-- the role of a token of the kind
+abbrev pub token_role : TokenKind → Role
+token_role token.Whitespace = Trivia
+token_role token.LineComment = Trivia
+token_role (token.BlockComment terminated) = Trivia
+token_role token.Semi = Semicolon
+token_role (token.PsqlCommand true) = Terminator
+token_role (token.PsqlCommand false) = Command
+token_role token.OpenParen = Open
+token_role token.CloseParen = Close
+token_role _ = Other
 
-abbrev pub leaf_form : Leaf → Form
-leaf_form l = form l.kind
+-- the role of a leaf
+abbrev pub leaf_role : Leaf → Role
+leaf_role l = role l.kind

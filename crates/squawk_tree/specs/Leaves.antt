@@ -8,4 +8,5 @@ use Rattle.squawk_tree.specs.declared.leaves.Leaf.{Leaf}
 abbrev pub leaves_of : List ℕ → ℕ → List Token → List Leaf
 leaves_of text at [] = []
 leaves_of text at (t ∷ ts) =
-    record { kind = leaf_kind t.kind (slice_range text at (at + t.len)); len = t.len } ∷ leaves_of text (at + t.len) ts
+    record { kind = leaf_kind t.kind (slice_range text at (at + t.len)); len = t.len }
+    ∷ leaves_of text (at + t.len) ts

@@ -4,10 +4,12 @@ use Rattle.std.specs.Str.{chars}
 use Rattle.squawk_events.specs.declared.steps.StrStep.{StrStep}
 use Rattle.squawk_events.specs.declared.steps.StrStep.TheVariants.{Enter, Token, Exit}
 use Rattle.squawk_kinds.specs.declared.numbers.TheConstants.Number as kind
-use Rattle.squawk_lexer.specs.Cut.{Form, Trivia, Semicolon, Terminator, Command, Open, Close, Other, tokens}
+use Rattle.squawk_lexer.specs.Cut.{tokens}
+use Rattle.squawk_kinds.specs.Role.{Role, Trivia, Semicolon, Terminator, Command, Open, Close, Other}
 use Rattle.squawk_lexer.specs.declared.token.Strings.{Strings}
 use Rattle.squawk_tree.specs.Children.{parts}
-use Rattle.squawk_tree.specs.Leaf.{form, leaf_form}
+use Rattle.squawk_kinds.specs.Role.{role}
+use Rattle.squawk_tree.specs.Leaf.{leaf_role}
 use Rattle.squawk_tree.specs.Leaves.{leaves_of}
 use Rattle.squawk_tree.specs.Tree.{Tree}
 use Rattle.squawk_tree.specs.declared.division.Division.{Division}
@@ -27,8 +29,8 @@ token_steps at (l ∷ ls) = Token l.kind at (at + l.len) ∷ token_steps (at + l
 abbrev pub statement_node : ℕ → ℕ
 statement_node k = if k == kind.SELECT_KW then kind.SELECT else kind.ERROR
 
--- the node of a child of the root whose first kind has this form, where it is a node
-abbrev pub node_by : Form → ℕ → Option ℕ
+-- the node of a child of the root whose first kind has this role, where it is a node
+abbrev pub node_by : Role → ℕ → Option ℕ
 node_by Trivia k = None
 node_by Semicolon k = Some kind.EMPTY_STMT
 node_by Terminator k = Some kind.PSQL_COMMAND
@@ -38,7 +40,7 @@ node_by Close k = Some (statement_node k)
 node_by Other k = Some (statement_node k)
 
 abbrev pub node_of : ℕ → Option ℕ
-node_of k = node_by (form k) k
+node_of k = node_by (role k) k
 
 -- steps in a node, or by themselves
 abbrev pub enclosed : Option ℕ → List StrStep → List StrStep
@@ -57,7 +59,8 @@ children_steps at (part ∷ rest) = child_steps at part ++ children_steps (at + 
 
 -- the steps of the tree of some leaves
 abbrev pub tree_steps : Division → List Leaf → List StrStep
-tree_steps division leaves = Enter kind.SOURCE_FILE ∷ children_steps 0 (parts leaf_form division leaves) ++ Exit ∷ []
+tree_steps division leaves = Enter kind.SOURCE_FILE
+    ∷ children_steps 0 (parts leaf_role division leaves) ++ Exit ∷ []
 
 -- the parse of a text of these bytes
 abbrev pub parse_of : Strings → Division → List ℕ → Tree

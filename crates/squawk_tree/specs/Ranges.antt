@@ -1,10 +1,12 @@
--- The range of each step of a tree: a token's own, and for an Enter and its Exit the node's. A node begins where the last token before
--- its Enter ends and ends where the last token before its Exit does; before the first token this is 0.
+-- The range of each step of a tree: a token's own, and for an Enter and its Exit the node's. A node
+-- begins where the last token before its Enter ends and ends where the last token before its Exit
+-- does; before the first token this is 0.
 use Rattle.std.specs.Prelude.{ℕ, zero, suc, List, [], ◌∷◌}
 use Rattle.squawk_events.specs.declared.steps.StrStep.{StrStep}
 use Rattle.squawk_events.specs.declared.steps.StrStep.TheVariants.{Enter, Token, Exit, Error}
 
--- the end of the last token before the Exit of the node in which d inner nodes are open, from a place on
+-- the end of the last token before the Exit of the node in which d inner nodes are open, from a
+-- place on
 abbrev pub node_end : (d at : ℕ) → List StrStep → ℕ
 node_end d at [] = at
 node_end d at (Token kind start end ∷ xs) = node_end d end xs
@@ -28,7 +30,8 @@ abbrev pub ranges_from : (opened : List ℕ) (at : ℕ) → List StrStep → Lis
 ranges_from opened at [] = []
 ranges_from opened at (Enter kind ∷ xs) = (at, node_end 0 at xs) ∷ ranges_from (at ∷ opened) at xs
 ranges_from opened at (Token kind start end ∷ xs) = (start, end) ∷ ranges_from opened end xs
-ranges_from opened at (Exit ∷ xs) = (first_place opened, at) ∷ ranges_from (other_places opened) at xs
+ranges_from opened at (Exit ∷ xs) = (first_place opened, at)
+    ∷ ranges_from (other_places opened) at xs
 ranges_from opened at (Error number place ∷ xs) = (at, at) ∷ ranges_from opened at xs
 
 -- the ranges of all steps

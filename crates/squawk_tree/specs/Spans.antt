@@ -13,8 +13,8 @@ abbrev pub closed_spans : List (ℕ × ℕ) → List (ℕ × ℕ) → ℕ → Li
 closed_spans spans [] at = spans ++ (0, at) ∷ []
 closed_spans spans (p ∷ ps) at = slice_set spans p.0 (p.1, at) ++ (p.1, at) ∷ []
 
--- the ranges behind a step at a place; the open nodes stand with the innermost first, each by the place of its Enter among the steps
--- and its start
+-- the ranges behind a step at a place; the open nodes stand with the innermost first, each by the
+-- place of its Enter among the steps and its start
 abbrev pub spans_after : List (ℕ × ℕ) → List (ℕ × ℕ) → ℕ → StrStep → List (ℕ × ℕ)
 spans_after spans opened at (Enter kind) = spans ++ (at, at) ∷ []
 spans_after spans opened at (Token kind start end) = spans ++ (start, end) ∷ []

@@ -48,7 +48,8 @@ pub data RootChild : Type 0 where
   Leaf : RootChild
   Node : (tokens : ℕ) → RootChild
 
--- the root's children from here on, where d nodes are open inside the root and the outermost of them has n tokens so far
+-- the root's children from here on, where d nodes are open inside the root and the outermost of
+-- them has n tokens so far
 abbrev pub root_children_from : (d n : ℕ) → List StrStep → List RootChild
 root_children_from d n [] = []
 root_children_from zero n (Token kind start end ∷ xs) = Leaf ∷ root_children_from 0 0 xs

@@ -1,8 +1,9 @@
 //! How a text's tokens are divided into the children of the root.
 ghost use Rattle.std.specs.Prelude.{◌≡◌, ◌≤◌, ◌<◌, ◌+◌, ◌^◌, length, map};
-ghost use Rattle.squawk_lexer.specs.Cut.{is_trivia};
+ghost use Rattle.squawk_kinds.specs.Role.{is_trivia};
 ghost use Rattle.squawk_tree.specs.Children.{ends_statement, open_groups_after, statement, statement_end, first_child, is_single_token};
-ghost use Rattle.squawk_tree.specs.Leaf.{form, leaf_form};
+ghost use Rattle.squawk_kinds.specs.Role.{role};
+ghost use Rattle.squawk_tree.specs.Leaf.{leaf_role};
 
 use crate::leaves::Leaf;
 use squawk_kinds::SyntaxKind;
@@ -17,17 +18,17 @@ pub enum Division {
 }
 
 /// Whether the kind is trivia: white space or a comment.
-#[tactic(auto, unfolding(crate::specs::Leaf::form))]
+#[tactic(auto, unfolding(squawk_kinds::specs::Role::role))]
 pub(crate) fn is_trivia(kind: SyntaxKind) -> bool
-    ensures { result ≡ is_trivia (form kind) }
+    ensures { result ≡ is_trivia (role kind) }
 {
     matches!(kind, SyntaxKind::WHITESPACE | SyntaxKind::COMMENT)
 }
 
 /// Whether the kind is a child of the root by itself where no statement is open.
-#[tactic(auto, unfolding(crate::specs::Leaf::form))]
+#[tactic(auto, unfolding(squawk_kinds::specs::Role::role))]
 fn is_single_token(kind: SyntaxKind) -> bool
-    ensures { result ≡ is_single_token (form kind) }
+    ensures { result ≡ is_single_token (role kind) }
 {
     matches!(
         kind,
@@ -36,9 +37,9 @@ fn is_single_token(kind: SyntaxKind) -> bool
 }
 
 /// Whether the kind ends the statement in which so many groups are open.
-#[tactic(auto, unfolding(crate::specs::Leaf::form))]
+#[tactic(auto, unfolding(squawk_kinds::specs::Role::role))]
 fn is_end(division: Division, groups: usize, kind: SyntaxKind) -> bool
-    ensures { result ≡ ends_statement division groups (form kind) }
+    ensures { result ≡ ends_statement division groups (role kind) }
 {
     match kind {
         SyntaxKind::PSQL_TERMINATOR_TEXT => true,
@@ -51,10 +52,10 @@ fn is_end(division: Division, groups: usize, kind: SyntaxKind) -> bool
 }
 
 /// How many groups are open behind a kind that does not end the statement.
-#[tactic(auto, unfolding(crate::specs::Leaf::form))]
+#[tactic(auto, unfolding(squawk_kinds::specs::Role::role))]
 fn next_groups(groups: usize, kind: SyntaxKind) -> usize
     requires { groups < 2 ^ 63 }
-    ensures { result ≡ open_groups_after groups (form kind) }
+    ensures { result ≡ open_groups_after groups (role kind) }
 {
     match kind {
         SyntaxKind::L_PAREN => groups + 1,
@@ -68,7 +69,9 @@ fn next_groups(groups: usize, kind: SyntaxKind) -> usize
 /// These are the leaves up to the one that ends it, or else up to the last that is no trivia.
 fn statement_len(division: Division, groups: usize, leaves: &[Leaf]) -> usize
     requires { groups ≤ 1 }
-    ensures more { result ≡ (statement (statement_end division groups (map leaf_form leaves.now)) (map leaf_form leaves.now)).more }
+    ensures more { result
+        ≡ (statement (statement_end division groups (map leaf_role leaves.now))
+        (map leaf_role leaves.now)).more }
     ensures within { result ≤ length leaves.now }
 {
     let mut opened = groups;
@@ -89,7 +92,7 @@ fn statement_len(division: Division, groups: usize, leaves: &[Leaf]) -> usize
 /// How many leaves the first child of the root has.
 pub(crate) fn first_child_len(division: Division, leaves: &[Leaf]) -> usize
     requires { 0 < length leaves.now }
-    ensures leaves { result ≡ (first_child division (map leaf_form leaves.now)).more + 1 }
+    ensures leaves { result ≡ (first_child division (map leaf_role leaves.now)).more + 1 }
     ensures within { result ≤ length leaves.now }
 {
     let kind = leaves[0].kind;

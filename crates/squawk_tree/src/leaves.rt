@@ -16,7 +16,8 @@ pub(crate) struct Leaf {
     pub(crate) len: u32,
 }
 
-/// The kind of a word: the keyword that it is without regard to the case of ASCII letters, else `IDENT`.
+/// The kind of a word: the keyword that it is without regard to the case of ASCII letters, else
+/// `IDENT`.
 fn word_kind(word: &str) -> SyntaxKind
     ensures { result ≡ word_kind word.now }
 {
@@ -97,7 +98,8 @@ pub(crate) fn leaves_of(
     strings: Strings,
 ) -> Result<Vec<Leaf>, AllocError>
     requires { length text.now < 2 ^ 32 }
-    ensures leaves { IfOk result (λ leaves. leaves.items ≡ leaves_of text.now 0 (tokens strings (chars text.now))) }
+    ensures leaves { IfOk result (λ leaves. leaves.items
+        ≡ leaves_of text.now 0 (tokens strings (chars text.now))) }
     ensures tiles { Tiles text.now 0 (tokens strings (chars text.now)) }
 {
     let mut leaves = Vec::new(alloc);

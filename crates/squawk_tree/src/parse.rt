@@ -10,8 +10,9 @@ use std::marker::Model;
 
 /// A syntax tree over a text, and the errors in the text.
 ///
-/// The tree is a balanced list of `Enter`, `Token` and `Exit` steps. The ranges of its tokens follow one another from 0 to the text's
-/// end, so that the leaves spell the text. All places are in bytes.
+/// The tree is a balanced list of `Enter`, `Token` and `Exit` steps. The ranges of its tokens
+/// follow one another from 0 to the text's end, so that the leaves spell the text. All places are
+/// in bytes.
 #[derive(Drop)]
 pub struct Parse {
     steps: Vec<StrStep>,
@@ -40,7 +41,12 @@ impl Parse {
         len: u32,
     ) -> Result<Parse, AllocError>
         requires { IsTree (record { steps = steps.items; errors = errors.items; len = len }) }
-        ensures { IfOk result (λ p. p ≡ record { steps = steps.items; errors = errors.items; len = len }) }
+        ensures { IfOk result (λ p. p ≡ record {
+          steps = steps.items;
+          errors = errors.items;
+          len =
+              len;
+        }) }
     {
         let spans = spans_of(alloc, &steps)?;
         Ok(Parse {
@@ -53,8 +59,9 @@ impl Parse {
 
     /// The number of bytes of the text.
     ///
-    /// Of every parse the steps are balanced, no `Error` is among them, the tokens cover the text from 0 to `len`, and each error has a
-    /// number from 1 to 10 and lies in the text: that is what the second clause says.
+    /// Of every parse the steps are balanced, no `Error` is among them, the tokens cover the text
+    /// from 0 to `len`, and each error has a number from 1 to 10 and lies in the text: that is what
+    /// the second clause says.
     pub fn len(&self) -> u32
         ensures len { result ≡ self.now.len }
         ensures tree { IsTree self.now }
@@ -77,11 +84,11 @@ impl Parse {
         &self.errors
     }
 
-    /// The range of a step in bytes, from its first to before its second number: a token's own, and for an `Enter` and its `Exit` the
-    /// node's. It takes constant time.
+    /// The range of a step in bytes, from its first to before its second number: a token's own, and
+    /// for an `Enter` and its `Exit` the node's. It takes constant time.
     ///
-    /// A node begins where the last token before its `Enter` ends, and ends where the last token before its `Exit` does. Before the
-    /// first token that place is 0.
+    /// A node begins where the last token before its `Enter` ends, and ends where the last token
+    /// before its `Exit` does. Before the first token that place is 0.
     pub fn range(&self, i: usize) -> (u32, u32)
         requires { i < length self.now.steps }
         ensures { slice_get (ranges self.now.steps) i ≡ Some result }

@@ -3,8 +3,8 @@ ghost use Rattle.std.specs.Prelude.{◌≡◌, ◌<◌, ◌+◌, ◌++◌, ◌^�
 ghost use Rattle.std.specs.Str.{chars};
 ghost use Rattle.squawk_lexer.specs.Cut.{tokens, token_ends};
 ghost use Rattle.squawk_lexer.specs.declared.token.Strings.TheVariants.{Standard};
-ghost use Rattle.squawk_tree.specs.Children.{children, forms_of, parts, root_child};
-ghost use Rattle.squawk_tree.specs.Leaf.{leaf_form};
+ghost use Rattle.squawk_tree.specs.Children.{children, roles_of, parts, root_child};
+ghost use Rattle.squawk_tree.specs.Leaf.{leaf_role};
 ghost use Rattle.squawk_tree.specs.ParseOf.{leaves_len, token_steps, node_of, child_steps, children_steps, tree_steps, parse_of};
 ghost use Rattle.squawk_tree.specs.Steps.{leaves, ranges_through, root_children};
 ghost use Rattle.squawk_tree.specs.Tree.{IsTree};
@@ -21,8 +21,9 @@ use std::alloc::{AllocError, Global};
 /// The most bytes that a text may have.
 const LIMIT: usize = 4294967295;
 
-/// The node of a child of the root that begins with a leaf of this kind; `None` where that leaf is a child by itself.
-#[tactic(auto, unfolding(crate::specs::Leaf::form))]
+/// The node of a child of the root that begins with a leaf of this kind; `None` where that leaf is
+/// a child by itself.
+#[tactic(auto, unfolding(squawk_kinds::specs::Role::role))]
 fn node_of(kind: SyntaxKind) -> Option<SyntaxKind>
     ensures { result ≡ node_of kind }
 {
@@ -37,10 +38,12 @@ fn node_of(kind: SyntaxKind) -> Option<SyntaxKind>
     }
 }
 
-/// Appends the steps of leaves, the first of which begins at a place, and answers the place behind the last.
+/// Appends the steps of leaves, the first of which begins at a place, and answers the place behind
+/// the last.
 fn push_leaves(steps: &mut Vec<StrStep>, start: u32, leaves: &[Leaf]) -> Result<u32, AllocError>
     requires { start + leaves_len leaves.now < 2 ^ 32 }
-    ensures steps { OnOk result (steps.new.items ≡ steps.old.items ++ token_steps start leaves.now) }
+    ensures steps { OnOk result (steps.new.items
+        ≡ steps.old.items ++ token_steps start leaves.now) }
     ensures end { IfOk result (λ end. end ≡ start + leaves_len leaves.now) }
 {
     let mut at = start;
@@ -56,11 +59,13 @@ fn push_leaves(steps: &mut Vec<StrStep>, start: u32, leaves: &[Leaf]) -> Result<
     Ok(at)
 }
 
-/// Appends the steps of a child of the root, which begins at a place, and answers the place behind it.
+/// Appends the steps of a child of the root, which begins at a place, and answers the place behind
+/// it.
 fn push_child(steps: &mut Vec<StrStep>, start: u32, leaves: &[Leaf]) -> Result<u32, AllocError>
     requires some { 0 < length leaves.now }
     requires fits { start + leaves_len leaves.now < 2 ^ 32 }
-    ensures steps { OnOk result (steps.new.items ≡ steps.old.items ++ child_steps start leaves.now) }
+    ensures steps { OnOk result (steps.new.items
+        ≡ steps.old.items ++ child_steps start leaves.now) }
     ensures end { IfOk result (λ end. end ≡ start + leaves_len leaves.now) }
 {
     let Some(kind) = node_of(leaves[0].kind) else {
@@ -79,7 +84,8 @@ fn push_children(
     leaves: &[Leaf],
 ) -> Result<(), AllocError>
     requires { leaves_len leaves.now < 2 ^ 32 }
-    ensures { OnOk result (steps.new.items ≡ steps.old.items ++ children_steps 0 (parts leaf_form division leaves.now)) }
+    ensures { OnOk result (steps.new.items ≡ steps.old.items
+        ++ children_steps 0 (parts leaf_role division leaves.now)) }
 {
     let mut done = 0;
     let mut at = 0;
@@ -126,19 +132,24 @@ fn parse_divided(
 
 /// The tree of a text's statements.
 ///
-/// Each statement, and each psql command outside one, is a node under the root, and each trivia token (white space, a byte order mark at
-/// the beginning, a comment) outside them is a leaf there. A statement ends with a semicolon or with a psql command that ends a query,
-/// else with the last token of the text that is no trivia. One that begins with the word `select` is a `SELECT` node, every other an
-/// `ERROR` node; a semicolon by itself is an `EMPTY_STMT`, a psql command by itself a `PSQL_COMMAND`.
+/// Each statement, and each psql command outside one, is a node under the root, and each trivia
+/// token (white space, a byte order mark at the beginning, a comment) outside them is a leaf there.
+/// A statement ends with a semicolon or with a psql command that ends a query, else with the last
+/// token of the text that is no trivia. One that begins with the word `select` is a `SELECT` node,
+/// every other an `ERROR` node; a semicolon by itself is an `EMPTY_STMT`, a psql command by itself
+/// a `PSQL_COMMAND`.
 ///
-/// `TooLong` comes exactly where the text has more than 4294967295 bytes, before any memory is taken, and `OutOfMemory` where there is
-/// no memory for the tree.
+/// `TooLong` comes exactly where the text has more than 4294967295 bytes, before any memory is
+/// taken, and `OutOfMemory` where there is no memory for the tree.
 pub fn parse_source(alloc: Global, text: &str) -> Result<Parse, FrontError>
     ensures tree { IfOk result (λ tree. tree ≡ parse_of Standard Flat text.now) }
     ensures lawful { IfOk result IsTree }
-    // The leaves are the tokens of the text, and the root's children those of the division of the tokens' forms.
-    ensures leaves { IfOk result (λ tree. leaves tree.steps ≡ ranges_through 0 (token_ends 0 (tokens Standard (chars text.now)))) }
-    ensures children { IfOk result (λ tree. root_children tree.steps ≡ map root_child (children Flat (forms_of (tokens Standard (chars text.now))))) }
+    // The leaves are the tokens of the text, and the root's children those of the division of the
+    // tokens' roles.
+    ensures leaves { IfOk result (λ tree. leaves tree.steps
+        ≡ ranges_through 0 (token_ends 0 (tokens Standard (chars text.now)))) }
+    ensures children { IfOk result (λ tree. root_children tree.steps
+        ≡ map root_child (children Flat (roles_of (tokens Standard (chars text.now))))) }
     ensures too_long { IsErrOf result FrontError.TooLong ↔ (4294967295 < length text.now) }
 {
     parse_divided(alloc, text, Strings::Standard, Division::Flat)

@@ -9,7 +9,8 @@ use std::alloc::{AllocError, Global};
 
 /// Adds the range of a step to those so far, and answers the place behind the step.
 ///
-/// The nodes that are open stand in a stack, each by the place of its `Enter` among the steps and its start in the text.
+/// The nodes that are open stand in a stack, each by the place of its `Enter` among the steps and
+/// its start in the text.
 fn add_step(
     spans: &mut Vec<(u32, u32)>,
     opened: &mut Vec<(usize, u32)>,
@@ -17,8 +18,10 @@ fn add_step(
     step: StrStep,
 ) -> Result<u32, AllocError>
     requires { AreBelow (length spans.old.items) (reverse opened.old.items) }
-    ensures spans { OnOk result (spans.new.items ≡ spans_after spans.old.items (reverse opened.old.items) at step) }
-    ensures opened { OnOk result (reverse opened.new.items ≡ open_after (length spans.old.items) (reverse opened.old.items) at step) }
+    ensures spans { OnOk result (spans.new.items
+        ≡ spans_after spans.old.items (reverse opened.old.items) at step) }
+    ensures opened { OnOk result (reverse opened.new.items
+        ≡ open_after (length spans.old.items) (reverse opened.old.items) at step) }
     ensures place { IfOk result (λ next. next ≡ place_after at step) }
 {
     match step {

@@ -58,7 +58,8 @@ plpgsql_reserved_keywords_flagged : flagged 11 0 FLAGS plpgsql_reserved_keywords
 unfolding flagged plpgsql_reserved_keywords
 plpgsql_reserved_keywords_flagged = refl
 
-plpgsql_reserved_contextual_keywords_flagged : flagged 12 0 FLAGS plpgsql_reserved_contextual_keywords ≡ true
+plpgsql_reserved_contextual_keywords_flagged : flagged 12 0 FLAGS
+    plpgsql_reserved_contextual_keywords ≡ true
 unfolding flagged plpgsql_reserved_contextual_keywords
 plpgsql_reserved_contextual_keywords_flagged = refl
 

@@ -24,28 +24,35 @@ abbrev step : ℕ → Option ℕ → Bool → Option ℕ
 step kind rest b = if b then Some kind else rest
 
 -- the first word equals the text
-kind_of-here : (word : List ℕ) (kind : ℕ) (pairs : List (List ℕ × ℕ)) (text : List ℕ) → IsWord word text
+kind_of-here : (word : List ℕ) (kind : ℕ) (pairs : List (List ℕ × ℕ)) (text : List ℕ)
+    → IsWord word text
     → kind_of ((word, kind) ∷ pairs) text ≡ Some kind
-kind_of-here word kind pairs text is = ap (step kind (kind_of pairs text)) ((bytes_eq-Decides _ _).1 is)
+kind_of-here word kind pairs text is =
+    ap (step kind (kind_of pairs text)) ((bytes_eq-Decides _ _).1 is)
 
 -- it does not
-kind_of-later : (word : List ℕ) (kind : ℕ) (pairs : List (List ℕ × ℕ)) (text : List ℕ) → (IsWord word text → ⊥)
+kind_of-later : (word : List ℕ) (kind : ℕ) (pairs : List (List ℕ × ℕ)) (text : List ℕ)
+    → (IsWord word text → ⊥)
     → kind_of ((word, kind) ∷ pairs) text ≡ kind_of pairs text
 kind_of-later word kind pairs text other =
     ap (step kind (kind_of pairs text)) (false_unless _ (λ e. other ((bytes_eq-Decides _ _).0 e)))
 
 -- the first kind whose word equals the text
 pub kind_of-at : (kinds text : List ℕ) (i d : ℕ) → i < length kinds
-    → ((j : ℕ) → j < i → IsWord (word_of (get_or kinds j d)) text → ⊥) → IsWord (word_of (get_or kinds i d)) text
+    → ((j : ℕ) → j < i → IsWord (word_of (get_or kinds j d)) text → ⊥)
+    → IsWord (word_of (get_or kinds i d)) text
     → kind_of (pairs_of kinds) text ≡ Some (get_or kinds i d)
 kind_of-at [] text i d lt before is = absurd (not-suc-le-zero lt)
-kind_of-at (kind ∷ kinds) text zero d lt before is = kind_of-here (word_of kind) kind (pairs_of kinds) text is
+kind_of-at (kind ∷ kinds) text zero d lt before is =
+    kind_of-here (word_of kind) kind (pairs_of kinds) text is
 kind_of-at (kind ∷ kinds) text (suc i) d lt before is =
     kind_of-later (word_of kind) kind (pairs_of kinds) text (before 0 (zero-lt-suc _))
-    ∙ kind_of-at kinds text i d (le_of_suc-le-suc lt) (λ j below. before (suc j) (suc-le-suc below)) is
+    ∙ kind_of-at kinds text i d (le_of_suc-le-suc lt) (λ j below.
+    before (suc j) (suc-le-suc below)) is
 
 -- no kind's word equals the text
-pub kind_of-missing : (kinds text : List ℕ) (d : ℕ) → ((i : ℕ) → i < length kinds → IsWord (word_of (get_or kinds i d)) text → ⊥)
+pub kind_of-missing : (kinds text : List ℕ) (d : ℕ)
+    → ((i : ℕ) → i < length kinds → IsWord (word_of (get_or kinds i d)) text → ⊥)
     → kind_of (pairs_of kinds) text ≡ None
 kind_of-missing [] text d none = refl
 kind_of-missing (kind ∷ kinds) text d none =
@@ -53,29 +60,36 @@ kind_of-missing (kind ∷ kinds) text d none =
     ∙ kind_of-missing kinds text d (λ i lt. none (suc i) (suc-le-suc lt))
 
 -- no word equals the text
-pub kind_of-none : (pairs : List (List ℕ × ℕ)) (text : List ℕ) → HasNoWord pairs text → kind_of pairs text ≡ None
+pub kind_of-none : (pairs : List (List ℕ × ℕ)) (text : List ℕ) → HasNoWord pairs text
+    → kind_of pairs text ≡ None
 kind_of-none [] text none = refl
 kind_of-none (pair ∷ pairs) text none =
     kind_of-later pair.0 pair.1 pairs text (none 0 pair (zero-lt-suc _))
     ∙ kind_of-none pairs text (λ k d lt. none (suc k) d (suc-le-suc lt))
 
 -- a word that equals the text gives a kind
-kind_of-is_some : (pairs : List (List ℕ × ℕ)) (text : List ℕ) (k : ℕ) (d : List ℕ × ℕ) → k < length pairs
+kind_of-is_some : (pairs : List (List ℕ × ℕ)) (text : List ℕ) (k : ℕ) (d : List ℕ × ℕ)
+    → k < length pairs
     → IsWord (get_or pairs k d).0 text → is_some (kind_of pairs text) ≡ true
 kind_of-is_some [] text k d lt is = absurd (not-suc-le-zero lt)
-kind_of-is_some (pair ∷ pairs) text zero d lt is = ap is_some (kind_of-here pair.0 pair.1 pairs text is)
+kind_of-is_some (pair ∷ pairs) text zero d lt is =
+    ap is_some (kind_of-here pair.0 pair.1 pairs text is)
 kind_of-is_some (pair ∷ pairs) text (suc k) d lt is =
     ⊎_elim
     (λ here. ap (λ b. is_some (step pair.1 (kind_of pairs text) b)) here)
-    (λ later. ap (λ b. is_some (step pair.1 (kind_of pairs text) b)) later ∙ kind_of-is_some pairs text k d (le_of_suc-le-suc lt) is)
+    (λ later. ap (λ b. is_some (step pair.1 (kind_of pairs text) b)) later
+    ∙ kind_of-is_some pairs text k d (le_of_suc-le-suc lt) is)
     (cases_Bool (str_eq_ignore_ascii_case pair.0 text))
 
 -- where no kind is found, no word equals the text
-pub none-kind_of : (pairs : List (List ℕ × ℕ)) (text : List ℕ) → is_some (kind_of pairs text) ≡ false → HasNoWord pairs text
-none-kind_of pairs text none k d lt is = let clash : true ≡ false = sym (kind_of-is_some pairs text k d lt is) ∙ none in cc
+pub none-kind_of : (pairs : List (List ℕ × ℕ)) (text : List ℕ)
+    → is_some (kind_of pairs text) ≡ false → HasNoWord pairs text
+none-kind_of pairs text none k d lt is = let clash : true ≡ false =
+    sym (kind_of-is_some pairs text k d lt is) ∙ none in cc
 
 -- a kind that is found stands in the list, with a word that equals the text
-pub some-kind_of : (pairs : List (List ℕ × ℕ)) (text : List ℕ) (kind : ℕ) → kind_of pairs text ≡ Some kind
+pub some-kind_of : (pairs : List (List ℕ × ℕ)) (text : List ℕ) (kind : ℕ)
+    → kind_of pairs text ≡ Some kind
     → HasWord pairs text kind
 some-kind_of [] text kind e = cc
 some-kind_of (pair ∷ pairs) text kind e =
@@ -84,28 +98,34 @@ some-kind_of (pair ∷ pairs) text kind e =
     let same = some_same pair.1 kind (sym (ap (step pair.1 (kind_of pairs text)) here) ∙ e) in
     (0, pair, zero-lt-suc _, refl, ((bytes_eq-Decides _ _).0 here, same)))
     (λ later.
-    let rest = some-kind_of pairs text kind (sym (ap (step pair.1 (kind_of pairs text)) later) ∙ e) in
+    let rest = some-kind_of pairs text kind (sym (ap (step pair.1 (kind_of pairs text)) later) ∙ e)
+    in
     (suc rest.0, rest.1, suc-le-suc rest.2, rest.3, rest.4))
     (cases_Bool (str_eq_ignore_ascii_case pair.0 text))
 
 -- texts that are one when compared without case have one kind
-kind_of-same : (pairs : List (List ℕ × ℕ)) (a b : List ℕ) → IsWord a b → kind_of pairs a ≡ kind_of pairs b
+kind_of-same : (pairs : List (List ℕ × ℕ)) (a b : List ℕ) → IsWord a b
+    → kind_of pairs a ≡ kind_of pairs b
 kind_of-same [] a b e = refl
 kind_of-same (pair ∷ pairs) a b e =
-    λ i. if bytes_eq (str_to_ascii_lowercase pair.0) (e i) then Some pair.1 else kind_of-same pairs a b e i
+    λ i. if bytes_eq (str_to_ascii_lowercase pair.0) (e i) then Some pair.1
+    else kind_of-same pairs a b e i
 
 -- what a test of each pair says of the one that is found
-found_passes : (test : List ℕ × ℕ → Bool) (pairs : List (List ℕ × ℕ)) (text : List ℕ) (kind : ℕ) → list_all test pairs ≡ true
+found_passes : (test : List ℕ × ℕ → Bool) (pairs : List (List ℕ × ℕ)) (text : List ℕ) (kind : ℕ)
+    → list_all test pairs ≡ true
     → (found : HasWord pairs text kind) → test found.1 ≡ true
 found_passes test pairs text kind all found =
-    subst (λ pair. test pair ≡ true) found.3 (AllPass-from_list_all test pairs all found.0 found.1 found.2)
+    subst (λ pair.
+    test pair ≡ true) found.3 (AllPass-from_list_all test pairs all found.0 found.1 found.2)
 
 -- whether the kind of the pair prints as its word between backquotes
 abbrev pub prints : List ℕ × ℕ → Bool
 prints pair = bytes_eq (slice_index_or texts pair.1 []) (backquoted pair.0)
 
 -- a printed text that is not empty is a kind's
-printed_at : (kind : ℕ) (text : List ℕ) (b : ℕ) → slice_index_or texts kind [] ≡ b ∷ text → slice_get texts kind ≡ Some (b ∷ text)
+printed_at : (kind : ℕ) (text : List ℕ) (b : ℕ) → slice_index_or texts kind [] ≡ b ∷ text
+    → slice_get texts kind ≡ Some (b ∷ text)
 printed_at kind text b e =
     ⊎_elim
     (λ within. slice_get-get_or texts kind [] within ∙ ap Some e)
@@ -113,13 +133,15 @@ printed_at kind text b e =
     (cases_lt kind (length texts))
 
 -- a kind that is found prints as the text between backquotes
-pub kind_of-printed : (pairs : List (List ℕ × ℕ)) (text : List ℕ) (kind : ℕ) → list_all prints pairs ≡ true → kind_of pairs text ≡ Some kind
+pub kind_of-printed : (pairs : List (List ℕ × ℕ)) (text : List ℕ) (kind : ℕ)
+    → list_all prints pairs ≡ true → kind_of pairs text ≡ Some kind
     → slice_get texts kind ≡ Some (backquoted text)
 kind_of-printed pairs text kind all e =
     let found = some-kind_of pairs text kind e in
     let shown = (bytes_eq-Decides _ _).0 (found_passes prints pairs text kind all found) in
     printed_at kind (str_to_ascii_lowercase text ++ 96 ∷ []) 96
-    (ap (λ n. slice_index_or texts n []) (sym found.4.1) ∙ shown ∙ ap (λ low. codes "`" ++ low ++ codes "`") found.4.0)
+    (ap (λ n. slice_index_or texts n []) (sym found.4.1) ∙ shown
+    ∙ ap (λ low. codes "`" ++ low ++ codes "`") found.4.0)
 
 -- whether the word of the pair is none of the others
 abbrev pub is_apart : List (List ℕ × ℕ) → List ℕ × ℕ → Bool
@@ -130,21 +152,27 @@ not_true true h = cc
 not_true false h = refl
 
 -- where a kind is found, none is found among the others
-pub kind_of-apart : (pairs others : List (List ℕ × ℕ)) (text : List ℕ) (kind : ℕ) → list_all (is_apart others) pairs ≡ true
+pub kind_of-apart : (pairs others : List (List ℕ × ℕ)) (text : List ℕ) (kind : ℕ)
+    → list_all (is_apart others) pairs ≡ true
     → kind_of pairs text ≡ Some kind → is_some (kind_of others text) ≡ false
 kind_of-apart pairs others text kind all e =
     let found = some-kind_of pairs text kind e in
-    ap is_some (sym (kind_of-same others _ text found.4.0)) ∙ not_true _ (found_passes (is_apart others) pairs text kind all found)
+    ap is_some (sym (kind_of-same others _ text found.4.0))
+    ∙ not_true _ (found_passes (is_apart others) pairs text kind all found)
 
 -- the same the other way round: what is found among the others is none of the pairs
-apart_back : (pairs others : List (List ℕ × ℕ)) (text : List ℕ) (kind : ℕ) (found : Option ℕ) → list_all (is_apart others) pairs ≡ true
-    → kind_of others text ≡ Some kind → kind_of pairs text ≡ found → is_some (kind_of pairs text) ≡ false
+apart_back : (pairs others : List (List ℕ × ℕ)) (text : List ℕ) (kind : ℕ) (found : Option ℕ)
+    → list_all (is_apart others) pairs ≡ true
+    → kind_of others text ≡ Some kind → kind_of pairs text ≡ found
+    → is_some (kind_of pairs text) ≡ false
 apart_back pairs others text kind None all other e = ap is_some e
 apart_back pairs others text kind (Some k) all other e =
-    let clash : true ≡ false = sym (ap is_some other) ∙ kind_of-apart pairs others text k all e in cc
+    let clash : true ≡ false = sym (ap is_some other) ∙ kind_of-apart pairs others text k all e in
+    cc
 
 -- the kinds of a table are those of its pairs
-pub in_pairs : (kinds : List ℕ) (pairs : List (List ℕ × ℕ)) (text : List ℕ) (kind : Option ℕ) → kind ≡ kind_of (pairs_of kinds) text
+pub in_pairs : (kinds : List ℕ) (pairs : List (List ℕ × ℕ)) (text : List ℕ) (kind : Option ℕ)
+    → kind ≡ kind_of (pairs_of kinds) text
     → pairs_of kinds ≡ pairs → kind ≡ kind_of pairs text
 in_pairs kinds pairs text kind found same = found ∙ ap (λ ps. kind_of ps text) same
 
@@ -161,7 +189,8 @@ is_other-is Open h = cc
 is_other-is Close h = cc
 is_other-is Other h = refl
 
-pub answer-other : (pairs : List (List ℕ × ℕ)) (text : List ℕ) (kind : Option ℕ) → kind ≡ kind_of pairs text → list_all pair_is_other pairs ≡ true
+pub answer-other : (pairs : List (List ℕ × ℕ)) (text : List ℕ) (kind : Option ℕ)
+    → kind ≡ kind_of pairs text → list_all pair_is_other pairs ≡ true
     → IfSome kind (λ k. role k ≡ Other)
 answer-other pairs text None e all = tt
 answer-other pairs text (Some k) e all =
@@ -170,7 +199,8 @@ answer-other pairs text (Some k) e all =
 
 -- what the answer of a look-up says
 module _ (pairs : List (List ℕ × ℕ)) (text : List ℕ) where
-  pub answer-none : (kind : Option ℕ) → kind ≡ kind_of pairs text → IsNone kind ↔ HasNoWord pairs text
+  pub answer-none : (kind : Option ℕ) → kind ≡ kind_of pairs text → IsNone kind
+      ↔ HasNoWord pairs text
   answer-none kind e = (
     λ none. none-kind_of pairs text (sym (ap is_some e) ∙ none),
     λ all. ap is_some (e ∙ kind_of-none pairs text all),
@@ -185,12 +215,15 @@ module _ (pairs : List (List ℕ × ℕ)) (text : List ℕ) where
   answer-printed None e all = tt
   answer-printed (Some k) e all = kind_of-printed pairs text k all (sym e)
 
-  pub answer-apart : (others : List (List ℕ × ℕ)) (kind : Option ℕ) → kind ≡ kind_of pairs text → list_all (is_apart others) pairs ≡ true
+  pub answer-apart : (others : List (List ℕ × ℕ)) (kind : Option ℕ) → kind ≡ kind_of pairs text
+      → list_all (is_apart others) pairs ≡ true
       → OnSome kind (IsNone (kind_of others text))
   answer-apart others None e all = tt
   answer-apart others (Some k) e all = kind_of-apart pairs others text k all (sym e)
 
-  pub answer-apart_back : (others : List (List ℕ × ℕ)) (kind : Option ℕ) → kind ≡ kind_of pairs text → list_all (is_apart pairs) others ≡ true
+  pub answer-apart_back : (others : List (List ℕ × ℕ)) (kind : Option ℕ) → kind ≡ kind_of pairs text
+      → list_all (is_apart pairs) others ≡ true
       → OnSome kind (IsNone (kind_of others text))
   answer-apart_back others None e all = tt
-  answer-apart_back others (Some k) e all = apart_back others pairs text k (kind_of others text) all (sym e) refl
+  answer-apart_back others (Some k) e all =
+      apart_back others pairs text k (kind_of others text) all (sym e) refl

@@ -16,14 +16,16 @@ word_size : (word text : List ℕ) → IsWord word text → length word ≡ leng
 word_size word text is = sym (length-map word _) ∙ ap length is ∙ length-map text _
 
 -- the kind of a number below the count
-pub some_from_raw : (kind : Option ℕ) (number : ℕ) → IsNone kind ↔ (2068 ≤ number) → IfSome kind (λ k. k ≡ number) → number < 2068
+pub some_from_raw : (kind : Option ℕ) (number : ℕ) → IsNone kind ↔ (2068 ≤ number)
+    → IfSome kind (λ k. k ≡ number) → number < 2068
     → kind ≡ Some number
 some_from_raw None number past same lt = let le = past.0 refl in absurd (omega (arith, le))
 some_from_raw (Some k) number past same lt = ap Some same
 
 module _ (kinds starts : List ℕ) (index : IsIndex kinds starts) where
   -- what stands between two starts has words of one length
-  pub size_between : (size i d : ℕ) → size + 1 < length starts → slice_index starts size ≤ i → i < slice_index starts (size + 1)
+  pub size_between : (size i d : ℕ) → size + 1 < length starts → slice_index starts size ≤ i
+      → i < slice_index starts (size + 1)
       → i < length kinds → length (word_of (get_or kinds i d)) ≡ size
   size_between size i d listed begun ahead lt =
       let own = length (word_of (get_or kinds i d)) in
@@ -45,7 +47,8 @@ module _ (kinds starts : List ℕ) (index : IsIndex kinds starts) where
       ]
 
   -- the word of this place equals the text, and so the first one does
-  pub found_at : (place : ℕ) (text : List ℕ) → place < length kinds → word_of (slice_index kinds place) ≡ str_to_ascii_lowercase text
+  pub found_at : (place : ℕ) (text : List ℕ) → place < length kinds
+      → word_of (slice_index kinds place) ≡ str_to_ascii_lowercase text
       → kind_of (pairs_of kinds) text ≡ Some (slice_index kinds place)
   found_at place text within word =
       let before : (j : ℕ) → j < place → IsWord (word_of (slice_index kinds j)) text → ⊥ =
@@ -55,36 +58,47 @@ module _ (kinds starts : List ℕ) (index : IsIndex kinds starts) where
       kind_of-at kinds text place 0 within before (index.lower place 0 within ∙ word)
 
   -- a word of the table comes before this text, and so do those before it
-  pub lower_differs : (place i : ℕ) (text : List ℕ) → i ≤ place → place < length kinds → length (word_of (slice_index kinds place)) ≡ length text
-      → slice_cmp nat_cmp (word_of (slice_index kinds place)) text ≡ Less → word_of (slice_index kinds i) ≢ text
+  pub lower_differs : (place i : ℕ) (text : List ℕ) → i ≤ place → place < length kinds
+      → length (word_of (slice_index kinds place)) ≡ length text
+      → slice_cmp nat_cmp (word_of (slice_index kinds place)) text ≡ Less
+      → word_of (slice_index kinds i) ≢ text
   lower_differs place i text le lt size less same =
       let word = word_of (slice_index kinds place) in
       let below : word_cmp word text ≡ Less = word_cmp-bytes word text size ∙ less in
       elim (cases_lt i place) [
         | inl earlier ↦
-            let rise : word_cmp text word ≡ Less = subst (λ w. word_cmp w word ≡ Less) same (index.rising i place 0 earlier lt) in
-            let clash : Less ≡ Greater = sym below ∙ nat_list_cmp_total.antisymm (length word ∷ word) (length text ∷ text) ∙ ap ordering_reverse rise in
+            let rise : word_cmp text word ≡ Less =
+            subst (λ w. word_cmp w word ≡ Less) same (index.rising i place 0 earlier lt) in
+            let clash : Less ≡ Greater = sym below
+            ∙ nat_list_cmp_total.antisymm (length word ∷ word) (length text ∷ text)
+            ∙ ap ordering_reverse rise in
             cc
         | inr ge ↦
-            differs_if word text Less less refl (ap (λ n. word_of (slice_index kinds n)) (le_antisymm ge le) ∙ same)
+            differs_if word text Less less refl (ap (λ n.
+            word_of (slice_index kinds n)) (le_antisymm ge le) ∙ same)
       ]
 
   -- a word of the table comes behind this text, and so do those behind it
-  pub higher_differs : (place i : ℕ) (text : List ℕ) → place ≤ i → i < length kinds → length (word_of (slice_index kinds place)) ≡ length text
-      → slice_cmp nat_cmp (word_of (slice_index kinds place)) text ≡ Greater → word_of (slice_index kinds i) ≢ text
+  pub higher_differs : (place i : ℕ) (text : List ℕ) → place ≤ i → i < length kinds
+      → length (word_of (slice_index kinds place)) ≡ length text
+      → slice_cmp nat_cmp (word_of (slice_index kinds place)) text ≡ Greater
+      → word_of (slice_index kinds i) ≢ text
   higher_differs place i text le lt size greater same =
       let word = word_of (slice_index kinds place) in
       let above : word_cmp word text ≡ Greater = word_cmp-bytes word text size ∙ greater in
       elim (cases_lt place i) [
         | inl later ↦
-            let rise : word_cmp word text ≡ Less = subst (λ w. word_cmp word w ≡ Less) same (index.rising place i 0 later lt) in
+            let rise : word_cmp word text ≡ Less =
+            subst (λ w. word_cmp word w ≡ Less) same (index.rising place i 0 later lt) in
             let clash : Less ≡ Greater = sym rise ∙ above in
             cc
         | inr ge ↦
-            differs_if word text Greater greater refl (ap (λ n. word_of (slice_index kinds n)) (le_antisymm le ge) ∙ same)
+            differs_if word text Greater greater refl (ap (λ n.
+            word_of (slice_index kinds n)) (le_antisymm le ge) ∙ same)
       ]
 
-  module _ (text : List ℕ) (place : ℕ) (listed : length text + 1 < length starts) (begun : slice_index starts (length text) ≤ place)
+  module _ (text : List ℕ) (place : ℕ) (listed : length text + 1
+      < length starts) (begun : slice_index starts (length text) ≤ place)
       (ahead : place < slice_index starts (length text + 1)) where
     pub place_within : place < length kinds
     place_within = omega (arith, index.within (length text + 1) 0 listed)
@@ -93,29 +107,37 @@ module _ (kinds starts : List ℕ) (index : IsIndex kinds starts) where
     place_size = size_between (length text) place 0 listed begun ahead place_within
 
     -- a word of the text's length comes before it: none up to this place equals it
-    pub none_below : slice_cmp nat_cmp (word_of (slice_index kinds place)) (str_to_ascii_lowercase text) ≡ Less
+    pub none_below : slice_cmp nat_cmp (word_of (slice_index kinds place))
+        (str_to_ascii_lowercase text) ≡ Less
         → (i : ℕ) → i ≤ place → word_of (slice_index kinds i) ≢ str_to_ascii_lowercase text
     none_below less i le =
-        lower_differs place i (str_to_ascii_lowercase text) le place_within (place_size ∙ sym (length-map text _)) less
+        lower_differs place i (str_to_ascii_lowercase text) le place_within (place_size
+        ∙ sym (length-map text _)) less
 
     -- it comes behind it: none from this place on does
-    pub none_above : slice_cmp nat_cmp (word_of (slice_index kinds place)) (str_to_ascii_lowercase text) ≡ Greater
-        → (i : ℕ) → place ≤ i → i < length kinds → word_of (slice_index kinds i) ≢ str_to_ascii_lowercase text
+    pub none_above : slice_cmp nat_cmp (word_of (slice_index kinds place))
+        (str_to_ascii_lowercase text) ≡ Greater
+        → (i : ℕ) → place ≤ i → i < length kinds
+        → word_of (slice_index kinds i) ≢ str_to_ascii_lowercase text
     none_above greater i le lt =
-        higher_differs place i (str_to_ascii_lowercase text) le lt (place_size ∙ sym (length-map text _)) greater
+        higher_differs place i (str_to_ascii_lowercase text) le lt (place_size
+        ∙ sym (length-map text _)) greater
 
   -- no word of the text's length equals it
   pub look_up_none : (text : List ℕ) → length text + 1 < length starts
-      → ((i : ℕ) → slice_index starts (length text) ≤ i → i < slice_index starts (length text + 1) → i < length kinds
+      → ((i : ℕ) → slice_index starts (length text) ≤ i → i < slice_index starts (length text + 1)
+      → i < length kinds
       → word_of (slice_index kinds i) ≢ str_to_ascii_lowercase text)
       → kind_of (pairs_of kinds) text ≡ None
   look_up_none text listed none =
       kind_of-missing kinds text 0 (λ i lt is.
-      let at : IsPlace starts (length text) i = subst (λ n. IsPlace starts n i) (word_size _ text is) (index.placed i 0 lt) in
+      let at : IsPlace starts (length text) i =
+      subst (λ n. IsPlace starts n i) (word_size _ text is) (index.placed i 0 lt) in
       none i at.begun at.ahead lt (sym (index.lower i 0 lt) ∙ is))
 
   -- a text is longer than the longest word
-  pub look_up_past : (text : List ℕ) → length starts ≤ length text + 1 → kind_of (pairs_of kinds) text ≡ None
+  pub look_up_past : (text : List ℕ) → length starts ≤ length text + 1
+      → kind_of (pairs_of kinds) text ≡ None
   look_up_past text past =
       kind_of-missing kinds text 0 (λ i lt is.
       let at = index.placed i 0 lt in

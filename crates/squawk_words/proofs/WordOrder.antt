@@ -15,7 +15,8 @@ same_if_equal a b e = (bytes_eq-Decides a b).0 (sym (is_eq-slice_cmp a b) ∙ ap
 -- lists that compare as another are not
 pub differs_if : (a b : List ℕ) (o : Ordering) → slice_cmp nat_cmp a b ≡ o → is_eq o ≡ false → a ≢ b
 differs_if a b o e other same =
-    let clash : true ≡ false = sym ((bytes_eq-Decides a b).1 same) ∙ sym (is_eq-slice_cmp a b) ∙ ap is_eq e ∙ other in cc
+    let clash : true ≡ false = sym ((bytes_eq-Decides a b).1 same) ∙ sym (is_eq-slice_cmp a b)
+    ∙ ap is_eq e ∙ other in cc
 
 -- how two numbers compare
 cmp_suc : (a b : ℕ) → nat_cmp (suc a) (suc b) ≡ nat_cmp a b
@@ -32,17 +33,21 @@ cmp_same a b same = grind (arith, common_steps, same)
 
 -- words of one length compare by their bytes
 pub word_cmp-bytes : (a b : List ℕ) → length a ≡ length b → word_cmp a b ≡ slice_cmp nat_cmp a b
-word_cmp-bytes a b same = ap (λ o. ordering_then o (slice_cmp nat_cmp a b)) (cmp_same (length a) (length b) same)
+word_cmp-bytes a b same =
+    ap (λ o. ordering_then o (slice_cmp nat_cmp a b)) (cmp_same (length a) (length b) same)
 
 -- where one of the two ends, the lengths decide
 pub ended : (p : ℕ) (w t : List ℕ) → p ≤ length w → p ≤ length t → (length w ≤ p) ⊎ (length t ≤ p)
-    → nat_cmp (length w) (length t) ≡ slice_cmp nat_cmp (drop p w) (str_to_ascii_lowercase (drop p t))
+    → nat_cmp (length w) (length t)
+    ≡ slice_cmp nat_cmp (drop p w) (str_to_ascii_lowercase (drop p t))
 ended zero [] [] lw lt e = refl
 ended zero [] (y ∷ ts) lw lt e = cmp_less (length ts)
 ended zero (x ∷ ws) [] lw lt e = cmp_greater (length ws)
-ended zero (x ∷ ws) (y ∷ ts) lw lt e = ⊎_elim (λ h. absurd (not-suc-le-zero h)) (λ h. absurd (not-suc-le-zero h)) e
+ended zero (x ∷ ws) (y ∷ ts) lw lt e = ⊎_elim (λ h. absurd (not-suc-le-zero h)) (λ h.
+    absurd (not-suc-le-zero h)) e
 ended (suc p) [] ts lw lt e = absurd (not-suc-le-zero lw)
 ended (suc p) (x ∷ ws) [] lw lt e = absurd (not-suc-le-zero lt)
 ended (suc p) (x ∷ ws) (y ∷ ts) lw lt e =
     cmp_suc (length ws) (length ts)
-    ∙ ended p ws ts (le_of_suc-le-suc lw) (le_of_suc-le-suc lt) (⊎_elim (λ h. inl (le_of_suc-le-suc h)) (λ h. inr (le_of_suc-le-suc h)) e)
+    ∙ ended p ws ts (le_of_suc-le-suc lw) (le_of_suc-le-suc lt) (⊎_elim (λ h.
+    inl (le_of_suc-le-suc h)) (λ h. inr (le_of_suc-le-suc h)) e)

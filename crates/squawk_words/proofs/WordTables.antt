@@ -24,15 +24,21 @@ IsIndex-keywords = IsIndex-from KEYWORDS KEYWORD_STARTS refl refl refl refl refl
 
 pub IsIndex-contextual : IsIndex CONTEXTUAL_KEYWORDS CONTEXTUAL_STARTS
 unfolding texts rising climbing placed is_place
-IsIndex-contextual = IsIndex-from CONTEXTUAL_KEYWORDS CONTEXTUAL_STARTS refl refl refl refl refl refl
+IsIndex-contextual =
+    IsIndex-from CONTEXTUAL_KEYWORDS CONTEXTUAL_STARTS refl refl refl refl refl refl
 
 pub IsSpelled-keywords : IsSpelled KEYWORDS KEYWORD_STARTS KEYWORD_TEXT.now KEYWORD_OFFSETS
 unfolding texts spelled is_spelled
-IsSpelled-keywords = IsSpelled-from KEYWORD_STARTS KEYWORD_TEXT.now KEYWORD_OFFSETS (length KEYWORD_TEXT.now) KEYWORDS refl refl
+IsSpelled-keywords =
+    IsSpelled-from KEYWORD_STARTS KEYWORD_TEXT.now KEYWORD_OFFSETS (length KEYWORD_TEXT.now)
+    KEYWORDS refl refl
 
-pub IsSpelled-contextual : IsSpelled CONTEXTUAL_KEYWORDS CONTEXTUAL_STARTS CONTEXTUAL_TEXT.now CONTEXTUAL_OFFSETS
+pub IsSpelled-contextual : IsSpelled CONTEXTUAL_KEYWORDS CONTEXTUAL_STARTS CONTEXTUAL_TEXT.now
+    CONTEXTUAL_OFFSETS
 unfolding texts spelled is_spelled
-IsSpelled-contextual = IsSpelled-from CONTEXTUAL_STARTS CONTEXTUAL_TEXT.now CONTEXTUAL_OFFSETS (length CONTEXTUAL_TEXT.now) CONTEXTUAL_KEYWORDS refl refl
+IsSpelled-contextual =
+    IsSpelled-from CONTEXTUAL_STARTS CONTEXTUAL_TEXT.now CONTEXTUAL_OFFSETS
+    (length CONTEXTUAL_TEXT.now) CONTEXTUAL_KEYWORDS refl refl
 
 -- each kind prints as its word between backquotes
 pub keywords_print : list_all prints keywords ≡ true

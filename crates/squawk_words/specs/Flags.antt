@@ -46,5 +46,6 @@ bit_of PlpgsqlReservedContextualKeywords = 12
 
 -- a kind has the flag of a set exactly where it is a member, and each member has flags
 pub record HasFlags (flags : List ℕ) : Type 0 where
-  pub each : (set : Set) (kind : ℕ) → kind < length flags → (bit_at (slice_index flags kind) (bit_of set) ≡ 1) ↔ Contains (members_of set) kind
+  pub each : (set : Set) (kind : ℕ) → kind < length flags
+      → (bit_at (slice_index flags kind) (bit_of set) ≡ 1) ↔ Contains (members_of set) kind
   pub within : (set : Set) → All (λ kind. kind < length flags) (members_of set)

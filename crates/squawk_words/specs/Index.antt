@@ -14,7 +14,8 @@ use Rattle.squawk_kinds.specs.declared.SyntaxKind.{SyntaxKind}
 abbrev pub word_cmp : List ℕ → List ℕ → Ordering
 word_cmp a b = ordering_then (nat_cmp (length a) (length b)) (slice_cmp nat_cmp a b)
 
--- the printed text of a kind without its first and its last byte: its word, where backquotes stand around it
+-- the printed text of a kind without its first and its last byte: its word, where backquotes stand
+-- around it
 abbrev pub word_of : SyntaxKind → List ℕ
 word_of kind = let text = slice_index_or texts kind [] in slice_range text 1 (length text - 1)
 
@@ -28,18 +29,22 @@ pub record IsPlace (starts : List ℕ) (size place : ℕ) : Type 0 where
   pub begun : slice_index starts size ≤ place
   pub ahead : place < slice_index starts (size + 1)
 
--- the kinds rise by their words, which have no capital, and the starts say where the words of each length begin
+-- the kinds rise by their words, which have no capital, and the starts say where the words of each
+-- length begin
 pub record IsIndex (kinds starts : List ℕ) : Type 0 where
   pub numbers : All (λ kind. kind < COUNT) kinds
   pub lower : All (λ kind. str_to_ascii_lowercase (word_of kind) ≡ word_of kind) kinds
   pub rising : AllPairs (λ a b. word_cmp (word_of a) (word_of b) ≡ Less) kinds
   pub ordered : IsNonDecreasing starts
   pub within : All (λ start. start ≤ length kinds) starts
-  pub placed : (place d : ℕ) → place < length kinds → IsPlace starts (length (word_of (slice_index_or kinds place d))) place
+  pub placed : (place d : ℕ) → place < length kinds
+      → IsPlace starts (length (word_of (slice_index_or kinds place d))) place
 
--- where the word of a place begins in the text: behind the words of its length before it, each with one byte behind it
+-- where the word of a place begins in the text: behind the words of its length before it, each with
+-- one byte behind it
 abbrev pub word_start : List ℕ → List ℕ → ℕ → ℕ → ℕ
-word_start starts offsets size place = slice_index offsets size + (place - slice_index starts size) * (size + 1)
+word_start starts offsets size place =
+    slice_index offsets size + (place - slice_index starts size) * (size + 1)
 
 -- the text has this word where the word of this place begins
 pub record IsSpelledAt (starts text offsets word : List ℕ) (place : ℕ) : Type 0 where
@@ -47,8 +52,10 @@ pub record IsSpelledAt (starts text offsets word : List ℕ) (place : ℕ) : Typ
   pub started : length word < length starts
   pub begun : slice_index starts (length word) ≤ place
   pub within : word_start starts offsets (length word) place + length word ≤ length text
-  pub gives : slice_range text (word_start starts offsets (length word) place) (word_start starts offsets (length word) place + length word) ≡ word
+  pub gives : slice_range text (word_start starts offsets (length word) place)
+      (word_start starts offsets (length word) place + length word) ≡ word
 
 -- the text has the words of the kinds, in their order
 pub record IsSpelled (kinds starts text offsets : List ℕ) : Type 0 where
-  pub each : (place d : ℕ) → place < length kinds → IsSpelledAt starts text offsets (word_of (slice_index_or kinds place d)) place
+  pub each : (place d : ℕ) → place < length kinds
+      → IsSpelledAt starts text offsets (word_of (slice_index_or kinds place d)) place

@@ -23,7 +23,8 @@ backquoted text = codes "`" ++ str_to_ascii_lowercase text ++ codes "`"
 -- the kind of the first word that equals the text; no two words of a table are equal
 abbrev pub kind_of : List (List ℕ × SyntaxKind) → List ℕ → Option SyntaxKind
 kind_of [] text = None
-kind_of (pair ∷ pairs) text = if str_eq_ignore_ascii_case pair.0 text then Some pair.1 else kind_of pairs text
+kind_of (pair ∷ pairs) text = if str_eq_ignore_ascii_case pair.0 text then Some pair.1
+    else kind_of pairs text
 
 -- the kind of the keyword that the text is
 unfoldable pub keyword_of : List ℕ → Option SyntaxKind

@@ -17,9 +17,11 @@ pub fn words_rise()
     ensures contextual_once { AllPairs (λ a b. a.0 ≢ b.0) contextual_keywords }
 {}
 
-/// The keywords are the members of the four classes of keywords, and no two classes have a member in common.
+/// The keywords are the members of the four classes of keywords, and no two classes have a member
+/// in common.
 pub fn keywords_have_classes()
-    ensures union { (kind : ℕ) → Contains all_keywords kind ↔ Any (λ class. Contains class kind) classes }
+    ensures union { (kind : ℕ) → Contains all_keywords kind
+        ↔ Any (λ class. Contains class kind) classes }
     ensures disjoint { AllPairs (λ a b. (kind : ℕ) → Contains a kind → ¬ Contains b kind) classes }
 {}
 
@@ -37,5 +39,6 @@ pub fn sets_have_members()
     ensures unreserved { members sets.UNRESERVED_KEYWORDS ≡ unreserved_keywords }
     ensures reserved { members sets.RESERVED_KEYWORDS ≡ reserved_keywords }
     ensures plpgsql_reserved { members sets.PLPGSQL_RESERVED_KEYWORDS ≡ plpgsql_reserved_keywords }
-    ensures plpgsql_contextual { members sets.PLPGSQL_RESERVED_CONTEXTUAL_KEYWORDS ≡ plpgsql_reserved_contextual_keywords }
+    ensures plpgsql_contextual { members sets.PLPGSQL_RESERVED_CONTEXTUAL_KEYWORDS
+        ≡ plpgsql_reserved_contextual_keywords }
 {}

@@ -1,6 +1,7 @@
 //! The keywords, found by their text, and the sets of kinds.
 //!
-//! No call takes memory. A word is found by halving among the words of its length; a set is a flag of each kind.
+//! No call takes memory. A word is found by halving among the words of its length; a set is a flag
+//! of each kind.
 #![tactic(auto)]
 
 ghost use Rattle.std.specs.Prelude.{◌≡◌, ◌↔◌, IsNone, IfSome, OnSome, Some, slice_get};
@@ -27,9 +28,11 @@ pub use sets::{
 };
 use squawk_kinds::SyntaxKind;
 
-/// The kind of the keyword that `ident` is when ASCII letters are compared without case, and nothing else folded.
+/// The kind of the keyword that `ident` is when ASCII letters are compared without case, and
+/// nothing else folded.
 ///
-/// `None` exactly where no keyword is. A kind that is found prints as its word, in small letters, between backquotes.
+/// `None` exactly where no keyword is. A kind that is found prints as its word, in small letters,
+/// between backquotes.
 pub fn from_keyword(ident: &str) -> Option<SyntaxKind>
     ensures kind { result ≡ keyword_of ident.now }
     ensures none { IsNone result ↔ HasNoWord keywords ident.now }
@@ -41,11 +44,11 @@ pub fn from_keyword(ident: &str) -> Option<SyntaxKind>
     halving::look_up(tables::keywords(), ident)
 }
 
-/// The kind of the contextual keyword that `ident` is when ASCII letters are compared without case, and nothing else
-/// folded: of a word that is a keyword in the bodies of PL/pgSQL alone.
+/// The kind of the contextual keyword that `ident` is when ASCII letters are compared without case,
+/// and nothing else folded: of a word that is a keyword in the bodies of PL/pgSQL alone.
 ///
-/// `None` exactly where no contextual keyword is. A kind that is found prints as its word, in small letters, between
-/// backquotes.
+/// `None` exactly where no contextual keyword is. A kind that is found prints as its word, in small
+/// letters, between backquotes.
 pub fn from_contextual_keyword(ident: &str) -> Option<SyntaxKind>
     ensures kind { result ≡ contextual_keyword_of ident.now }
     ensures none { IsNone result ↔ HasNoWord contextual_keywords ident.now }

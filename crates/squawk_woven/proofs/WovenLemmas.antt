@@ -14,13 +14,17 @@ use Rattle.squawk_woven.specs.Weave.{kinds_without_trivia, leading_trivia, after
 use Rattle.squawk_woven.specs.declared.lex.LexedToken.{LexedToken}
 use Rattle.squawk_woven.proofs.FrontLemmas.{front_part, front_then, front_none, front_on}
 
-pub front_part_of : {A : Type 0} (old now xs ys w : List A) → w ≡ xs ++ ys → AppendsPrefix old now xs → AppendsPrefix old now w
+pub front_part_of : {A : Type 0} (old now xs ys w : List A) → w ≡ xs ++ ys
+    → AppendsPrefix old now xs → AppendsPrefix old now w
 front_part_of old now xs ys w is front = rw is (front_part old now xs ys front)
 
-pub front_then_none : {A : Type 0} (old mid now xs ys w : List A) → w ≡ xs ++ ys → mid ≡ old ++ xs → now ≡ mid → AppendsPrefix old now w
-front_then_none old mid now xs ys w is first same = rw is (front_then old mid now xs ys first (front_none mid now ys same))
+pub front_then_none : {A : Type 0} (old mid now xs ys w : List A) → w ≡ xs ++ ys → mid ≡ old ++ xs
+    → now ≡ mid → AppendsPrefix old now w
+front_then_none old mid now xs ys w is first same =
+    rw is (front_then old mid now xs ys first (front_none mid now ys same))
 
-pub last_exit : (last : Bool) (x : Step) (at : ℕ) (ts : List LexedToken) → last ≡ true → x ≡ Exit → weave_step last at ts x ≡ leading_trivia at ts ++ out.Exit ∷ []
+pub last_exit : (last : Bool) (x : Step) (at : ℕ) (ts : List LexedToken) → last ≡ true → x ≡ Exit
+    → weave_step last at ts x ≡ leading_trivia at ts ++ out.Exit ∷ []
 last_exit last x at ts e f = rw (e, f) refl
 
 not_none : (n : ℕ) → nat_eq 0 (suc n) ≡ false
@@ -29,44 +33,64 @@ not_none n = grind (arith, nat_tests)
 eq_suc : (i n : ℕ) → nat_eq (suc i) (suc n) ≡ nat_eq i n
 eq_suc i n = grind (arith, nat_tests)
 
-pub all_out : {A : Type 0} (i : ℕ) (xs : List A) → i ≤ length xs → nat_eq i (length xs) ≡ is_empty (drop i xs)
+pub all_out : {A : Type 0} (i : ℕ) (xs : List A) → i ≤ length xs
+    → nat_eq i (length xs) ≡ is_empty (drop i xs)
 all_out zero [] h = refl
 all_out (suc i) [] h = absurd (omega arith)
 all_out zero (x ∷ xs) h = not_none (length xs)
 all_out (suc i) (x ∷ xs) h = eq_suc i (length xs) ∙ all_out i xs (omega arith)
 
-pub all_out_left : (i : ℕ) (ts : List LexedToken) (k : ℕ) (xs : List Step) → i ≤ length ts → length xs ≤ k → (left : List LexedToken) → remaining_from (drop i ts) (drop k xs) ≡ left → nat_eq i (length ts) ≡ is_empty left
+pub all_out_left : (i : ℕ) (ts : List LexedToken) (k : ℕ) (xs : List Step) → i ≤ length ts
+    → length xs ≤ k → (left : List LexedToken) → remaining_from (drop i ts) (drop k xs) ≡ left
+    → nat_eq i (length ts) ≡ is_empty left
 all_out_left i ts k xs within past left is =
     let none : drop k xs ≡ [] = drop_all k xs past in
     all_out i ts within ∙ ap is_empty (rw none at is)
 
-pub front_of_rest : (old mid now w : List StrStep) (at : ℕ) (ts : List LexedToken) (x : Step) (rest : List Step) (k : ℕ) → k < length rest → x ≡ get_or rest k x
-    → mid ++ weave_from at ts (drop k rest) ≡ old ++ w → length old ≤ length mid → AppendsPrefix mid now (weave_step (nat_eq (k + 1) (length rest)) at ts x) → AppendsPrefix old now w
+pub front_of_rest : (old mid now w : List StrStep) (at : ℕ) (ts : List LexedToken) (x : Step)
+    (rest : List Step) (k : ℕ) → k < length rest → x ≡ get_or rest k x
+    → mid ++ weave_from at ts (drop k rest) ≡ old ++ w → length old ≤ length mid
+    → AppendsPrefix mid now (weave_step (nat_eq (k + 1) (length rest)) at ts x)
+    → AppendsPrefix old now w
 front_of_rest old mid now w at ts x rest k within read so_far le front =
-    let is : drop k rest ≡ x ∷ drop (k + 1) rest = drop_more rest k x within ∙ ap (λ y. y ∷ drop (k + 1) rest) (sym read) in
+    let is : drop k rest ≡ x ∷ drop (k + 1) rest = drop_more rest k x within
+    ∙ ap (λ y. y ∷ drop (k + 1) rest) (sym read) in
     let last = all_out (k + 1) rest (omega arith) in
     front_on old mid now _ _ w (rw is at so_far) le (rw last at front)
 
-kept_behind : (ts : List LexedToken) → kinds_without_trivia (after_leading_trivia ts) ≡ kinds_without_trivia ts
+kept_behind : (ts : List LexedToken) → kinds_without_trivia (after_leading_trivia ts)
+    ≡ kinds_without_trivia ts
 kept_behind [] = refl
 kept_behind (t ∷ ts) = by (is_trivia_kind t.kind) refl (kept_behind ts)
   where
-    by : (b : Bool) → is_trivia_kind t.kind ≡ b → kinds_without_trivia (after_leading_trivia ts) ≡ kinds_without_trivia ts → kinds_without_trivia (cond b (after_leading_trivia ts) (t ∷ ts)) ≡ cond b [] (t.kind ∷ []) ++ kinds_without_trivia ts
+    by : (b : Bool) → is_trivia_kind t.kind ≡ b
+        → kinds_without_trivia (after_leading_trivia ts) ≡ kinds_without_trivia ts
+        → kinds_without_trivia (cond b (after_leading_trivia ts) (t ∷ ts))
+        ≡ cond b [] (t.kind ∷ []) ++ kinds_without_trivia ts
     by true is rest = rest
     by false is rest = rw is refl
 
 -- behind trivia there is nothing, or a token that is not trivia
-kept_first : (ts : List LexedToken) (kind : ℕ) (kinds : List ℕ) → begins_with (kinds_without_trivia ts) (kind ∷ kinds) ≡ true → (is_empty (after_leading_trivia ts) ≡ false) × (begins_with (kinds_without_trivia (drop 1 (after_leading_trivia ts))) kinds ≡ true)
+kept_first : (ts : List LexedToken) (kind : ℕ) (kinds : List ℕ)
+    → begins_with (kinds_without_trivia ts) (kind ∷ kinds) ≡ true
+    → (is_empty (after_leading_trivia ts) ≡ false)
+    × (begins_with (kinds_without_trivia (drop 1 (after_leading_trivia ts))) kinds ≡ true)
 kept_first [] kind kinds h = absurd (cc)
 kept_first (t ∷ ts) kind kinds h = by (is_trivia_kind t.kind) h (kept_first ts kind kinds)
   where
-    by : (b : Bool) → begins_with (cond b [] (t.kind ∷ []) ++ kinds_without_trivia ts) (kind ∷ kinds) ≡ true
-        → (begins_with (kinds_without_trivia ts) (kind ∷ kinds) ≡ true → (is_empty (after_leading_trivia ts) ≡ false) × (begins_with (kinds_without_trivia (drop 1 (after_leading_trivia ts))) kinds ≡ true))
-        → (is_empty (cond b (after_leading_trivia ts) (t ∷ ts)) ≡ false) × (begins_with (kinds_without_trivia (drop 1 (cond b (after_leading_trivia ts) (t ∷ ts)))) kinds ≡ true)
+    by : (b : Bool) → begins_with (cond b [] (t.kind ∷ []) ++ kinds_without_trivia ts) (kind
+        ∷ kinds) ≡ true
+        → (begins_with (kinds_without_trivia ts) (kind ∷ kinds) ≡ true
+        → (is_empty (after_leading_trivia ts) ≡ false)
+        × (begins_with (kinds_without_trivia (drop 1 (after_leading_trivia ts))) kinds ≡ true))
+        → (is_empty (cond b (after_leading_trivia ts) (t ∷ ts)) ≡ false)
+        × (begins_with (kinds_without_trivia
+        (drop 1 (cond b (after_leading_trivia ts) (t ∷ ts)))) kinds ≡ true)
     by true h rest = rest h
     by false h rest = (refl, grind (arith, nat_tests))
 
-pub served_of : (ts : List LexedToken) (xs : List Step) → begins_with (kinds_without_trivia ts) (token_kinds xs) ≡ true → have_tokens_for ts xs ≡ true
+pub served_of : (ts : List LexedToken) (xs : List Step)
+    → begins_with (kinds_without_trivia ts) (token_kinds xs) ≡ true → have_tokens_for ts xs ≡ true
 served_of ts [] h = refl
 served_of ts (Enter kind ∷ xs) h = served_of (after_leading_trivia ts) xs (rw (kept_behind ts) h)
 served_of ts (Token kind ∷ xs) h =
@@ -76,15 +100,23 @@ served_of ts (Exit ∷ []) h = refl
 served_of ts (Exit ∷ x ∷ xs) h = served_of ts (x ∷ xs) h
 served_of ts (Error number ∷ xs) h = served_of ts xs h
 
-pub served_rest : (ts us : List LexedToken) (all shown : List Step) (kind : ℕ) → us ≡ ts → shown ≡ all → shown ≡ Enter kind ∷ drop 1 shown → begins_with (kinds_without_trivia ts) (token_kinds all) ≡ true → have_tokens_for us (take (length shown - 1) (drop 1 shown)) ≡ true
+pub served_rest : (ts us : List LexedToken) (all shown : List Step) (kind : ℕ) → us ≡ ts
+    → shown ≡ all → shown ≡ Enter kind ∷ drop 1 shown
+    → begins_with (kinds_without_trivia ts) (token_kinds all) ≡ true
+    → have_tokens_for us (take (length shown - 1) (drop 1 shown)) ≡ true
 served_rest ts us all shown kind same seen is h =
     rw (same, take_rest shown 1) (served_of ts (drop 1 shown) (rw (← seen, is) at h))
 
-pub front_root : (old mid now : List StrStep) (ts us : List LexedToken) (all shown : List Step) (kind : ℕ) → us ≡ ts → shown ≡ all → shown ≡ Enter kind ∷ drop 1 shown
-    → mid ≡ old ++ out.Enter kind ∷ [] → AppendsPrefix mid now (weave_from 0 us (take (length shown - 1) (drop 1 shown))) → AppendsPrefix old now (weave ts all)
+pub front_root : (old mid now : List StrStep) (ts us : List LexedToken) (all shown : List Step)
+    (kind : ℕ) → us ≡ ts → shown ≡ all → shown ≡ Enter kind ∷ drop 1 shown
+    → mid ≡ old ++ out.Enter kind ∷ []
+    → AppendsPrefix mid now (weave_from 0 us (take (length shown - 1) (drop 1 shown)))
+    → AppendsPrefix old now (weave ts all)
 front_root old mid now ts us all shown kind same seen is first front =
-    let whole : weave ts all ≡ (out.Enter kind ∷ []) ++ weave_from 0 ts (drop 1 shown) = ap (weave ts) (sym seen ∙ is) in
-    rw whole (front_then old mid now (out.Enter kind ∷ []) (weave_from 0 ts (drop 1 shown)) first (rw (same, take_rest shown 1) at front))
+    let whole : weave ts all ≡ (out.Enter kind ∷ []) ++ weave_from 0 ts (drop 1 shown) =
+    ap (weave ts) (sym seen ∙ is) in
+    rw whole (front_then old mid now (out.Enter kind
+    ∷ []) (weave_from 0 ts (drop 1 shown)) first (rw (same, take_rest shown 1) at front))
 
 pub on_err : {T E : Type 0} (r : Result T E) {P : Type 0} → P → OnErr r P
 on_err (Ok v) p = tt

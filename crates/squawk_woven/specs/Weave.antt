@@ -23,12 +23,14 @@ total_len (t ∷ ts) = t.len + total_len ts
 -- the steps of the trivia at the front of tokens that begin at a place
 abbrev pub leading_trivia : ℕ → List LexedToken → List StrStep
 leading_trivia at [] = []
-leading_trivia at (t ∷ ts) = if is_trivia_kind t.kind then out.Token t.kind at (at + t.len) ∷ leading_trivia (at + t.len) ts else []
+leading_trivia at (t ∷ ts) = if is_trivia_kind t.kind
+    then out.Token t.kind at (at + t.len) ∷ leading_trivia (at + t.len) ts else []
 
 -- where they end
 abbrev pub leading_trivia_end : ℕ → List LexedToken → ℕ
 leading_trivia_end at [] = at
-leading_trivia_end at (t ∷ ts) = if is_trivia_kind t.kind then leading_trivia_end (at + t.len) ts else at
+leading_trivia_end at (t ∷ ts) = if is_trivia_kind t.kind then leading_trivia_end (at + t.len) ts
+    else at
 
 -- the tokens behind them
 abbrev pub after_leading_trivia : List LexedToken → List LexedToken
@@ -44,11 +46,13 @@ abbrev pub is_empty : {A : Type 0} → List A → Bool
 is_empty [] = true
 is_empty (x ∷ xs) = false
 
--- What is given out for a step, by whether it is the last, where the tokens that are not given out yet begin at a place.
--- Trivia wait for the next step that is an Enter, a Token or the last Exit.
+-- What is given out for a step, by whether it is the last, where the tokens that are not given out
+-- yet begin at a place. Trivia wait for the next step that is an Enter, a Token or the last Exit.
 abbrev pub weave_step : Bool → ℕ → List LexedToken → Step → List StrStep
 weave_step last at ts (Enter kind) = leading_trivia at ts ++ out.Enter kind ∷ []
-weave_step last at ts (Token kind) = leading_trivia at ts ++ out.Token kind (leading_trivia_end at ts) (leading_trivia_end at ts + next_len (after_leading_trivia ts)) ∷ []
+weave_step last at ts (Token kind) = leading_trivia at ts
+    ++ out.Token kind (leading_trivia_end at ts) (leading_trivia_end at ts
+    + next_len (after_leading_trivia ts)) ∷ []
 weave_step true at ts Exit = leading_trivia at ts ++ out.Exit ∷ []
 weave_step false at ts Exit = out.Exit ∷ []
 weave_step last at ts (Error number) = out.Error number at ∷ []
@@ -56,7 +60,8 @@ weave_step last at ts (Error number) = out.Error number at ∷ []
 -- where the tokens that are left behind it begin
 abbrev pub offset_after_step : Bool → ℕ → List LexedToken → Step → ℕ
 offset_after_step last at ts (Enter kind) = leading_trivia_end at ts
-offset_after_step last at ts (Token kind) = leading_trivia_end at ts + next_len (after_leading_trivia ts)
+offset_after_step last at ts (Token kind) =
+    leading_trivia_end at ts + next_len (after_leading_trivia ts)
 offset_after_step true at ts Exit = leading_trivia_end at ts
 offset_after_step false at ts Exit = at
 offset_after_step last at ts (Error number) = at
@@ -72,7 +77,9 @@ tokens_after_step last ts (Error number) = ts
 -- all steps but the first
 abbrev pub weave_from : ℕ → List LexedToken → List Step → List StrStep
 weave_from at ts [] = []
-weave_from at ts (x ∷ xs) = weave_step (is_empty xs) at ts x ++ weave_from (offset_after_step (is_empty xs) at ts x) (tokens_after_step (is_empty xs) ts x) xs
+weave_from at ts (x ∷ xs) = weave_step (is_empty xs) at ts x
+    ++ weave_from (offset_after_step (is_empty xs) at ts x) (tokens_after_step (is_empty xs) ts x)
+    xs
 
 -- steps that begin with an Enter, with the ranges of their tokens, and with the trivia
 abbrev pub weave : List LexedToken → List Step → List StrStep
@@ -98,7 +105,8 @@ has_token_for ts (Error number) = true
 -- whether tokens are there for all steps
 abbrev pub have_tokens_for : List LexedToken → List Step → Bool
 have_tokens_for ts [] = true
-have_tokens_for ts (x ∷ xs) = has_token_for ts x && have_tokens_for (tokens_after_step (is_empty xs) ts x) xs
+have_tokens_for ts (x ∷ xs) = has_token_for ts x
+    && have_tokens_for (tokens_after_step (is_empty xs) ts x) xs
 
 -- whether a list begins with another
 abbrev pub begins_with : List ℕ → List ℕ → Bool
@@ -109,7 +117,8 @@ begins_with (x ∷ xs) (y ∷ ys) = x == y && begins_with xs ys
 abbrev pub faults_within : ℕ → List (Option Fault) → Bool
 faults_within len [] = true
 faults_within len (None ∷ fs) = faults_within len fs
-faults_within len (Some f ∷ fs) = nat_le 1 f.number && (nat_le f.number 9 && (nat_le f.start f.end && (nat_le f.end len && faults_within len fs)))
+faults_within len (Some f ∷ fs) = nat_le 1 f.number
+    && (nat_le f.number 9 && (nat_le f.start f.end && (nat_le f.end len && faults_within len fs)))
 
 -- each token has a length, and a fault of it lies in it
 abbrev pub are_sound : List LexedToken → Bool

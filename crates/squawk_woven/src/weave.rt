@@ -7,7 +7,7 @@ ghost use Rattle.squawk_woven.specs.Prefixes.{AppendsPrefix};
 ghost use Rattle.squawk_events.specs.declared.steps.Step.TheVariants.{Enter};
 
 use crate::lex::is_trivia;
-use crate::{LexedToken, LexedStr};
+use crate::{LexedStr, LexedToken};
 use squawk_events::{FrontError, Output, Step, StepSink, StrStep};
 use squawk_kinds::SyntaxKind;
 
@@ -19,15 +19,24 @@ struct Place {
 }
 
 /// Gives out the trivia that come next.
-fn give_front<K: StepSink>(tokens: &[LexedToken], from: Place, sink: &mut K) -> Result<Place, FrontError>
+fn give_front<K: StepSink>(
+    tokens: &[LexedToken],
+    from: Place,
+    sink: &mut K,
+) -> Result<Place, FrontError>
     requires within { from.index ≤ length tokens.now }
     requires small { from.at + total_len (drop from.index tokens.now) < 2 ^ 32 }
-    ensures ok { OnOk result (K.steps sink.new ≡ K.steps sink.old ++ leading_trivia from.at (drop from.index tokens.now)) }
-    ensures left { IfOk result (λ to. drop to.index tokens.now ≡ after_leading_trivia (drop from.index tokens.now)) }
-    ensures at { IfOk result (λ to. to.at ≡ leading_trivia_end from.at (drop from.index tokens.now)) }
-    ensures same_end { IfOk result (λ to. to.at + total_len (drop to.index tokens.now) ≡ from.at + total_len (drop from.index tokens.now)) }
+    ensures ok { OnOk result (K.steps sink.new
+        ≡ K.steps sink.old ++ leading_trivia from.at (drop from.index tokens.now)) }
+    ensures left { IfOk result (λ to. drop to.index tokens.now
+        ≡ after_leading_trivia (drop from.index tokens.now)) }
+    ensures at { IfOk result (λ to.
+        to.at ≡ leading_trivia_end from.at (drop from.index tokens.now)) }
+    ensures same_end { IfOk result (λ to. to.at + total_len (drop to.index tokens.now)
+        ≡ from.at + total_len (drop from.index tokens.now)) }
     ensures within { IfOk result (λ to. to.index ≤ length tokens.now) }
-    ensures front { OnErr result (AppendsPrefix (K.steps sink.old) (K.steps sink.new) (leading_trivia from.at (drop from.index tokens.now))) }
+    ensures front { OnErr result (AppendsPrefix (K.steps sink.old) (K.steps sink.new)
+        (leading_trivia from.at (drop from.index tokens.now))) }
     ensures errors { K.errors sink.new ≡ K.errors sink.old }
     ensures refusal { IsOkUnless result OutOfMemory }
 {
@@ -57,12 +66,17 @@ fn give_step<K: StepSink>(
     requires within { from.index ≤ length tokens.now }
     requires small { from.at + total_len (drop from.index tokens.now) < 2 ^ 32 }
     requires served { IsTrue (has_token_for (drop from.index tokens.now) step) }
-    ensures ok { OnOk result (K.steps sink.new ≡ K.steps sink.old ++ weave_step last from.at (drop from.index tokens.now) step) }
-    ensures left { IfOk result (λ to. drop to.index tokens.now ≡ tokens_after_step last (drop from.index tokens.now) step) }
-    ensures at { IfOk result (λ to. to.at ≡ offset_after_step last from.at (drop from.index tokens.now) step) }
-    ensures same_end { IfOk result (λ to. to.at + total_len (drop to.index tokens.now) ≡ from.at + total_len (drop from.index tokens.now)) }
+    ensures ok { OnOk result (K.steps sink.new
+        ≡ K.steps sink.old ++ weave_step last from.at (drop from.index tokens.now) step) }
+    ensures left { IfOk result (λ to. drop to.index tokens.now
+        ≡ tokens_after_step last (drop from.index tokens.now) step) }
+    ensures at { IfOk result (λ to.
+        to.at ≡ offset_after_step last from.at (drop from.index tokens.now) step) }
+    ensures same_end { IfOk result (λ to. to.at + total_len (drop to.index tokens.now)
+        ≡ from.at + total_len (drop from.index tokens.now)) }
     ensures within { IfOk result (λ to. to.index ≤ length tokens.now) }
-    ensures front { OnErr result (AppendsPrefix (K.steps sink.old) (K.steps sink.new) (weave_step last from.at (drop from.index tokens.now) step)) }
+    ensures front { OnErr result (AppendsPrefix (K.steps sink.old) (K.steps sink.new)
+        (weave_step last from.at (drop from.index tokens.now) step)) }
     ensures errors { K.errors sink.new ≡ K.errors sink.old }
     ensures refusal { IsOkUnless result OutOfMemory }
 {
@@ -105,12 +119,18 @@ fn give_step<K: StepSink>(
 }
 
 /// Gives out all steps but the first, and answers whether all tokens were given out.
-fn give_rest<K: StepSink>(tokens: &[LexedToken], rest: &[Step], sink: &mut K) -> Result<bool, FrontError>
+fn give_rest<K: StepSink>(
+    tokens: &[LexedToken],
+    rest: &[Step],
+    sink: &mut K,
+) -> Result<bool, FrontError>
     requires small { total_len tokens.now < 2 ^ 32 }
     requires served { IsTrue (have_tokens_for tokens.now rest.now) }
-    ensures ok { OnOk result (K.steps sink.new ≡ K.steps sink.old ++ weave_from 0 tokens.now rest.now) }
+    ensures ok { OnOk result (K.steps sink.new
+        ≡ K.steps sink.old ++ weave_from 0 tokens.now rest.now) }
     ensures all { IfOk result (λ all. all ≡ is_empty (remaining_from tokens.now rest.now)) }
-    ensures front { OnErr result (AppendsPrefix (K.steps sink.old) (K.steps sink.new) (weave_from 0 tokens.now rest.now)) }
+    ensures front { OnErr result (AppendsPrefix (K.steps sink.old) (K.steps sink.new)
+        (weave_from 0 tokens.now rest.now)) }
     ensures errors { K.errors sink.new ≡ K.errors sink.old }
     ensures refusal { IsOkUnless result OutOfMemory }
 {
@@ -141,10 +161,13 @@ impl LexedStr {
         sink: &mut K,
     ) -> Result<bool, FrontError>
         requires balanced { IsTrue (is_balanced output.now) }
-        requires tokens { IsTrue (begins_with (kinds_without_trivia self.now) (token_kinds output.now)) }
-        ensures ok { OnOk result (K.steps sink.new ≡ K.steps sink.old ++ weave self.now output.now) }
+        requires tokens { IsTrue (begins_with (kinds_without_trivia self.now)
+            (token_kinds output.now)) }
+        ensures ok { OnOk result (K.steps sink.new
+            ≡ K.steps sink.old ++ weave self.now output.now) }
         ensures all { IfOk result (λ all. all ≡ is_empty (remaining_tokens self.now output.now)) }
-        ensures front { OnErr result (AppendsPrefix (K.steps sink.old) (K.steps sink.new) (weave self.now output.now)) }
+        ensures front { OnErr result (AppendsPrefix (K.steps sink.old) (K.steps sink.new)
+            (weave self.now output.now)) }
         ensures errors { K.errors sink.new ≡ K.errors sink.old }
         ensures refusal { IsOkUnless result OutOfMemory }
     {

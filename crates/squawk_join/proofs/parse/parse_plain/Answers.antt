@@ -13,24 +13,33 @@ use Rattle.squawk_statements.specs.Plain.{plain}
 use Rattle.squawk_statements.specs.declared.division.Division.{Division}
 use Rattle.squawk_statements.specs.declared.division.Division.TheVariants.{Flat}
 use Rattle.squawk_join.specs.Tree.{Tree, without_errors}
-use Rattle.squawk_join.specs.Join.{joined, joined_errors, lex_form}
+use Rattle.squawk_join.specs.Join.{joined, joined_errors, lexed_role}
 use Rattle.squawk_join.proofs.JoinLemmas.{join_law}
 use Rattle.squawk_join.proofs.parse.parse_plain.Goals as goal
 
 -- the law of the children, for an answer
-joined_answer : {E : Type 0} (r : Result Tree E) (d : Division) (ts : _) → IfOk r (λ parse. parse.steps ≡ without_errors (weave ts (plain d (kinds_without_trivia ts)))) → IfOk r (λ parse. parse.steps ≡ without_errors (joined d (parts lex_form d ts)))
+joined_answer : {E : Type 0} (r : Result Tree E) (d : Division) (ts : _)
+    → IfOk r (λ parse. parse.steps ≡ without_errors (weave ts (plain d (kinds_without_trivia ts))))
+    → IfOk r (λ parse. parse.steps ≡ without_errors (joined d (parts lexed_role d ts)))
 joined_answer (Ok parse) d ts is = is ∙ ap without_errors (join_law d ts)
 joined_answer (Err e) d ts is = tt
 
 pub returns-clause-joined : goal.returns-clause-joined
 returns-clause-joined c = joined_answer _ Flat c.args.lexed.now c.parse_lexed.ensures.steps
 
-errors_answer : {E : Type 0} (r : Result Tree E) (d : Division) (ts : List LexedToken) → are_sound ts ≡ true → is_balanced (plain d (kinds_without_trivia ts)) ≡ true → token_kinds (plain d (kinds_without_trivia ts)) ≡ kinds_without_trivia ts → IfOk r (λ parse. parse.errors ≡ errors ts (weave ts (plain d (kinds_without_trivia ts)))) → IfOk r (λ parse. parse.errors ≡ joined_errors d 0 (parts lex_form d ts))
-errors_answer (Ok parse) d ts sound balanced tokens is = is ∙ join_errors_law d ts sound (errors_whole ts (plain d (kinds_without_trivia ts)) balanced tokens sound)
+errors_answer : {E : Type 0} (r : Result Tree E) (d : Division) (ts : List LexedToken)
+    → are_sound ts ≡ true → is_balanced (plain d (kinds_without_trivia ts)) ≡ true
+    → token_kinds (plain d (kinds_without_trivia ts)) ≡ kinds_without_trivia ts
+    → IfOk r (λ parse. parse.errors ≡ errors ts (weave ts (plain d (kinds_without_trivia ts))))
+    → IfOk r (λ parse. parse.errors ≡ joined_errors d 0 (parts lexed_role d ts))
+errors_answer (Ok parse) d ts sound balanced tokens is = is
+    ∙ join_errors_law d ts sound (errors_whole ts (plain d (kinds_without_trivia ts)) balanced
+    tokens sound)
 errors_answer (Err e) d ts sound balanced tokens is = tt
 
 pub returns-clause-errors : goal.returns-clause-errors
 returns-clause-errors c =
     let ts = c.args.lexed.now in
     let lawful = plain_lawful Flat (kinds_without_trivia ts) (has_no_trivia_kept ts) in
-    errors_answer _ Flat ts c.tokens-tokens.ensures.sound lawful.balanced lawful.tokens c.parse_lexed.ensures.errors
+    errors_answer _ Flat ts c.tokens-tokens.ensures.sound lawful.balanced lawful.tokens
+    c.parse_lexed.ensures.errors

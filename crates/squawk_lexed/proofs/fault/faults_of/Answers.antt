@@ -5,4 +5,5 @@ pub returns-clause-few : goal.returns-clause-few
 returns-clause-few c = few_faults c.flags_lie_within.ensures.within c.args.token c.requires.cut
 
 pub returns-clause-within : goal.returns-clause-within
-returns-clause-within c = faults_lie_within c.flags_lie_within.ensures.within c.args.token c.requires.cut
+returns-clause-within c =
+    faults_lie_within c.flags_lie_within.ensures.within c.args.token c.requires.cut

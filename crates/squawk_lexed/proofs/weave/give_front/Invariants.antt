@@ -5,11 +5,16 @@ use Rattle.squawk_lexed.proofs.weave.give_front.Given as goal
 
 abbrev pub invariant-loop-index : goal.invariant-loop-index
 invariant-loop-index g l = record {
-  steps : g.K.StepSink.steps l.sink ++ leading_trivia l.at (drop l.index l.lexed.tokens) ≡ g.K.StepSink.steps l.initial.sink ++ leading_trivia l.fn.from.at (drop l.fn.from.index l.lexed.tokens);
+  steps : g.K.StepSink.steps l.sink ++ leading_trivia l.at (drop l.index l.lexed.tokens)
+      ≡ g.K.StepSink.steps l.initial.sink
+      ++ leading_trivia l.fn.from.at (drop l.fn.from.index l.lexed.tokens);
   more : length (g.K.StepSink.steps l.initial.sink) ≤ length (g.K.StepSink.steps l.sink);
-  left : after_leading_trivia (drop l.index l.lexed.tokens) ≡ after_leading_trivia (drop l.fn.from.index l.lexed.tokens);
-  end : leading_trivia_end l.at (drop l.index l.lexed.tokens) ≡ leading_trivia_end l.fn.from.at (drop l.fn.from.index l.lexed.tokens);
-  same_end : l.at + total_len (drop l.index l.lexed.tokens) ≡ l.fn.from.at + total_len (drop l.fn.from.index l.lexed.tokens);
+  left : after_leading_trivia (drop l.index l.lexed.tokens)
+      ≡ after_leading_trivia (drop l.fn.from.index l.lexed.tokens);
+  end : leading_trivia_end l.at (drop l.index l.lexed.tokens)
+      ≡ leading_trivia_end l.fn.from.at (drop l.fn.from.index l.lexed.tokens);
+  same_end : l.at + total_len (drop l.index l.lexed.tokens)
+      ≡ l.fn.from.at + total_len (drop l.fn.from.index l.lexed.tokens);
   within : l.index ≤ length l.lexed.tokens;
   errors : g.K.StepSink.errors l.sink ≡ g.K.StepSink.errors l.initial.sink;
 }

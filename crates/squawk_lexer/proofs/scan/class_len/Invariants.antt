@@ -6,7 +6,8 @@ use Rattle.squawk_lexer.proofs.scan.class_len.Given as goal
 abbrev pub invariant-loop-len : goal.invariant-loop-len
 invariant-loop-len l = record {
   within : l.len ≤ length l.bytes;
-  run : l.len + prefix_len (class_test l.class) (drop l.len l.bytes) ≡ prefix_len (class_test l.class) l.fn.bytes;
+  run : l.len + prefix_len (class_test l.class) (drop l.len l.bytes)
+      ≡ prefix_len (class_test l.class) l.fn.bytes;
 }
 
 abbrev pub decreases-loop-len : goal.decreases-loop-len

@@ -9,5 +9,13 @@ overflow_add-result c =
     let bytes = c.args.bytes.now in
     let near = c.near_inside_len-near.result in
     let rest = take (length bytes - near) (drop near bytes) in
-    let size : length rest ≡ length bytes - near = length-take-le (length bytes - near) (drop near bytes) (omega (arith, length-drop near bytes)) in
-    omega (arith, size, c.near_inside_len-near.ensures.within, c.far_inside_len.ensures, prefix_len-le-length (is_neither_on_line c.args.a c.args.b) rest)
+    let size : length rest ≡ length bytes - near =
+    length-take-le (length bytes - near) (drop near bytes)
+    (omega (arith, length-drop near bytes)) in
+    omega (
+      arith,
+      size,
+      c.near_inside_len-near.ensures.within,
+      c.far_inside_len.ensures,
+      prefix_len-le-length (is_neither_on_line c.args.a c.args.b) rest,
+    )

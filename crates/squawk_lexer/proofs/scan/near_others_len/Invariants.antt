@@ -6,7 +6,8 @@ use Rattle.squawk_lexer.proofs.scan.near_others_len.Given as goal
 abbrev pub invariant-loop-len : goal.invariant-loop-len
 invariant-loop-len l = record {
   within : l.len ≤ length l.bytes;
-  run : l.len + prefix_len (is_neither l.a l.b) (drop l.len l.bytes) ≡ prefix_len (is_neither l.fn.a l.fn.b) l.fn.bytes;
+  run : l.len + prefix_len (is_neither l.a l.b) (drop l.len l.bytes)
+      ≡ prefix_len (is_neither l.fn.a l.fn.b) l.fn.bytes;
 }
 
 abbrev pub decreases-loop-len : goal.decreases-loop-len

@@ -12,7 +12,10 @@ loop-c-preserved c =
     let parts = c.in-Some.ensures.steps.0 in
     let step = chars_past_char _ _ c.in-Some.c held.0 parts in (
       IsUtf8-past_char _ _ c.in-Some.c held.0 parts,
-      put_more c.args.quote c.in-Some.c _ _ (string_bytes c.loop-c.out) _ c.in_ok-push_doubled.ensures (ap (λ u. string_bytes c.loop-c.out ++ encode_utf8_all (doubled c.args.quote u)) (sym step) ∙ held.1),
+      put_more c.args.quote c.in-Some.c _ _ (string_bytes c.loop-c.out) _
+          c.in_ok-push_doubled.ensures (ap (λ u.
+          string_bytes c.loop-c.out ++ encode_utf8_all (doubled c.args.quote u)) (sym step)
+          ∙ held.1),
     )
 
 pub returns : goal.returns

@@ -9,4 +9,5 @@ use Rattle.squawk_quote.proofs.writers.push_all.Given as goal
 abbrev pub invariant-loop-c : goal.invariant-loop-c
 invariant-loop-c l =
     IsUtf8 (chars_rest l.c-iterator)
-    × (string_bytes l.out ++ encode_utf8_all (doubled l.quote (chars (chars_rest l.c-iterator))) ≡ string_bytes l.fn.out ++ encode_utf8_all (doubled l.quote (chars l.fn.value)))
+    × (string_bytes l.out ++ encode_utf8_all (doubled l.quote (chars (chars_rest l.c-iterator)))
+    ≡ string_bytes l.fn.out ++ encode_utf8_all (doubled l.quote (chars l.fn.value)))

@@ -7,7 +7,11 @@ use Rattle.squawk_quote.proofs.QuoteBytes.{on_value, on_token}
 use Rattle.squawk_quote.proofs.writers.quote_ident.Goals as goal
 
 pub returns-clause-value : goal.returns-clause-value
-returns-clause-value c = on_value (ident_of (chars c.args.value.now)) (chars c.args.value.now) c.quoted.result (ident_value (chars c.args.value.now)) c.quoted.ensures.text
+returns-clause-value c =
+    on_value (ident_of (chars c.args.value.now)) (chars c.args.value.now) c.quoted.result
+    (ident_value (chars c.args.value.now)) c.quoted.ensures.text
 
 pub returns-clause-token : goal.returns-clause-token
-returns-clause-token c = on_token (kinds.QuotedIdent true false) (ident_of (chars c.args.value.now)) c.quoted.result (ident_token (chars c.args.value.now)) c.quoted.ensures.text
+returns-clause-token c =
+    on_token (kinds.QuotedIdent true false) (ident_of (chars c.args.value.now)) c.quoted.result
+    (ident_token (chars c.args.value.now)) c.quoted.ensures.text

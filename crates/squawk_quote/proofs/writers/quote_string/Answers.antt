@@ -8,7 +8,11 @@ use Rattle.squawk_quote.proofs.QuoteBytes.{on_value, on_token}
 use Rattle.squawk_quote.proofs.writers.quote_string.Goals as goal
 
 pub returns-clause-value : goal.returns-clause-value
-returns-clause-value c = on_value (string_of (chars c.args.value.now)) (chars c.args.value.now) c.quoted.result (string_value (chars c.args.value.now)) c.quoted.ensures.text
+returns-clause-value c =
+    on_value (string_of (chars c.args.value.now)) (chars c.args.value.now) c.quoted.result
+    (string_value (chars c.args.value.now)) c.quoted.ensures.text
 
 pub returns-clause-token : goal.returns-clause-token
-returns-clause-token c = on_token (kinds.Literal (Str true)) (string_of (chars c.args.value.now)) c.quoted.result (string_token (chars c.args.value.now)) c.quoted.ensures.text
+returns-clause-token c =
+    on_token (kinds.Literal (Str true)) (string_of (chars c.args.value.now)) c.quoted.result
+    (string_token (chars c.args.value.now)) c.quoted.ensures.text

@@ -5,8 +5,11 @@ use Rattle.squawk_quote.proofs.writers.quoted.Goals as goal
 
 pub returns-then-len-gt-LIMIT-clause-too_long : goal.returns-then-len-gt-LIMIT-clause-too_long
 returns-then-len-gt-LIMIT-clause-too_long c = λ h.
-    let is = put_quoted c.args.quote (chars c.args.value.now) _ _ _ _ c.new-out.ensures.bytes c.in_ok-push.ensures.bytes c.in_ok-push_all.ensures c.in_ok-push-2.ensures.bytes in
+    let is = put_quoted c.args.quote (chars c.args.value.now) _ _ _ _ c.new-out.ensures.bytes
+    c.in_ok-push.ensures.bytes c.in_ok-push_all.ensures c.in_ok-push-2.ensures.bytes in
     omega (arith, ap (λ (w : List ℕ). length w) is, c.len.ensures, c.if-len-gt-LIMIT.true)
 
 pub returns-clause-text : goal.returns-clause-text
-returns-clause-text c = put_quoted c.args.quote (chars c.args.value.now) _ _ _ _ c.new-out.ensures.bytes c.in_ok-push.ensures.bytes c.in_ok-push_all.ensures c.in_ok-push-2.ensures.bytes
+returns-clause-text c =
+    put_quoted c.args.quote (chars c.args.value.now) _ _ _ _ c.new-out.ensures.bytes
+    c.in_ok-push.ensures.bytes c.in_ok-push_all.ensures c.in_ok-push-2.ensures.bytes

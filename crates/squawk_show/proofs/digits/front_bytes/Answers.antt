@@ -15,8 +15,10 @@ returns-then-n-lt100 c =
     let all = decimal-two c.args.n c.if-n-lt10.false c.if-n-lt100.true in
     let a = c.digit-then-n-lt100.ensures in
     let b = c.digit-then-n-lt100-2.ensures in
-    let e : decimal c.args.n ≡ c.digit-then-n-lt100.result ∷ c.digit-then-n-lt100-2.result ∷ [] = cc in
-    front-from c.args.n (c.digit-then-n-lt100.result ∷ c.digit-then-n-lt100-2.result ∷ []) (48 ∷ 48 ∷ []) e
+    let e : decimal c.args.n ≡ c.digit-then-n-lt100.result ∷ c.digit-then-n-lt100-2.result ∷ [] = cc
+    in
+    front-from c.args.n (c.digit-then-n-lt100.result ∷ c.digit-then-n-lt100-2.result ∷ []) (48 ∷ 48
+    ∷ []) e
 
 pub returns-then-n-lt1000 : goal.returns-then-n-lt1000
 returns-then-n-lt1000 c =
@@ -24,8 +26,10 @@ returns-then-n-lt1000 c =
     let a = c.digit-then-n-lt1000.ensures in
     let b = c.digit-then-n-lt1000-2.ensures in
     let d = c.digit-then-n-lt1000-3.ensures in
-    let e : decimal c.args.n ≡ c.digit-then-n-lt1000.result ∷ c.digit-then-n-lt1000-2.result ∷ c.digit-then-n-lt1000-3.result ∷ [] = cc in
-    front-from c.args.n (c.digit-then-n-lt1000.result ∷ c.digit-then-n-lt1000-2.result ∷ c.digit-then-n-lt1000-3.result ∷ []) (48 ∷ []) e
+    let e : decimal c.args.n ≡ c.digit-then-n-lt1000.result ∷ c.digit-then-n-lt1000-2.result
+    ∷ c.digit-then-n-lt1000-3.result ∷ [] = cc in
+    front-from c.args.n (c.digit-then-n-lt1000.result ∷ c.digit-then-n-lt1000-2.result
+    ∷ c.digit-then-n-lt1000-3.result ∷ []) (48 ∷ []) e
 
 pub returns-else-n-lt1000 : goal.returns-else-n-lt1000
 returns-else-n-lt1000 c =
@@ -34,5 +38,7 @@ returns-else-n-lt1000 c =
     let b = c.digit-else-n-lt1000-2.ensures in
     let d = c.digit-else-n-lt1000-3.ensures in
     let f = c.digit-else-n-lt1000-4.ensures in
-    let e : decimal c.args.n ≡ c.digit-else-n-lt1000.result ∷ c.digit-else-n-lt1000-2.result ∷ c.digit-else-n-lt1000-3.result ∷ c.digit-else-n-lt1000-4.result ∷ [] = cc in
-    front-from c.args.n (c.digit-else-n-lt1000.result ∷ c.digit-else-n-lt1000-2.result ∷ c.digit-else-n-lt1000-3.result ∷ c.digit-else-n-lt1000-4.result ∷ []) [] e
+    let e : decimal c.args.n ≡ c.digit-else-n-lt1000.result ∷ c.digit-else-n-lt1000-2.result
+    ∷ c.digit-else-n-lt1000-3.result ∷ c.digit-else-n-lt1000-4.result ∷ [] = cc in
+    front-from c.args.n (c.digit-else-n-lt1000.result ∷ c.digit-else-n-lt1000-2.result
+    ∷ c.digit-else-n-lt1000-3.result ∷ c.digit-else-n-lt1000-4.result ∷ []) [] e

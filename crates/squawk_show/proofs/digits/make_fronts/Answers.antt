@@ -6,5 +6,7 @@ use Rattle.squawk_show.proofs.digits.make_fronts.Goals as goal
 
 pub loop-n-preserved : goal.loop-n-preserved
 loop-n-preserved c =
-    let is : BeginsWith c.loop-n.n c.four_of.result = ap (take (length (decimal c.loop-n.n))) c.four_of.ensures ∙ c.front_bytes.ensures in
-    rw c.in_ok-push.ensures.items (fours-more BeginsWith c.loop-n.n c.four_of.result c.loop-n.fours.items c.loop-n.invariant is)
+    let is : BeginsWith c.loop-n.n c.four_of.result =
+    ap (take (length (decimal c.loop-n.n))) c.four_of.ensures ∙ c.front_bytes.ensures in
+    rw c.in_ok-push.ensures.items (fours-more BeginsWith c.loop-n.n c.four_of.result
+    c.loop-n.fours.items c.loop-n.invariant is)

@@ -9,5 +9,12 @@ returns c =
     let out = c.args.out.now in
     let grown = c.in_ok-extend_from_slice.ensures.items in
     let old : c.len-old.result ≡ length out.items = c.len-old.ensures ∙ out.ok.0 in
-    let total : c.extend_from_slice.new.self.len ≡ c.len-old.result + 64 = omega (arith, c.in_ok-extend_from_slice.ensures.len, c.len-old.ensures, c.requires.0) in
-    row-written (λ xs. decimal c.args.depth ++ (32 ∷ c.args.letter ∷ 32 ∷ []) ++ take c.args.len (drop 4 xs) ++ (32 ∷ []) ++ range_text (c.args.start.number, c.args.end.number) ++ (10 ∷ [])) out.items c.args.row.now _ _ _ _ _ _ _ _ c.truncate.ensures.items (c.as_mut_slice.ensures.value ∙ grown) old total c.requires.0 c.put_line-count.ensures.same_length c.put_line-count.ensures.within c.put_line-count.ensures.written
+    let total : c.extend_from_slice.new.self.len ≡ c.len-old.result + 64 =
+    omega (arith, c.in_ok-extend_from_slice.ensures.len, c.len-old.ensures, c.requires.0) in
+    row-written (λ xs. decimal c.args.depth ++ (32 ∷ c.args.letter ∷ 32 ∷ [])
+    ++ take c.args.len (drop 4 xs) ++ (32 ∷ [])
+    ++ range_text (c.args.start.number, c.args.end.number)
+    ++ (10 ∷ [])) out.items c.args.row.now _ _ _ _ _ _ _ _ c.truncate.ensures.items
+    (c.as_mut_slice.ensures.value ∙ grown) old total c.requires.0
+    c.put_line-count.ensures.same_length c.put_line-count.ensures.within
+    c.put_line-count.ensures.written

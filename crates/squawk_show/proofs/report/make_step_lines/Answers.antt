@@ -11,6 +11,16 @@ loop-i-preserved c =
     let spans = ranges steps in
     let span = get_or_from_slice_get spans i c.range.result c.range.result c.range.ensures in
     record {
-      lines = rw (c.in_ok-next.ensures.line, c.in_ok-next.ensures.depth) (step_lines-more c.loop-i.depth i spans steps c.loop-i.out.items _ c.step-item.result c.range.result (omega (arith, ap length c.steps-step-items.ensures)) (slice_get_within spans i c.range.result c.range.ensures) (c.step-item.is ∙ ap (λ xs. get_or xs i c.step-item.result) c.steps-step-items.ensures) (sym span) c.loop-i.invariant.lines);
-      depth = omega (arith, c.in_ok-next.ensures.depth, depth_after-le c.loop-i.depth c.step-item.result);
+      lines = rw (c.in_ok-next.ensures.line, c.in_ok-next.ensures.depth)
+          (step_lines-more c.loop-i.depth i spans steps c.loop-i.out.items _ c.step-item.result
+          c.range.result (omega (arith, ap length c.steps-step-items.ensures))
+          (slice_get_within spans i c.range.result c.range.ensures) (c.step-item.is
+          ∙ ap (λ xs. get_or xs i c.step-item.result) c.steps-step-items.ensures) (sym span)
+          c.loop-i.invariant.lines);
+      depth = omega (
+        arith,
+        c.in_ok-next.ensures.depth,
+        depth_after-le c.loop-i.depth
+            c.step-item.result,
+      );
     }

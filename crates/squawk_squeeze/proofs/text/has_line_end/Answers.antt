@@ -14,8 +14,10 @@ pub loop-c-preserved : goal.loop-c-preserved
 loop-c-preserved c =
     let held = c.loop-c.invariant in
     let parts = c.in-Some.ensures.steps.0 in
-    let other = sym c.is_line_end.ensures ∙ c.if-is_line_end.false in
-    (IsUtf8-past_char _ _ c.in-Some.c held.0 parts, rw (chars_past_char _ _ c.in-Some.c held.0 parts, other) at held.1)
+    let other = sym c.is_line_end.ensures ∙ c.if-is_line_end.false in (
+      IsUtf8-past_char _ _ c.in-Some.c held.0 parts,
+      rw (chars_past_char _ _ c.in-Some.c held.0 parts, other) at held.1,
+    )
 
 pub returns : goal.returns
 returns c = rw (chars_none _ c.in-None.ensures.steps.0.0) at c.loop-c.invariant.1

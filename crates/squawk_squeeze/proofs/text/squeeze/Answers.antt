@@ -10,7 +10,12 @@ use Rattle.squawk_squeeze.proofs.text.squeeze.Goals as goal
 pub loop-at-init : goal.loop-at-init
 loop-at-init c = record {
   text = rw (c.new-out.ensures.bytes) refl;
-  short = omega (arith, c.new-out.ensures.len, ap (λ (w : List ℕ). length w) c.new-out.ensures.bytes);
+  short = omega (
+    arith,
+    c.new-out.ensures.len,
+    ap (λ (w : List ℕ).
+        length w) c.new-out.ensures.bytes,
+  );
   boundary = IsCharBoundary-start c.args.text.now c.utf8.text;
   within = omega arith;
 }
@@ -22,12 +27,22 @@ loop-at-preserved-then-is_gap c =
     let text = c.args.text.now in
     let at = c.loop-at.at in
     let is_gap = sym c.is_gap.ensures ∙ c.if-is_gap.true in
-    let part_is : c.range-part.result.now ≡ take t.len (drop at text) = c.range-part.ensures.value ∙ ap (λ n. take n (drop at text)) (let e : at + t.len - at ≡ t.len = omega arith in e) in
-    let same = left_gap c.tokens_progress.ensures.some c.args.strings text at t c.range-part.result.now c.utf8.text c.loop-at.invariant.boundary c.loop-at-test.true
-    c.cut_at_in-token.ensures.ends_between c.cut_at_in-token.ensures.positive c.cut_at_in-token.ensures.token part_is c.range-part.utf8 c.loop-at.gap is_gap in
+    let part_is : c.range-part.result.now ≡ take t.len (drop at text) = c.range-part.ensures.value
+    ∙ ap (λ n. take n (drop at text)) (let e : at + t.len - at ≡ t.len = omega arith in e) in
+    let same = left_gap c.tokens_progress.ensures.some c.args.strings text at t
+    c.range-part.result.now c.utf8.text c.loop-at.invariant.boundary c.loop-at-test.true
+    c.cut_at_in-token.ensures.ends_between c.cut_at_in-token.ensures.positive
+    c.cut_at_in-token.ensures.token part_is c.range-part.utf8 c.loop-at.gap is_gap in
     record {
-      text = ap (λ o. out ++ encode_utf8_all (left c.args.strings o text (at + t.len))) c.widened-gap.ensures ∙ ap (λ w. out ++ encode_utf8_all w) (sym same) ∙ c.loop-at.invariant.text;
-      short = omega (arith, gap_len_one c.widened-gap.result, c.loop-at.invariant.short, c.cut_at_in-token.ensures.positive);
+      text = ap (λ o. out ++ encode_utf8_all (left c.args.strings o text (at + t.len)))
+          c.widened-gap.ensures ∙ ap (λ w. out ++ encode_utf8_all w) (sym same)
+          ∙ c.loop-at.invariant.text;
+      short = omega (
+        arith,
+        gap_len_one c.widened-gap.result,
+        c.loop-at.invariant.short,
+        c.cut_at_in-token.ensures.positive,
+      );
       boundary = c.cut_at_in-token.ensures.ends_between;
       within = c.cut_at_in-token.ensures.ends_between.0;
     }
@@ -43,30 +58,71 @@ loop-at-preserved c =
     let new = string_bytes c.push_str.new.self in
     let gap = gap_bytes c.loop-at.gap in
     let is_gap = sym c.is_gap.ensures ∙ c.if-is_gap.false in
-    let part_is : part ≡ take t.len (drop at text) = c.range-part.ensures.value ∙ ap (λ n. take n (drop at text)) (let e : at + t.len - at ≡ t.len = omega arith in e) in
-    let whole = left_kept c.tokens_progress.ensures.some c.args.strings text at t part c.utf8.text c.loop-at.invariant.boundary c.loop-at-test.true
-    c.cut_at_in-token.ensures.ends_between c.cut_at_in-token.ensures.positive c.cut_at_in-token.ensures.token part_is c.range-part.utf8 c.loop-at.gap is_gap in
+    let part_is : part ≡ take t.len (drop at text) = c.range-part.ensures.value
+    ∙ ap (λ n. take n (drop at text)) (let e : at + t.len - at ≡ t.len = omega arith in e) in
+    let whole = left_kept c.tokens_progress.ensures.some c.args.strings text at t part c.utf8.text
+    c.loop-at.invariant.boundary c.loop-at-test.true
+    c.cut_at_in-token.ensures.ends_between c.cut_at_in-token.ensures.positive
+    c.cut_at_in-token.ensures.token part_is c.range-part.utf8 c.loop-at.gap is_gap in
     let rest = encode_utf8_all (left c.args.strings None text (at + t.len)) in
     record {
-      text = put_kept new mid out gap part rest _ c.in_ok-push_str.ensures.bytes c.in_ok-push_gap.ensures whole ∙ c.loop-at.invariant.text;
-      short = omega (arith, put_len new mid out gap part c.in_ok-push_str.ensures.bytes c.in_ok-push_gap.ensures, gap_bytes_len c.loop-at.gap, part_len part text at t.len part_is c.cut_at_in-token.ensures.ends_between.0, c.loop-at.invariant.short);
+      text = put_kept new mid out gap part rest _ c.in_ok-push_str.ensures.bytes
+          c.in_ok-push_gap.ensures whole ∙ c.loop-at.invariant.text;
+      short = omega (
+        arith,
+        put_len new mid out gap part c.in_ok-push_str.ensures.bytes
+            c.in_ok-push_gap.ensures,
+        gap_bytes_len c.loop-at.gap,
+        part_len part text at t.len part_is
+            c.cut_at_in-token.ensures.ends_between.0,
+        c.loop-at.invariant.short,
+      );
       boundary = c.cut_at_in-token.ensures.ends_between;
       within = c.cut_at_in-token.ensures.ends_between.0;
     }
 
 pub returns-clause-squeezed : goal.returns-clause-squeezed
-returns-clause-squeezed c = put_last c.args.strings c.args.text.now c.loop-at.at c.loop-at.gap _ (string_bytes c.loop-at.out) _ c.in_ok-push_gap-2.ensures c.loop-at-test.false c.loop-at.invariant.text
+returns-clause-squeezed c =
+    put_last c.args.strings c.args.text.now c.loop-at.at c.loop-at.gap _
+    (string_bytes c.loop-at.out) _ c.in_ok-push_gap-2.ensures c.loop-at-test.false
+    c.loop-at.invariant.text
 
 pub returns-clause-keeps : goal.returns-clause-keeps
 returns-clause-keeps c =
-    let laws : LexerLaws = record { some = c.tokens_progress.ensures.some; within = c.tokens_progress.ensures.within; looks = c.tokens_look_ahead.ensures.lexemes; seen = c.tokens_stay.ensures.seen; stay = c.tokens_stay.ensures.near; stay_before = c.tokens_stay.ensures.before } in
-    let is = put_last c.args.strings c.args.text.now c.loop-at.at c.loop-at.gap _ (string_bytes c.loop-at.out) _ c.in_ok-push_gap-2.ensures c.loop-at-test.false c.loop-at.invariant.text in
+    let laws : LexerLaws = record {
+      some = c.tokens_progress.ensures.some;
+      within =
+          c.tokens_progress.ensures.within;
+      looks = c.tokens_look_ahead.ensures.lexemes;
+      seen =
+          c.tokens_stay.ensures.seen;
+      stay = c.tokens_stay.ensures.near;
+      stay_before =
+          c.tokens_stay.ensures.before;
+    } in
+    let is = put_last c.args.strings c.args.text.now c.loop-at.at c.loop-at.gap _
+    (string_bytes c.loop-at.out) _ c.in_ok-push_gap-2.ensures c.loop-at-test.false
+    c.loop-at.invariant.text in
     let same = answer_chars _ _ (IsUtf8-string_bytes c.push_gap-2.new.out) is in
-    ap (λ u. kept (pieces c.args.strings u)) (sym same) ∙ keeps laws c.args.strings (chars c.args.text.now)
+    ap (λ u. kept (pieces c.args.strings u)) (sym same)
+    ∙ keeps laws c.args.strings (chars c.args.text.now)
 
 pub returns-clause-once : goal.returns-clause-once
 returns-clause-once c =
-    let laws : LexerLaws = record { some = c.tokens_progress.ensures.some; within = c.tokens_progress.ensures.within; looks = c.tokens_look_ahead.ensures.lexemes; seen = c.tokens_stay.ensures.seen; stay = c.tokens_stay.ensures.near; stay_before = c.tokens_stay.ensures.before } in
-    let is = put_last c.args.strings c.args.text.now c.loop-at.at c.loop-at.gap _ (string_bytes c.loop-at.out) _ c.in_ok-push_gap-2.ensures c.loop-at-test.false c.loop-at.invariant.text in
+    let laws : LexerLaws = record {
+      some = c.tokens_progress.ensures.some;
+      within =
+          c.tokens_progress.ensures.within;
+      looks = c.tokens_look_ahead.ensures.lexemes;
+      seen =
+          c.tokens_stay.ensures.seen;
+      stay = c.tokens_stay.ensures.near;
+      stay_before =
+          c.tokens_stay.ensures.before;
+    } in
+    let is = put_last c.args.strings c.args.text.now c.loop-at.at c.loop-at.gap _
+    (string_bytes c.loop-at.out) _ c.in_ok-push_gap-2.ensures c.loop-at-test.false
+    c.loop-at.invariant.text in
     let same = answer_chars _ _ (IsUtf8-string_bytes c.push_gap-2.new.out) is in
-    ap (squeezed c.args.strings) (sym same) ∙ once laws c.args.strings (chars c.args.text.now) ∙ same
+    ap (squeezed c.args.strings) (sym same) ∙ once laws c.args.strings (chars c.args.text.now)
+    ∙ same

@@ -9,5 +9,7 @@ pub loop-row-init : goal.loop-row-init
 loop-row-init c = found-first c.args.start.now _ (grind arith) c.rows_from-rows.ensures
 
 pub returns-then-fits : goal.returns-then-fits
-returns-then-fits c = named c.from_raw.result c.args.start.now _ c.from_raw.ensures.past c.from_raw.ensures.number
-    (found-here c.rows_from-rows.result.now c.loop-row.row-index _ c.args.start.now c.loop-row-test.true c.loop-row.invariant (sym c.fits.ensures ∙ c.if-fits.true))
+returns-then-fits c =
+    named c.from_raw.result c.args.start.now _ c.from_raw.ensures.past c.from_raw.ensures.number
+    (found-here c.rows_from-rows.result.now c.loop-row.row-index _ c.args.start.now
+    c.loop-row-test.true c.loop-row.invariant (sym c.fits.ensures ∙ c.if-fits.true))

@@ -6,4 +6,6 @@ use Rattle.squawk_statements.proofs.node.look_up.Given as goal
 
 -- what is left has the first row that fits
 abbrev pub invariant-loop-row : goal.invariant-loop-row
-invariant-loop-row l = find (λ (row : opening.Row). opening.is_prefix row.0 l.start) (map row_of (drop l.row-index l.rows)) ≡ opening.longest opening.rows l.start
+invariant-loop-row l =
+    find (λ (row : opening.Row). opening.is_prefix row.0 l.start)
+    (map row_of (drop l.row-index l.rows)) ≡ opening.longest opening.rows l.start

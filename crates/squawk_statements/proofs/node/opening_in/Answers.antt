@@ -9,4 +9,5 @@ pub returns : goal.returns
 unfolding opening_of
 returns c = c.look_up.ensures
     ∙ ap (λ ks. option_map (λ (row : Row). row.1) (longest rows ks)) c.start_of-start.ensures.key
-    ∙ ap (option_map (λ (row : Row). row.1)) (longest-four (key (kinds_read c.args.past_trivia c.args.kinds.now)))
+    ∙ ap (option_map (λ (row : Row).
+    row.1)) (longest-four (key (kinds_read c.args.past_trivia c.args.kinds.now)))

@@ -18,4 +18,5 @@ returns-in-161 c = subst (λ k. Decide k drop_rows) (sym c.in-161.is) Decide-dro
 
 pub returns-in_default : goal.returns-in_default
 unfolding other_rows
-returns-in_default c = Decide-other c.args.first (λ is. omega arith) (λ is. omega arith) (λ is. omega arith)
+returns-in_default c = Decide-other c.args.first (λ is. omega arith) (λ is. omega arith) (λ is.
+    omega arith)

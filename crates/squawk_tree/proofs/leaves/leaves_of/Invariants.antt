@@ -7,7 +7,8 @@ use Rattle.squawk_tree.proofs.leaves.leaves_of.Given as goal
 -- the leaves so far and those of the tokens that are left are those of all
 abbrev pub invariant-loop-token : goal.invariant-loop-token
 invariant-loop-token l = record {
-  leaves : l.leaves.items ++ leaves_of l.text l.at l.token-iterator ≡ leaves_of l.text 0 (tokens l.fn.strings (chars l.text));
+  leaves : l.leaves.items ++ leaves_of l.text l.at l.token-iterator
+      ≡ leaves_of l.text 0 (tokens l.fn.strings (chars l.text));
   tiles : Tiles l.text l.at l.token-iterator;
   start : IsCharBoundary l.text l.at;
 }

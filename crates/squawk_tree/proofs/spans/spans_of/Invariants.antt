@@ -4,4 +4,6 @@ use Rattle.squawk_tree.proofs.SpanLemmas.{SpansSoFar}
 use Rattle.squawk_tree.proofs.spans.spans_of.Given as goal
 
 abbrev pub invariant-loop-step : goal.invariant-loop-step
-invariant-loop-step l = SpansSoFar l.spans.items (reverse l.opened.items) l.at (drop l.step-index l.steps) (ranges l.steps)
+invariant-loop-step l =
+    SpansSoFar l.spans.items (reverse l.opened.items) l.at (drop l.step-index l.steps)
+    (ranges l.steps)

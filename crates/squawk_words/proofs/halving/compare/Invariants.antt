@@ -8,7 +8,8 @@ use Rattle.squawk_words.proofs.halving.compare.Given as goal
 abbrev pub invariant-loop-place : goal.invariant-loop-place
 invariant-loop-place l =
     (l.place ≤ length l.word) × (l.place ≤ length l.ident)
-    × (slice_cmp nat_cmp l.word (str_to_ascii_lowercase l.ident) ≡ slice_cmp nat_cmp (drop l.place l.word) (str_to_ascii_lowercase (drop l.place l.ident)))
+    × (slice_cmp nat_cmp l.word (str_to_ascii_lowercase l.ident)
+    ≡ slice_cmp nat_cmp (drop l.place l.word) (str_to_ascii_lowercase (drop l.place l.ident)))
 
 abbrev pub decreases-loop-place : goal.decreases-loop-place
 decreases-loop-place l = length l.word - l.place

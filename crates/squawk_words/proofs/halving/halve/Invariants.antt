@@ -9,9 +9,11 @@ invariant-loop-low l =
     record {
       begun : slice_index l.words.starts.now (length l.ident) ≤ l.low;
       ended : l.high ≤ slice_index l.words.starts.now (length l.ident + 1);
-      below : (i : ℕ) → i < l.low → i < length l.words.kinds.now → slice_index l.words.starts.now (length l.ident) ≤ i
+      below : (i : ℕ) → i < l.low → i < length l.words.kinds.now
+          → slice_index l.words.starts.now (length l.ident) ≤ i
           → word_of (slice_index l.words.kinds.now i) ≢ str_to_ascii_lowercase l.ident;
-      above : (i : ℕ) → l.high ≤ i → i < length l.words.kinds.now → i < slice_index l.words.starts.now (length l.ident + 1)
+      above : (i : ℕ) → l.high ≤ i → i < length l.words.kinds.now
+          → i < slice_index l.words.starts.now (length l.ident + 1)
           → word_of (slice_index l.words.kinds.now i) ≢ str_to_ascii_lowercase l.ident;
     }
 

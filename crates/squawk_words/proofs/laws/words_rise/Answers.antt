@@ -8,11 +8,14 @@ use Rattle.squawk_words.proofs.laws.words_rise.Goals as goal
 
 -- the words of both tables rise
 keywords_rise : AllPairs (λ a b. word_cmp a.0 b.0 ≡ Less) keywords
-keywords_rise = subst (AllPairs (λ a b. word_cmp a.0 b.0 ≡ Less)) keywords_same (rising-pairs_of KEYWORDS IsIndex-keywords.rising)
+keywords_rise =
+    subst (AllPairs (λ a b. word_cmp a.0 b.0 ≡ Less)) keywords_same
+    (rising-pairs_of KEYWORDS IsIndex-keywords.rising)
 
 contextual_rise : AllPairs (λ a b. word_cmp a.0 b.0 ≡ Less) contextual_keywords
 contextual_rise =
-    subst (AllPairs (λ a b. word_cmp a.0 b.0 ≡ Less)) contextual_same (rising-pairs_of CONTEXTUAL_KEYWORDS IsIndex-contextual.rising)
+    subst (AllPairs (λ a b. word_cmp a.0 b.0 ≡ Less)) contextual_same
+    (rising-pairs_of CONTEXTUAL_KEYWORDS IsIndex-contextual.rising)
 
 pub returns-clause-keywords : goal.returns-clause-keywords
 returns-clause-keywords c = keywords_rise

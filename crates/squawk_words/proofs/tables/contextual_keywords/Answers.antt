@@ -12,4 +12,5 @@ returns-clause-index c = IsIndex-contextual
 
 pub returns-clause-spelled : goal.returns-clause-spelled
 returns-clause-spelled c =
-    subst (λ text. IsSpelled CONTEXTUAL_KEYWORDS CONTEXTUAL_STARTS text CONTEXTUAL_OFFSETS) (sym c.as_bytes.ensures.value) IsSpelled-contextual
+    subst (λ text. IsSpelled CONTEXTUAL_KEYWORDS CONTEXTUAL_STARTS text CONTEXTUAL_OFFSETS)
+    (sym c.as_bytes.ensures.value) IsSpelled-contextual

@@ -12,4 +12,5 @@ returns-clause-index c = IsIndex-keywords
 
 pub returns-clause-spelled : goal.returns-clause-spelled
 returns-clause-spelled c =
-    subst (λ text. IsSpelled KEYWORDS KEYWORD_STARTS text KEYWORD_OFFSETS) (sym c.as_bytes.ensures.value) IsSpelled-keywords
+    subst (λ text. IsSpelled KEYWORDS KEYWORD_STARTS text KEYWORD_OFFSETS)
+    (sym c.as_bytes.ensures.value) IsSpelled-keywords

@@ -8,9 +8,14 @@ use Rattle.squawk_lexed.proofs.lexed.LexedStr.from_tokens.Given as goal
 -- what is kept so far and what the tokens that are left give is what all give
 abbrev pub invariant-loop-i : goal.invariant-loop-i
 invariant-loop-i l = record {
-  kinds : l.lists.kinds.items ++ kinds_of (lexed_tokens l.text l.from (drop l.i l.tokens)) ≡ kinds_of (lexed_tokens l.text l.fn.at l.tokens);
-  starts : l.lists.starts.items ++ starts_of (l.from - l.fn.at) (lexed_tokens l.text l.from (drop l.i l.tokens)) ≡ starts_of 0 (lexed_tokens l.text l.fn.at l.tokens);
-  errors : l.lists.errors.items ++ errors_of (l.from - l.fn.at) (lexed_tokens l.text l.from (drop l.i l.tokens)) ≡ errors_of 0 (lexed_tokens l.text l.fn.at l.tokens);
+  kinds : l.lists.kinds.items ++ kinds_of (lexed_tokens l.text l.from (drop l.i l.tokens))
+      ≡ kinds_of (lexed_tokens l.text l.fn.at l.tokens);
+  starts : l.lists.starts.items ++ starts_of (l.from - l.fn.at)
+      (lexed_tokens l.text l.from (drop l.i l.tokens))
+      ≡ starts_of 0 (lexed_tokens l.text l.fn.at l.tokens);
+  errors : l.lists.errors.items ++ errors_of (l.from - l.fn.at)
+      (lexed_tokens l.text l.from (drop l.i l.tokens))
+      ≡ errors_of 0 (lexed_tokens l.text l.fn.at l.tokens);
   cut : AreCut (drop l.i l.tokens);
   laid : EndAtBoundaries l.text l.from (drop l.i l.tokens);
   place : l.from + tokens_len (drop l.i l.tokens) ≡ l.fn.at + tokens_len l.tokens;

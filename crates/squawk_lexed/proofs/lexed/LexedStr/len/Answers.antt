@@ -6,7 +6,8 @@ use Rattle.squawk_lexed.proofs.lexed.LexedStr.len.Goals as goal
 pub returns-clause-count : goal.returns-clause-count
 returns-clause-count c =
     let items : c.len.result ≡ length c.self.inside.kinds.items = grind (arith, common_steps) in
-    items ∙ count _ _ _ _ c.args.self.now.tokens (seen_as _ _ _ _ c.args.self.now c.self.view_is c.self.invariant)
+    items ∙ count _ _ _ _ c.args.self.now.tokens
+    (seen_as _ _ _ _ c.args.self.now c.self.view_is c.self.invariant)
 
 pub returns-clause-sound : goal.returns-clause-sound
 returns-clause-sound c = (seen_as _ _ _ _ c.args.self.now c.self.view_is c.self.invariant).sound

@@ -12,9 +12,12 @@ loop-token-init c =
     let tokens_are = c.into_iter-token-iterator.ensures.into_iter_gives in
     record {
       kinds = rw (c.new.ensures.items, tokens_are, c.tokenize_in-token-items.ensures.tokens) refl;
-      starts = rw (c.new-2.ensures.items, tokens_are, c.tokenize_in-token-items.ensures.tokens) refl;
-      errors = rw (c.new-3.ensures.items, tokens_are, c.tokenize_in-token-items.ensures.tokens) refl;
-      cut = rw (tokens_are, c.tokenize_in-token-items.ensures.tokens) (c.flags_lie_within.ensures.cut c.args.strings (chars c.args.text.now));
+      starts = rw (c.new-2.ensures.items, tokens_are, c.tokenize_in-token-items.ensures.tokens)
+          refl;
+      errors = rw (c.new-3.ensures.items, tokens_are, c.tokenize_in-token-items.ensures.tokens)
+          refl;
+      cut = rw (tokens_are, c.tokenize_in-token-items.ensures.tokens)
+          (c.flags_lie_within.ensures.cut c.args.strings (chars c.args.text.now));
       tiles = rw tokens_are c.tokenize_in-token-items.ensures.tiles;
       start = IsCharBoundary-start c.args.text.now c.utf8.text;
     }
@@ -24,17 +27,30 @@ invariant_of-result c =
     let none : c.loop-token.token-iterator ≡ [] = grind (arith, common_steps) in
     let fits : length c.args.text.now < 2 ^ 32 = grind (arith, common_steps) in
     stored _ _ _ _ (lexed_tokens c.args.text.now 0 (tokens c.args.strings (chars c.args.text.now)))
-    (all_kept c.flags_lie_within.ensures.within c.args.text.now (tokens c.args.strings (chars c.args.text.now))
-    (c.flags_lie_within.ensures.cut c.args.strings (chars c.args.text.now)) (rw c.tokenize_in-token-items.ensures.tokens at c.tokenize_in-token-items.ensures.tiles)
-    (IsCharBoundary-start c.args.text.now c.utf8.text) fits c.loop-token.at c.loop-token.token-iterator _ _ _ _ none
-    c.loop-token.invariant.kinds c.loop-token.invariant.starts c.in_ok-push.ensures.items c.loop-token.invariant.errors)
+    (all_kept c.flags_lie_within.ensures.within c.args.text.now
+    (tokens c.args.strings (chars c.args.text.now))
+    (c.flags_lie_within.ensures.cut c.args.strings (chars c.args.text.now))
+    (rw c.tokenize_in-token-items.ensures.tokens at c.tokenize_in-token-items.ensures.tiles)
+    (IsCharBoundary-start c.args.text.now c.utf8.text) fits c.loop-token.at
+    c.loop-token.token-iterator _ _ _ _ none
+    c.loop-token.invariant.kinds c.loop-token.invariant.starts c.in_ok-push.ensures.items
+    c.loop-token.invariant.errors)
 
 pub returns-clause-lexed : goal.returns-clause-lexed
 returns-clause-lexed c =
     let none : c.loop-token.token-iterator ≡ [] = grind (arith, common_steps) in
     let fits : length c.args.text.now < 2 ^ 32 = grind (arith, common_steps) in
-    ap (λ ts. record { text = c.args.text.now; tokens = ts }) (kept_as c.args.text.now _ _ _ (lexed_tokens c.args.text.now 0 (tokens c.args.strings (chars c.args.text.now)))
-    (all_kept c.flags_lie_within.ensures.within c.args.text.now (tokens c.args.strings (chars c.args.text.now))
-    (c.flags_lie_within.ensures.cut c.args.strings (chars c.args.text.now)) (rw c.tokenize_in-token-items.ensures.tokens at c.tokenize_in-token-items.ensures.tiles)
-    (IsCharBoundary-start c.args.text.now c.utf8.text) fits c.loop-token.at c.loop-token.token-iterator _ _ _ _ none
-    c.loop-token.invariant.kinds c.loop-token.invariant.starts c.in_ok-push.ensures.items c.loop-token.invariant.errors))
+    ap (λ ts. record {
+      text = c.args.text.now;
+      tokens =
+          ts;
+    }) (kept_as c.args.text.now _ _ _ (lexed_tokens c.args.text.now 0
+    (tokens c.args.strings (chars c.args.text.now)))
+    (all_kept c.flags_lie_within.ensures.within c.args.text.now
+    (tokens c.args.strings (chars c.args.text.now))
+    (c.flags_lie_within.ensures.cut c.args.strings (chars c.args.text.now))
+    (rw c.tokenize_in-token-items.ensures.tokens at c.tokenize_in-token-items.ensures.tiles)
+    (IsCharBoundary-start c.args.text.now c.utf8.text) fits c.loop-token.at
+    c.loop-token.token-iterator _ _ _ _ none
+    c.loop-token.invariant.kinds c.loop-token.invariant.starts c.in_ok-push.ensures.items
+    c.loop-token.invariant.errors))

@@ -9,9 +9,12 @@ use Rattle.squawk_lexed.proofs.lexed.LexedStr.new_in.Given as goal
 -- what is kept so far and what the tokens that are left give is what all give
 abbrev pub invariant-loop-token : goal.invariant-loop-token
 invariant-loop-token l = record {
-  kinds : l.lists.kinds.items ++ kinds_of (lexed_tokens l.text l.at l.token-iterator) ≡ kinds_of (lexed_tokens l.text 0 (tokens l.fn.strings (chars l.text)));
-  starts : l.lists.starts.items ++ starts_of l.at (lexed_tokens l.text l.at l.token-iterator) ≡ starts_of 0 (lexed_tokens l.text 0 (tokens l.fn.strings (chars l.text)));
-  errors : l.lists.errors.items ++ errors_of l.at (lexed_tokens l.text l.at l.token-iterator) ≡ errors_of 0 (lexed_tokens l.text 0 (tokens l.fn.strings (chars l.text)));
+  kinds : l.lists.kinds.items ++ kinds_of (lexed_tokens l.text l.at l.token-iterator)
+      ≡ kinds_of (lexed_tokens l.text 0 (tokens l.fn.strings (chars l.text)));
+  starts : l.lists.starts.items ++ starts_of l.at (lexed_tokens l.text l.at l.token-iterator)
+      ≡ starts_of 0 (lexed_tokens l.text 0 (tokens l.fn.strings (chars l.text)));
+  errors : l.lists.errors.items ++ errors_of l.at (lexed_tokens l.text l.at l.token-iterator)
+      ≡ errors_of 0 (lexed_tokens l.text 0 (tokens l.fn.strings (chars l.text)));
   cut : AreCut l.token-iterator;
   tiles : Tiles l.text l.at l.token-iterator;
   start : IsCharBoundary l.text l.at;

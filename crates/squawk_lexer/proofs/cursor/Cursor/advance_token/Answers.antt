@@ -6,5 +6,15 @@ use Rattle.squawk_lexer.proofs.cursor.Cursor.advance_token.Goals as goal
 
 pub returns-in-String-clause-gives : goal.returns-in-String-clause-gives
 returns-in-String-clause-gives c =
-    let is_row = row c.args.strings c.args.self.now.text String (sym c.in-String.is ∙ c.begins.ensures) in
-    rw (c.literal.ensures, c.quoted-terminated.ensures.terminated, c.quoted-terminated.ensures.at, c.has_escapes.ensures, c.bump-in-String.ensures.text, c.bump-in-String.ensures.at, c.requires.at, behind_within c.args.self.now.text 0 c.requires.some) (sym is_row)
+    let is_row = row c.args.strings c.args.self.now.text String (sym c.in-String.is
+    ∙ c.begins.ensures) in
+    rw (
+      c.literal.ensures,
+      c.quoted-terminated.ensures.terminated,
+      c.quoted-terminated.ensures.at,
+      c.has_escapes.ensures,
+      c.bump-in-String.ensures.text,
+      c.bump-in-String.ensures.at,
+      c.requires.at,
+      behind_within c.args.self.now.text 0 c.requires.some,
+    ) (sym is_row)

@@ -7,22 +7,27 @@ use Rattle.squawk_lexer.proofs.cursor.Cursor.eat_decimal_digits.Goals as goal
 
 pub range_from-self-inside-requires : goal.range_from-self-inside-requires
 range_from-self-inside-requires c =
-    let s = passed_digits is_digit low_digit _ _ _ _ c.self.invariant c.decimal_len-len.ensures c.as_bytes.ensures.value in
+    let s = passed_digits is_digit low_digit _ _ _ _ c.self.invariant c.decimal_len-len.ensures
+    c.as_bytes.ensures.value in
     λ _. s.boundary
 
 pub invariant_of-self : goal.invariant_of-self
 invariant_of-self c =
-    let s = passed_digits is_digit low_digit _ _ _ _ c.self.invariant c.decimal_len-len.ensures c.as_bytes.ensures.value in
+    let s = passed_digits is_digit low_digit _ _ _ _ c.self.invariant c.decimal_len-len.ensures
+    c.as_bytes.ensures.value in
     (skipped _ _ _ _ _ s c.range_from-self-inside.ensures.value).0
 
 pub returns-clause-at : goal.returns-clause-at
 returns-clause-at c =
-    let s = passed_digits is_digit low_digit _ _ _ _ c.self.invariant c.decimal_len-len.ensures c.as_bytes.ensures.value in
+    let s = passed_digits is_digit low_digit _ _ _ _ c.self.invariant c.decimal_len-len.ensures
+    c.as_bytes.ensures.value in
     rw (← c.self.view_is) (skipped _ _ _ _ _ s c.range_from-self-inside.ensures.value).1
 
 pub returns-clause-has_digits : goal.returns-clause-has_digits
 returns-clause-has_digits c =
-    let s = passed_digits is_digit low_digit _ _ _ _ c.self.invariant c.decimal_len-len.ensures c.as_bytes.ensures.value in
-    let count = digits_count is_digit low_digit _ _ _ _ c.self.invariant c.decimal_len-len.ensures c.as_bytes.ensures.value in
+    let s = passed_digits is_digit low_digit _ _ _ _ c.self.invariant c.decimal_len-len.ensures
+    c.as_bytes.ensures.value in
+    let count = digits_count is_digit low_digit _ _ _ _ c.self.invariant c.decimal_len-len.ensures
+    c.as_bytes.ensures.value in
     let at = (skipped _ _ _ _ _ s c.range_from-self-inside.ensures.value).1 in
     rw (← c.self.view_is) (grind (arith, nat_tests, count, at))

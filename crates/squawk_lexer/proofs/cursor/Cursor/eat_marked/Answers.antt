@@ -6,16 +6,22 @@ use Rattle.squawk_lexer.proofs.cursor.Cursor.eat_marked.Goals as goal
 
 pub returns-then-ends_arguments-clause-at : goal.returns-then-ends_arguments-clause-at
 returns-then-ends_arguments-clause-at c =
-    let ends : ends_arguments c.in-Some.c ≡ true = sym c.ends_arguments.ensures ∙ c.if-ends_arguments.true in
-    let last = marked_stop c.loop-c.mark c.loop-c.self.text c.loop-c.self.at c.in-Some.c c.in-Some.ensures ends in
-    (marked_returns c.loop-c.mark c.args.self.now.text c.args.self.now.at c.loop-c.self.text c.loop-c.self.at c.loop-c.invariant.end c.loop-c.invariant.marked last).0
+    let ends : ends_arguments c.in-Some.c ≡ true = sym c.ends_arguments.ensures
+    ∙ c.if-ends_arguments.true in
+    let last = marked_stop c.loop-c.mark c.loop-c.self.text c.loop-c.self.at c.in-Some.c
+    c.in-Some.ensures ends in
+    (marked_returns c.loop-c.mark c.args.self.now.text c.args.self.now.at c.loop-c.self.text
+    c.loop-c.self.at c.loop-c.invariant.end c.loop-c.invariant.marked last).0
 
 pub returns-then-ends_arguments-clause-found : goal.returns-then-ends_arguments-clause-found
 returns-then-ends_arguments-clause-found c =
-    let ends : ends_arguments c.in-Some.c ≡ true = sym c.ends_arguments.ensures ∙ c.if-ends_arguments.true in
-    let last = marked_stop c.loop-c.mark c.loop-c.self.text c.loop-c.self.at c.in-Some.c c.in-Some.ensures ends in
+    let ends : ends_arguments c.in-Some.c ≡ true = sym c.ends_arguments.ensures
+    ∙ c.if-ends_arguments.true in
+    let last = marked_stop c.loop-c.mark c.loop-c.self.text c.loop-c.self.at c.in-Some.c
+    c.in-Some.ensures ends in
     c.is_parenthesis.ensures
-    ∙ (marked_returns c.loop-c.mark c.args.self.now.text c.args.self.now.at c.loop-c.self.text c.loop-c.self.at c.loop-c.invariant.end c.loop-c.invariant.marked last).1
+    ∙ (marked_returns c.loop-c.mark c.args.self.now.text c.args.self.now.at c.loop-c.self.text
+    c.loop-c.self.at c.loop-c.invariant.end c.loop-c.invariant.marked last).1
 
 pub loop-c-smaller-then-not-is_blank : goal.loop-c-smaller-then-not-is_blank
 loop-c-smaller-then-not-is_blank c =
@@ -25,10 +31,12 @@ loop-c-smaller-then-not-is_blank c =
 pub returns-clause-at : goal.returns-clause-at
 returns-clause-at c =
     let last = marked_none c.loop-c.mark c.loop-c.self.text c.loop-c.self.at c.in_default.ensures in
-    (marked_returns c.loop-c.mark c.args.self.now.text c.args.self.now.at c.loop-c.self.text c.loop-c.self.at c.loop-c.invariant.end c.loop-c.invariant.marked last).0
+    (marked_returns c.loop-c.mark c.args.self.now.text c.args.self.now.at c.loop-c.self.text
+    c.loop-c.self.at c.loop-c.invariant.end c.loop-c.invariant.marked last).0
 
 pub returns-clause-found : goal.returns-clause-found
 returns-clause-found c =
     let last = marked_none c.loop-c.mark c.loop-c.self.text c.loop-c.self.at c.in_default.ensures in
     c.is_parenthesis-2.ensures
-    ∙ (marked_returns c.loop-c.mark c.args.self.now.text c.args.self.now.at c.loop-c.self.text c.loop-c.self.at c.loop-c.invariant.end c.loop-c.invariant.marked last).1
+    ∙ (marked_returns c.loop-c.mark c.args.self.now.text c.args.self.now.at c.loop-c.self.text
+    c.loop-c.self.at c.loop-c.invariant.end c.loop-c.invariant.marked last).1

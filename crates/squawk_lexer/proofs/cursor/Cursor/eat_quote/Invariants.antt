@@ -7,7 +7,8 @@ abbrev pub invariant-loop-c : goal.invariant-loop-c
 invariant-loop-c l = record {
   text : l.self.text ≡ l.fn.self.text;
   on : l.fn.self.at ≤ l.self.at;
-  close : close_end l.quote l.self.text l.self.at ≡ close_end l.fn.quote l.fn.self.text l.fn.self.at;
+  close : close_end l.quote l.self.text l.self.at
+      ≡ close_end l.fn.quote l.fn.self.text l.fn.self.at;
   line_end : line_end l.self.text l.self.at ≡ line_end l.fn.self.text l.fn.self.at;
 }
 

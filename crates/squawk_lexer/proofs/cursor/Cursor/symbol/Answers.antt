@@ -5,5 +5,7 @@ use Rattle.squawk_lexer.proofs.cursor.Cursor.symbol.Goals as goal
 
 pub returns-clause-gives : goal.returns-clause-gives
 returns-clause-gives c =
-    let first = first_read c.args.self.now.text c.args.self.now.at c.byte.result c.requires.at c.byte.ensures in
-    rw (c.symbol_of-kind.ensures, symbol_lead _ _ first, c.bump.ensures.at, c.requires.at) (rw (behind_within c.args.self.now.text 0 c.requires.some) refl)
+    let first = first_read c.args.self.now.text c.args.self.now.at c.byte.result c.requires.at
+    c.byte.ensures in
+    rw (c.symbol_of-kind.ensures, symbol_lead _ _ first, c.bump.ensures.at, c.requires.at)
+    (rw (behind_within c.args.self.now.text 0 c.requires.some) refl)

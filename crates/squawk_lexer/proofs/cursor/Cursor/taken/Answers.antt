@@ -2,10 +2,12 @@ use Rattle.squawk_lexer.proofs.DollarChars.{taken}
 use Rattle.squawk_lexer.proofs.cursor.Cursor.taken.Goals as goal
 
 pub overflow_sub-self-inside : goal.overflow_sub-self-inside
-overflow_sub-self-inside c = (taken c.self.inside.token.now c.self.inside.rest.now c.self.invariant).within
+overflow_sub-self-inside c =
+    (taken c.self.inside.token.now c.self.inside.rest.now c.self.invariant).within
 
 pub range-requires-clause-end_boundary : goal.range-requires-clause-end_boundary
-range-requires-clause-end_boundary c = (taken c.self.inside.token.now c.self.inside.rest.now c.self.invariant).boundary
+range-requires-clause-end_boundary c =
+    (taken c.self.inside.token.now c.self.inside.rest.now c.self.invariant).boundary
 
 pub returns-clause-is : goal.returns-clause-is
 returns-clause-is c =

@@ -13,4 +13,9 @@ pub returns-clause-len : goal.returns-clause-len
 returns-clause-len c =
     let short = length-decimal-le 20 c.args.n (omega arith) (omega arith) (omega arith) in
     let sum = length-append (decimal c.args.n) (drop c.self.inside.start c.self.inside.bytes) in
-    omega (arith, ap length c.write_digits-self-inside.ensures.written, ap length c.self.view_is, sum)
+    omega (
+      arith,
+      ap length c.write_digits-self-inside.ensures.written,
+      ap length c.self.view_is,
+      sum,
+    )

@@ -4,7 +4,9 @@ use Rattle.squawk_show.specs.Memory.{SourceState}
 use Rattle.squawk_show.proofs.memory_source.MemorySourceSource.read.Goals as goal
 
 -- what was given and what is left then are what was left before
-split_left : (left bytes seen into : List ℕ) (at n : ℕ) → drop at bytes ≡ left → seen ≡ bytes → take n into ≡ take n (take (length seen - at) (drop at seen)) → left ≡ take n into ++ drop (at + n) bytes
+split_left : (left bytes seen into : List ℕ) (at n : ℕ) → drop at bytes ≡ left → seen ≡ bytes
+    → take n into ≡ take n (take (length seen - at) (drop at seen))
+    → left ≡ take n into ++ drop (at + n) bytes
 split_left left bytes seen into at n is read given =
     let whole = take_rest seen at in
     let halves = take-append-drop n (drop at bytes) in
@@ -14,5 +16,9 @@ split_left left bytes seen into at n is read given =
 pub returns-clause-bytes : goal.returns-clause-bytes
 returns-clause-bytes c =
     let at = c.self.inside.at in
-    let bytes = c.self.inside.bytes.items in
-    (split_left _ bytes _ _ at c.give-n.result (ap (λ (s : SourceState). s.left) c.self.view_is) c.deref-2.ensures.value c.give-n.ensures.bytes, λ none room. drop_all (at + c.give-n.result) bytes (let size = length-drop at bytes in omega arith))
+    let bytes = c.self.inside.bytes.items in (
+      split_left _ bytes _ _ at c.give-n.result (ap (λ (s : SourceState).
+          s.left) c.self.view_is) c.deref-2.ensures.value c.give-n.ensures.bytes,
+      λ none room.
+          drop_all (at + c.give-n.result) bytes (let size = length-drop at bytes in omega arith),
+    )

@@ -9,8 +9,10 @@ use Rattle.squawk_tree.proofs.parse.Parse.range.Goals as goal
 seen_ranges : (t u : Tree) (spans : List (ℕ × ℕ)) → IsKept t spans → t ≡ u → spans ≡ ranges u.steps
 seen_ranges t u spans kept is = kept.spans_are ∙ ap (λ (t : Tree). ranges t.steps) is
 
-in_ranges : (steps : _) (spans : List (ℕ × ℕ)) (n i : ℕ) → spans ≡ ranges steps → n ≡ length spans → i < length steps → i < n
-in_ranges steps spans n i is len lt = let e = ap length is in omega (arith, length-ranges_from [] 0 steps)
+in_ranges : (steps : _) (spans : List (ℕ × ℕ)) (n i : ℕ) → spans ≡ ranges steps → n ≡ length spans
+    → i < length steps → i < n
+in_ranges steps spans n i is len lt = let e = ap length is in
+    omega (arith, length-ranges_from [] 0 steps)
 
 pub index-requires : goal.index-requires
 index-requires c =
@@ -20,4 +22,7 @@ index-requires c =
 pub returns : goal.returns
 returns c =
     let is = seen_ranges _ _ _ c.self.invariant c.self.view_is in
-    ap (λ rs. slice_get rs c.args.i) (sym is) ∙ slice_get_read c.self.inside.spans.items _ c.args.i c.index.result.now c.self.inside.spans.ok.0 (in_ranges _ _ _ c.args.i is c.self.inside.spans.ok.0 c.requires) c.index.ensures
+    ap (λ rs. slice_get rs c.args.i) (sym is)
+    ∙ slice_get_read c.self.inside.spans.items _ c.args.i c.index.result.now
+    c.self.inside.spans.ok.0 (in_ranges _ _ _ c.args.i is c.self.inside.spans.ok.0 c.requires)
+    c.index.ensures
