@@ -59,8 +59,8 @@ pub agrees_read : (n : ℕ) (u v : List ℕ) (j : ℕ) → Agrees n u v → j < 
     → get_or v j 0 ≡ get_or u j 0
 agrees_read n u v j a h = sym (get_or-take n v j 0 h) ∙ ap (λ w. get_or w j 0) a.same
     ∙ get_or-take n u j 0 h
-    -- ---- texts that are alike up to the place k, which a token ends at: they agree before it, and go
-    on alike
+
+-- ---- texts that agree up to the index k at which a token ends, and go on alike
 
 pub record Alike (told : (ℕ → Bool) → Type 0) (pairs : (ℕ → Bool) → (ℕ → Bool)
     → Type 0) (k : ℕ) (u v : List ℕ) : Type 0 where

@@ -3,7 +3,7 @@ use Rattle.std.proofs.lemmas.List.{drop_all, length-take-le}
 use Rattle.squawk_statements.specs.Rows.{is_skipped}
 use Rattle.squawk_statements.proofs.KeySteps.{key_end, more_passed, more_taken}
 use Rattle.squawk_statements.proofs.node.start_of.Goals as goal
-use Rattle.squawk_statements.proofs.node.start_of.Goals.{then-not-is_passed, else-not-is_passed}
+use Rattle.squawk_statements.proofs.node.start_of.Goals.{then-not-is_skipped, else-not-is_skipped}
 
 pub loop-kind-preserved : goal.loop-kind-preserved
 loop-kind-preserved c = elim c.if-not-is_skipped.branch [

@@ -9,7 +9,7 @@ invariant-loop-c l = record {
   on : l.fn.self.at ≤ l.self.at;
   close : close_end l.quote l.self.text l.self.at
       ≡ close_end l.fn.quote l.fn.self.text l.fn.self.at;
-  line_end : line_end l.self.text l.self.at ≡ line_end l.fn.self.text l.fn.self.at;
+  line : line_end l.self.text l.self.at ≡ line_end l.fn.self.text l.fn.self.at;
 }
 
 abbrev pub decreases-loop-c : goal.decreases-loop-c
