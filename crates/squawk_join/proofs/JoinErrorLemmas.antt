@@ -23,7 +23,7 @@ use Rattle.squawk_join.specs.Errors.{errors}
 use Rattle.squawk_join.specs.Join.{joined_errors}
 use Rattle.squawk_statements.specs.Plain.{plain}
 use Rattle.squawk_join.proofs.ErrorLemmas.{runs, split, same_place, errors_walked}
-use Rattle.squawk_join.proofs.JoinLemmas.{errors_at as placed_law, fits, both, skip, placed_from, fits_child, leaf_woven, node_woven, shift_child, further}
+use Rattle.squawk_join.proofs.JoinLemmas.{placed as placed_law, fits, both, skip, placed_from, fits_child, leaf_woven, node_woven, shift_child, further}
 
 -- whether steps give out all of the tokens, each Error at the start of one of them
 abbrev inner : ℕ → List LexedToken → List StrStep → Bool
