@@ -1,2 +1,3 @@
 pub mod SqueezeLaws
 pub mod SqueezeBytes
+pub mod TokenLaws
