@@ -1,3 +1,4 @@
+pub mod TokenLists
+pub mod TokenLaws
 pub mod SqueezeLaws
 pub mod SqueezeBytes
-pub mod TokenLaws

@@ -1,4 +1,4 @@
--- The squeezed_text text in bytes.
+-- The squeezed text in bytes: one step of the loop of `squeeze`.
 use Rattle.std.proofs.Common.{◌≡◌, ℕ, ◌+◌, ◌<◌, ◌≤◌, true, false, List, [], ◌∷◌, ◌++◌, length, take, drop, Some, None, length-drop, length-append, append_assoc, refl, sym, ap, ◌∙◌, arith, IsUtf8}
 use Rattle.std.proofs.lemmas.Str.{chars-nil, chars_from_encodes, encodes-chars, encodes-append, IsUtf8-drop, length-encode}
 use Rattle.std.proofs.lemmas.List.{take-append-drop, drop-drop, length-take-le}
@@ -15,7 +15,7 @@ use Rattle.squawk_lexer.specs.Text.{utf8_len}
 use Rattle.squawk_lexer.specs.Token.{lexeme_at, token_at}
 use Rattle.squawk_lexer.specs.Cut.{is_trivia}
 use Rattle.squawk_squeeze.specs.Squeezed.{TextToken, text_token, text_tokens_from, TriviaRun, extend_run, prepend_separator, squeeze_tokens, text_of, squeezed_rest, separator_bytes, separator_len}
-use Rattle.squawk_squeeze.proofs.SqueezeLaws.{text_tokens_first}
+use Rattle.squawk_squeeze.proofs.TokenLists.{text_tokens_first}
 
 pub chars_none : (bs : List ℕ) → length bs ≡ 0 → chars bs ≡ []
 chars_none [] h = chars-nil
@@ -26,7 +26,7 @@ length_encodes [] = refl
 length_encodes (c ∷ cs) = length-append (encode_utf8 c) (encode_utf8_all cs)
     ∙ omega (arith, length-encode c, length_encodes cs, sum_by-cons len_utf8 c cs)
 
--- the bytes of the first k characters, and the characters squeezed_tail them
+-- the bytes of the first k characters, and those of the other characters
 part_bytes : (bs : List ℕ) (k : ℕ) → IsUtf8 bs
     → take (utf8_len (take k (chars bs))) bs ≡ encode_utf8_all (take k (chars bs))
 part_bytes bs k utf8 =
@@ -51,9 +51,9 @@ rest_bytes bs k utf8 =
     (sym (length_encodes front))
     ∙ drop-append_seam (encode_utf8_all front) (encode_utf8_all (drop k (chars bs)))
 
--- ---- a step over one token
+-- ---- one step of the loop, over one token
 
--- the text of a token, and what is squeezed_tail it, in characters
+-- the characters of the token, and those after it
 drop_on : (n at : ℕ) (text : List ℕ) → drop n (drop at text) ≡ drop (at + n) text
 drop_on n at text = drop-drop n at text ∙ ap (λ m. drop m text) (omega arith)
 
@@ -106,7 +106,7 @@ step some strings text at t part utf8 here within there long is e part_utf8 =
       spelt = encodes-chars part part_utf8;
     }
 
--- a token of a prepend_separator widens it
+-- a token of trivia extends the run
 pub rest_after_trivia : TokensProgress
     → (strings : Strings) (text : List ℕ) (at : ℕ) (t : Token) (part : List ℕ) → IsUtf8 text
     → IsCharBoundary text at → at < length text
@@ -127,7 +127,7 @@ separator_spelling None p ps = encodes-append p.text (text_of ps)
 separator_spelling (Some true) p ps = ap (λ w. 10 ∷ w) (encodes-append p.text (text_of ps))
 separator_spelling (Some false) p ps = ap (λ w. 32 ∷ w) (encodes-append p.text (text_of ps))
 
--- any other token is written squeezed_tail it
+-- any other token follows the separator of the run
 pub rest_after_token : TokensProgress
     → (strings : Strings) (text : List ℕ) (at : ℕ) (t : Token) (part : List ℕ) → IsUtf8 text
     → IsCharBoundary text at → at < length text
@@ -145,7 +145,7 @@ rest_after_token some strings text at t part utf8 here within there long is e pa
     ∙ rw gap_is (separator_spelling run (text_token t.kind (chars part)) rest
     ∙ ap (λ w. separator_bytes run ++ (w ++ encode_utf8_all (text_of rest))) x.spelt)
 
--- at the end, the prepend_separator is squeezed_rest
+-- at the end of the text, the separator of the run is left
 pub rest_at_end : (strings : Strings) (text : List ℕ) (at : ℕ) (run : TriviaRun) → length text ≤ at
     → encode_utf8_all (squeezed_rest strings run text at) ≡ separator_bytes run
 unfolding encode_utf8
@@ -164,10 +164,10 @@ rest_at_end strings text at run h =
         encode_utf8_all (text_of (squeeze_tokens run (text_tokens_from strings 0 (at == 0) w)))) e
         ∙ alone run
 
--- the characters of an answer that has these bytes
-pub answer_chars : (out : List ℕ) (cs : List ℕ) → IsUtf8 out → out ≡ encode_utf8_all cs
+-- the characters of a result that has these bytes
+pub result_chars : (out : List ℕ) (cs : List ℕ) → IsUtf8 out → out ≡ encode_utf8_all cs
     → cs ≡ chars out
-answer_chars out cs utf8 e = chars_from_encodes cs out utf8 (sym e)
+result_chars out cs utf8 e = chars_from_encodes cs out utf8 (sym e)
 
 pub separator_bytes_len : (run : TriviaRun) → length (separator_bytes run) ≡ separator_len run
 separator_bytes_len None = refl

@@ -1,4 +1,4 @@
--- A squeezed_text text has the same tokens but for its gaps.
+-- Squeezing keeps every token but trivia, and squeezing twice is squeezing once.
 use Rattle.std.proofs.Common.{◌≡◌, ℕ, zero, suc, ◌+◌, ◌-◌, ◌<◌, ◌≤◌, Bool, true, false, List, [], ◌∷◌, ◌++◌, length, get_or, take, drop, Some, None, length-drop, length-append, append_assoc, refl, sym, ap, subst, ◌∙◌, inl, inr, ◌⊎◌, ◌&&◌, ◌||◌, cond, arith}
 use Rattle.std.proofs.lemmas.Bool.{cases_lt, false≢true}
 use Rattle.std.proofs.lemmas.Bool.Decides.{nat_tests}
@@ -15,8 +15,9 @@ use Rattle.squawk_lexer.specs.Laws.{TokensProgress, TokensWithin}
 use Rattle.squawk_lexer.specs.LookAhead.{Agrees, LexemesLookAhead}
 use Rattle.squawk_lexer.specs.Gaps.{begins_gap, GapsAreSeen, IsGap, TokensStay, TokensStayBefore}
 use Rattle.squawk_squeeze.specs.Squeezed.{TextToken, text_token, text_tokens_from, text_tokens, without_trivia, TriviaRun, extend_run, separator, prepend_separator, squeeze_tokens, text_of, squeezed_text}
+use Rattle.squawk_squeeze.proofs.TokenLists.{first_text_token, text_tokens_first, without_trivia_same, squeeze_tokens_twice}
 
--- the laws of the lexer
+-- the laws of the lexer that the proof uses
 pub record LexerLaws : Type 0 where
   pub some : TokensProgress
   pub within : TokensWithin
@@ -25,97 +26,13 @@ pub record LexerLaws : Type 0 where
   pub stay : TokensStay
   pub stay_before : TokensStayBefore
 
--- ---- text_tokens
-
-text_tokens_inside : (strings : Strings) (n : ℕ) (u : List ℕ)
-    → text_tokens_from strings n false u ≡ text_tokens_from strings 0 false (drop n u)
-text_tokens_inside strings zero [] = refl
-text_tokens_inside strings (suc n) [] = refl
-text_tokens_inside strings zero (c ∷ cs) = refl
-text_tokens_inside strings (suc n) (c ∷ cs) = text_tokens_inside strings n cs
-
-pub drop_end : (n c : ℕ) (cs : List ℕ) → 0 < n → drop (n - 1) cs ≡ drop n (c ∷ cs)
-drop_end zero c cs h = absurd (omega arith)
-drop_end (suc n) c cs h = ap (λ m. drop m cs) (omega arith)
-
--- the first text_token of a text, which is one lexeme
-abbrev first_text_token : Lexeme → List ℕ → TextToken
-first_text_token x u = text_token x.kind (take x.end u)
-
-pub text_tokens_first : TokensProgress → (strings : Strings) (s : Bool) (u : List ℕ) → 1 ≤ length u
-    → text_tokens_from strings 0 s u ≡ first_text_token (lexeme_at strings s u) u
-    ∷ text_tokens_from strings 0 false (drop (lexeme_at strings s u).end u)
-text_tokens_first more strings s [] h = absurd (omega arith)
-text_tokens_first more strings s (c ∷ cs) h =
-    ap (λ ps. first_text_token (lexeme_at strings s (c ∷ cs)) (c ∷ cs)
-    ∷ ps) (text_tokens_inside strings ((lexeme_at strings s (c ∷ cs)).end - 1) cs
-    ∙ ap (text_tokens_from strings 0 false) (drop_end (lexeme_at strings s (c ∷ cs)).end c cs
-    (more strings s (c ∷ cs) h)))
-
--- ---- lists of text_tokens
-
--- the gaps are no tokens to keep
-without_trivia_separator : (run : TriviaRun) (ps : List TextToken) → without_trivia (prepend_separator run ps) ≡ without_trivia ps
-without_trivia_separator None ps = refl
-without_trivia_separator (Some b) ps = refl
-
-pub without_trivia_same : (run : TriviaRun) (ps : List TextToken) → without_trivia (squeeze_tokens run ps) ≡ without_trivia ps
-without_trivia_same run [] = without_trivia_separator run []
-without_trivia_same run (p ∷ ps) =
-    by (is_trivia p.kind) refl (without_trivia_same (extend_run run p.text) ps) (without_trivia_same None ps)
-  where
-    by : (b : Bool) → is_trivia p.kind ≡ b → without_trivia (squeeze_tokens (extend_run run p.text) ps) ≡ without_trivia ps
-        → without_trivia (squeeze_tokens None ps) ≡ without_trivia ps
-        → without_trivia (cond b (squeeze_tokens (extend_run run p.text) ps)
-        (prepend_separator run (p ∷ squeeze_tokens None ps))) ≡ cond b (without_trivia ps) (p ∷ without_trivia ps)
-    by true t more next = more
-    by false t more next = without_trivia_separator run (p ∷ squeeze_tokens None ps)
-        ∙ rw t (ap (λ qs. p ∷ qs) next)
-
--- squeezed_text text_tokens are squeezed_text
-extend_by_separator : (b : Bool) → extend_run None (separator b ∷ []) ≡ Some b
-extend_by_separator true = refl
-extend_by_separator false = refl
-
--- no prepend_separator follows a prepend_separator
-pub squeeze_tokens_twice : (run : TriviaRun) (ps : List TextToken)
-    → squeeze_tokens None (squeeze_tokens run ps) ≡ squeeze_tokens run ps
-squeeze_tokens_twice None [] = refl
-squeeze_tokens_twice (Some b) [] = ap (λ o. prepend_separator o []) (extend_by_separator b)
-squeeze_tokens_twice run (p ∷ ps) =
-    by (is_trivia p.kind) refl (squeeze_tokens_twice (extend_run run p.text) ps) (squeeze_tokens_twice None ps)
-  where
-    next : (o : TriviaRun) → is_trivia p.kind ≡ false → squeeze_tokens None (squeeze_tokens None ps)
-        ≡ squeeze_tokens None ps
-        → squeeze_tokens o (p ∷ squeeze_tokens None ps) ≡ prepend_separator o (p ∷ squeeze_tokens None ps)
-    next o t e = rw t (ap (λ qs. prepend_separator o (p ∷ qs)) e)
-
-    to_gap : (o : TriviaRun) → is_trivia p.kind ≡ false → squeeze_tokens None (squeeze_tokens None ps)
-        ≡ squeeze_tokens None ps
-        → squeeze_tokens None (prepend_separator o (p ∷ squeeze_tokens None ps))
-        ≡ prepend_separator o (p ∷ squeeze_tokens None ps)
-    to_gap None t e = next None t e
-    to_gap (Some b) t e = ap (λ o. squeeze_tokens o (p ∷ squeeze_tokens None ps)) (extend_by_separator b)
-        ∙ next (Some b) t e
-
-    by : (b : Bool) → is_trivia p.kind ≡ b
-        → squeeze_tokens None (squeeze_tokens (extend_run run p.text) ps)
-        ≡ squeeze_tokens (extend_run run p.text) ps
-        → squeeze_tokens None (squeeze_tokens None ps) ≡ squeeze_tokens None ps
-        → squeeze_tokens None (cond b (squeeze_tokens (extend_run run p.text) ps)
-        (prepend_separator run (p ∷ squeeze_tokens None ps)))
-        ≡ cond b (squeeze_tokens (extend_run run p.text) ps)
-        (prepend_separator run (p ∷ squeeze_tokens None ps))
-    by true t more e = more
-    by false t more e = to_gap run t e
-
--- ---- a prepend_separator's character
+-- ---- separators
 
 separator_is_gap : (b : Bool) → IsGap (separator b)
 separator_is_gap true = inr refl
 separator_is_gap false = inl refl
 
--- a text that begins with the character of a prepend_separator, which is LF where `ends` is true
+-- the text begins with a separator, which is LF if `ends` is true
 record BeginsWithSeparator (ends : Bool) (w : List ℕ) : Type 0 where
   char : Bool
   rest : List ℕ
@@ -149,9 +66,9 @@ run_begins_with_separator b (p ∷ ps) = by (is_trivia p.kind) refl (run_begins_
       keeps = λ e. e;
     }
 
--- ---- what a squeezed_text text begins with
+-- ---- how a squeezed text begins
 
--- the text of u, squeezed_text, where u is squeezed_tail another token
+-- the squeezed text of u, where a token that is no trivia precedes u
 abbrev squeezed_tail : Strings → List ℕ → List ℕ
 squeezed_tail strings u = text_of (squeeze_tokens None (text_tokens_from strings 0 false u))
 
@@ -162,7 +79,7 @@ squeezed_tail_empty strings (c ∷ cs) h = absurd (omega arith)
 abbrev is_trivia_lexeme : Lexeme → Bool
 is_trivia_lexeme x = is_trivia x.kind
 
--- the first token is without_trivia, or a prepend_separator begins
+-- its first token is that of the text, or the text begins with trivia and it with a separator
 abbrev Head : Strings → List ℕ → Type 0
 Head strings u =
     ((is_trivia_lexeme (lexeme_at strings false u) ≡ false)
@@ -202,7 +119,7 @@ first_token_or_separator laws strings u some = by (is_trivia_lexeme x) refl
         )
     by false t = inl (t, ap (λ ps. text_of (squeeze_tokens None ps)) first ∙ rw t refl)
 
--- ---- a token that is without_trivia stays
+-- ---- a token other than trivia stays
 
 append_next : (k n : ℕ) (u x w : List ℕ) → w ≡ take n (drop k u) ++ x → take k u ++ w ≡ take (k + n) u ++ x
 append_next k n u x w e = ap (λ y. take k u ++ y) e ∙ sym (append_assoc (take k u) (take n (drop k u)) x)
@@ -237,19 +154,19 @@ token_stays laws strings s u some t = by (cases_lt 0 (length u1))
     len : length u ≡ k + length u1
     len = omega (arith, length-drop k u, inside)
 
-    -- where nothing changes
+    -- the text after the token stays as it is
     whole : w ≡ u1 → lexeme_at strings s (take k u ++ w) ≡ lexeme_at strings s u
     whole e = ap (λ y. lexeme_at strings s (take k u ++ y)) e
         ∙ ap (lexeme_at strings s) (take-append-drop k u)
 
-    -- where two characters or more stay
+    -- at least two characters after the token stay
     looks : (n : ℕ) (x : List ℕ) → 2 ≤ n → n ≤ length u1 → w ≡ take n u1 ++ x
         → lexeme_at strings s (take k u ++ w) ≡ lexeme_at strings s u
     looks n x two h e = ap (lexeme_at strings s) (append_next k n u x w e)
         ∙ laws.looks strings s u (take (k + n) u
         ++ x) (agrees_on k (k + n) u x (omega arith) (omega (arith, len)))
 
-    -- squeezed_tail a token of one character
+    -- one character after the token stays
     next : 1 ≤ length u1 → w ≡ take 1 u1 ++ squeezed_tail strings (drop 1 u1)
         → lexeme_at strings s (take k u ++ w) ≡ lexeme_at strings s u
     next h e = to (cases_lt 0 (length u2))
@@ -308,7 +225,7 @@ token_stays laws strings s u some t = by (cases_lt 0 (length u1))
     by (inl more) = of more (first_token_or_separator laws strings u1 more)
     by (inr none) = whole (squeezed_tail_empty strings u1 (omega arith))
 
--- ---- the tokens of a squeezed_text text
+-- ---- the tokens of a squeezed text
 
 and_false : (b : Bool) → (b && false) ≡ false
 and_false true = refl
@@ -318,7 +235,7 @@ take_first : (k c : ℕ) (cs w : List ℕ) → 1 ≤ k → get_or (take k (c ∷
 take_first zero c cs w h = absurd (omega arith)
 take_first (suc k) c cs w h = refl
 
--- a prepend_separator's character, before a text that begins with no white
+-- a separator before a text that does not begin with white space is a token
 prefix_none : (class : ℕ → Bool) (w : List ℕ) → class (get_or w 0 0) ≡ false
     → prefix_len class w ≡ 0
 prefix_none class [] h = refl
@@ -344,11 +261,11 @@ separator_first laws strings s b w h =
     ∙ ap (λ x. first_text_token x (separator b ∷ w)
     ∷ text_tokens_from strings 0 false (drop x.end (separator b ∷ w))) (separator_lexeme strings s b w h)
 
--- the text_tokens of what text_tokens spell are these
+-- the tokens of the text of `ps` are `ps` again
 abbrev Relexes : Strings → Bool → List TextToken → Type 0
 Relexes strings s ps = text_tokens_from strings 0 s (text_of ps) ≡ ps
 
--- of a text, and of one with a prepend_separator before it
+-- squeezed tokens are lexed as themselves: those of a text, and those after a run of trivia
 record IsStable (strings : Strings) (n : ℕ) : Type 0 where
   alone : (s : Bool) (u : List ℕ) → length u ≤ n
       → Relexes strings s (squeeze_tokens None (text_tokens_from strings 0 s u))
@@ -487,19 +404,19 @@ stable laws strings (suc n) = record {
       stable_after laws strings n (stable laws strings n);
 }
 
--- the tokens of the squeezed_text text
+-- the tokens of the squeezed text are the squeezed tokens
 pub squeezed_tokens : LexerLaws → (strings : Strings) (text : List ℕ)
     → text_tokens strings (squeezed_text strings text) ≡ squeeze_tokens None (text_tokens strings text)
 squeezed_tokens laws strings text =
     (stable laws strings (length text)).alone true text (omega arith)
 
--- it has the same tokens but for its gaps
+-- the tokens of the squeezed text are those of the text but for trivia
 pub keeps_tokens : LexerLaws → (strings : Strings) (text : List ℕ)
     → without_trivia (text_tokens strings (squeezed_text strings text)) ≡ without_trivia (text_tokens strings text)
 keeps_tokens laws strings text = ap without_trivia (squeezed_tokens laws strings text)
     ∙ without_trivia_same None (text_tokens strings text)
 
--- and is squeezed_text
+-- squeezing twice is squeezing once
 pub squeeze_idempotent : LexerLaws → (strings : Strings) (text : List ℕ)
     → squeezed_text strings (squeezed_text strings text) ≡ squeezed_text strings text
 squeeze_idempotent laws strings text =

@@ -2,6 +2,7 @@
 use Rattle.std.proofs.Common.{◌≡◌, ℕ, zero, suc, ◌-◌, ◌<◌, Bool, true, false, List, [], ◌∷◌, ◌++◌, length, drop, take, Some, None, refl, sym, ap, ◌∙◌, ◌&&◌, ◌||◌, cond, arith}
 use Rattle.std.proofs.lemmas.Bool.{false≢true}
 use Rattle.std.proofs.lemmas.List.{take-append-drop}
+use Rattle.std.proofs.lemmas.List.Folds.{list_any-append}
 use Rattle.std.specs.List.{list_any}
 use Rattle.squawk_lexer.specs.declared.token.Strings.{Strings}
 use Rattle.squawk_lexer.specs.Classes.{is_line_end}
@@ -10,7 +11,7 @@ use Rattle.squawk_lexer.specs.Token.{lexeme_at, token_at}
 use Rattle.squawk_lexer.specs.Laws.{TokensProgress}
 use Rattle.squawk_squeeze.specs.Squeezed.{TextToken, text_tokens_from, text_of, squeeze_tokens, separator_token}
 use Rattle.squawk_squeeze.specs.Laws.{lengths_of, AreLexerTokens, TextsAddUp, are_trivia, begins_with_trivia, RunsBecomeOneCharacter}
-use Rattle.squawk_squeeze.proofs.SqueezeLaws.{drop_end}
+use Rattle.squawk_squeeze.proofs.TokenLists.{drop_end}
 
 -- the tokens of a text whose first `inside` characters belong to a token before it
 tokens_agree : (strings : Strings) (inside : ℕ) (s : Bool) (u : List ℕ)
@@ -25,7 +26,7 @@ tokens_agree strings (suc n) s (c ∷ cs) = tokens_agree strings n s cs
 pub are_lexer_tokens : AreLexerTokens
 are_lexer_tokens strings text = tokens_agree strings 0 true text
 
--- and their texts
+-- the texts of the tokens, without those `inside` characters, add up to the text
 texts_from : TokensProgress → (strings : Strings) (inside : ℕ) (s : Bool) (u : List ℕ)
     → text_of (text_tokens_from strings inside s u) ≡ drop inside u
 texts_from some strings zero s [] = refl
@@ -54,19 +55,13 @@ both_true : (a b : Bool) → (a && b) ≡ true → (a ≡ true) × (b ≡ true)
 both_true true b h = (refl, h)
 both_true false b h = absurd (false≢true h)
 
-any_append : (u v : List ℕ) → list_any is_line_end (u ++ v)
-    ≡ (list_any is_line_end u || list_any is_line_end v)
-any_append [] v = refl
-any_append (c ∷ cs) v = ap (λ b. is_line_end c || b) (any_append cs v)
-    ∙ sym (or_assoc (is_line_end c) (list_any is_line_end cs) (list_any is_line_end v))
-
--- after a run, other tokens
+-- the separator of a run stands before the tokens after it
 run_ends : (b : Bool) (rest : List TextToken) → begins_with_trivia rest ≡ false
     → squeeze_tokens (Some b) rest ≡ separator_token b ∷ squeeze_tokens None rest
 run_ends b [] h = refl
 run_ends b (t ∷ ts) h = rw h refl
 
--- a run that has begun, with a line end or without one
+-- a run goes on over more trivia; `b` says whether it has a line end so far
 run_goes_on : (b : Bool) (run rest : List TextToken) → are_trivia run ≡ true
     → begins_with_trivia rest ≡ false
     → squeeze_tokens (Some b) (run ++ rest)
@@ -79,7 +74,7 @@ run_goes_on b (t ∷ ts) rest all h =
     rw (both.0) (run_goes_on (b || ends) ts rest both.1 h
     ∙ ap (λ e. separator_token e ∷ squeeze_tokens None rest)
     (or_assoc b ends (list_any is_line_end (text_of ts))
-    ∙ ap (λ e. b || e) (sym (any_append t.text (text_of ts)))))
+    ∙ ap (λ e. b || e) (sym (list_any-append is_line_end t.text (text_of ts)))))
 
 pub runs_become_one_character : RunsBecomeOneCharacter
 runs_become_one_character [] rest some all h = absurd (omega arith)
@@ -87,4 +82,4 @@ runs_become_one_character (t ∷ ts) rest some all h =
     let both = both_true (is_trivia t.kind) (are_trivia ts) all in
     rw (both.0) (run_goes_on (list_any is_line_end t.text) ts rest both.1 h
     ∙ ap (λ e. separator_token e ∷ squeeze_tokens None rest)
-    (sym (any_append t.text (text_of ts))))
+    (sym (list_any-append is_line_end t.text (text_of ts))))

@@ -4,7 +4,7 @@ use Rattle.std.specs.Str.{chars, encode_utf8_all}
 use Rattle.std.specs.String.{string_bytes}
 use Rattle.squawk_squeeze.specs.Squeezed.{squeezed_rest, separator_bytes, squeezed_text, without_trivia, text_tokens}
 use Rattle.squawk_squeeze.proofs.SqueezeLaws.{LexerLaws, keeps_tokens, squeeze_idempotent}
-use Rattle.squawk_squeeze.proofs.SqueezeBytes.{rest_after_trivia, rest_after_token, answer_chars, separator_bytes_len, separator_len_one, put_kept, put_len, put_last, part_len}
+use Rattle.squawk_squeeze.proofs.SqueezeBytes.{rest_after_trivia, rest_after_token, result_chars, separator_bytes_len, separator_len_one, put_kept, put_len, put_last, part_len}
 use Rattle.squawk_squeeze.proofs.text.squeeze.Goals as goal
 
 pub loop-at-init : goal.loop-at-init
@@ -103,7 +103,7 @@ returns-clause-keeps_tokens c =
     let is = put_last c.args.strings c.args.text.now c.loop-at.at c.loop-at.run _
     (string_bytes c.loop-at.out) _ c.in_ok-push_separator-2.ensures c.loop-at-test.false
     c.loop-at.invariant.text in
-    let same = answer_chars _ _ (IsUtf8-string_bytes c.push_separator-2.new.out) is in
+    let same = result_chars _ _ (IsUtf8-string_bytes c.push_separator-2.new.out) is in
     ap (λ u. without_trivia (text_tokens c.args.strings u)) (sym same)
     ∙ keeps_tokens laws c.args.strings (chars c.args.text.now)
 
@@ -123,6 +123,6 @@ returns-clause-idempotent c =
     let is = put_last c.args.strings c.args.text.now c.loop-at.at c.loop-at.run _
     (string_bytes c.loop-at.out) _ c.in_ok-push_separator-2.ensures c.loop-at-test.false
     c.loop-at.invariant.text in
-    let same = answer_chars _ _ (IsUtf8-string_bytes c.push_separator-2.new.out) is in
+    let same = result_chars _ _ (IsUtf8-string_bytes c.push_separator-2.new.out) is in
     ap (squeezed_text c.args.strings) (sym same) ∙ squeeze_idempotent laws c.args.strings (chars c.args.text.now)
     ∙ same
