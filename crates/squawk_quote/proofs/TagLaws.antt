@@ -1,22 +1,22 @@
--- A delimiter fits exactly where its tag stands nowhere in the value, nor at its end.
+-- A delimiter_of delimiter_fits exactly where its tag stands nowhere in the value, nor at its end.
 use Rattle.std.proofs.Common.{◌≡◌, ◌⊎◌, inl, inr, ℕ, zero, suc, ◌+◌, ◌<◌, Bool, true, false, List, [], ◌∷◌, ◌++◌, length, Option, Some, None, option_map, nat_eq, refl, sym, ap, subst, ◌∙◌, not, ◌&&◌, ◌||◌, eqb, cond, arith}
 use Rattle.std.proofs.lemmas.Bool.{cases_eq}
 use Rattle.std.proofs.lemmas.Bool.Decides.{nat_tests}
 use Rattle.std.specs.List.{starts_with}
 use Rattle.squawk_lexer.specs.Dollar.{find_end}
-use Rattle.squawk_quote.specs.Values.{letters, delimiter, ends_at, fits, has_tag}
+use Rattle.squawk_quote.specs.Values.{tag_then, delimiter_of, is_found_at, delimiter_fits, has_tag}
 use Rattle.squawk_quote.proofs.DollarLaws.{find_self}
 
--- whether the rest of a tag of m letters, and a `$`, begin the text v before the delimiter of n
+-- whether the rest of a tag of m tag_then, and a `$`, begin the text v before the delimiter_of of n
 abbrev rest_here : ℕ → ℕ → List ℕ → Bool
-rest_here n m v = starts_with nat_eq (v ++ delimiter n) (letters m (36 ∷ []))
+rest_here n m v = starts_with nat_eq (v ++ delimiter_of n) (tag_then m (36 ∷ []))
 
--- whether the delimiter of n stands in v before itself, anywhere but at the end
+-- whether the delimiter_of of n stands in v before itself, anywhere but at the end
 abbrev stands : ℕ → List ℕ → Bool
 stands n [] = false
 stands n (c ∷ cs) = (eqb 36 c && rest_here n n cs) || stands n cs
 
--- what is open behind a part of the value: a run of k letters of which m more are wanted, or too
+-- what is open behind a part of the value: a run of k tag_then of which m more are wanted, or too
 -- many, or none
 record Runs (n : ℕ) (v : List ℕ) : Type 0 where
   open_run : (k m : ℕ) → n ≡ k + m → has_tag n (Some k) v ≡ (rest_here n m v || stands n v)
@@ -106,9 +106,9 @@ runs n (c ∷ cs) = by (runs n cs) (cases_eq c 36) (cases_eq c 113)
     by r (inr d) (inr q) = behind_other n c cs (let e : eqb c 36 ≡ false = grind (arith, nat_tests)
         in e) (let e : eqb c 113 ≡ false = grind (arith, nat_tests) in e) r
 
--- ---- where the delimiter is found
+-- ---- where the delimiter_of is found
 
-ends_later : (o : Option ℕ) (n : ℕ) → ends_at (option_map (λ m. m + 1) o) (n + 1) ≡ ends_at o n
+ends_later : (o : Option ℕ) (n : ℕ) → is_found_at (option_map (λ m. m + 1) o) (n + 1) ≡ is_found_at o n
 ends_later None n = refl
 ends_later (Some m) n = by (cases_eq m n)
   where
@@ -117,24 +117,24 @@ ends_later (Some m) n = by (cases_eq m n)
     by (inr is_not) = let a : eqb (m + 1) (n + 1) ≡ false = grind (arith, nat_tests) in
         let b : eqb m n ≡ false = grind (arith, nat_tests) in a ∙ sym b
 
-fits_stands : (n : ℕ) (v : List ℕ) → fits v n ≡ not (stands n v)
-fits_stands n [] =
-    rw (find_self n) (ap (eqb (length (delimiter n))) (let e : 0 + length (delimiter n)
-    ≡ length (delimiter n) = omega arith in e) ∙ self (length (delimiter n)))
-fits_stands n (c ∷ cs) = by (eqb 36 c && rest_here n n cs) refl (fits_stands n cs)
+fits_unless_found : (n : ℕ) (v : List ℕ) → delimiter_fits v n ≡ not (stands n v)
+fits_unless_found n [] =
+    rw (find_self n) (ap (eqb (length (delimiter_of n))) (let e : 0 + length (delimiter_of n)
+    ≡ length (delimiter_of n) = omega arith in e) ∙ self (length (delimiter_of n)))
+fits_unless_found n (c ∷ cs) = by (eqb 36 c && rest_here n n cs) refl (fits_unless_found n cs)
   where
     d : List ℕ
-    d = delimiter n
+    d = delimiter_of n
 
-    by : (b : Bool) → (eqb 36 c && rest_here n n cs) ≡ b → fits cs n ≡ not (stands n cs)
-        → ends_at (cond b (Some (length d)) (option_map (λ m. m + 1) (find_end d (cs ++ d))))
+    by : (b : Bool) → (eqb 36 c && rest_here n n cs) ≡ b → delimiter_fits cs n ≡ not (stands n cs)
+        → is_found_at (cond b (Some (length d)) (option_map (λ m. m + 1) (find_end d (cs ++ d))))
         (length (c ∷ cs) + length d) ≡ not (b || stands n cs)
     by true t e = other_than (length (c ∷ cs) + length d) (length d) (omega arith)
     by false t e =
         let sum : length (c ∷ cs) + length d ≡ length cs + length d + 1 = omega arith in
-        ap (ends_at (option_map (λ m. m + 1) (find_end d (cs ++ d)))) sum
+        ap (is_found_at (option_map (λ m. m + 1) (find_end d (cs ++ d)))) sum
         ∙ ends_later (find_end d (cs ++ d)) (length cs + length d) ∙ e
 
--- a delimiter fits exactly where its tag does not stand in the value
-pub fits_is : (v : List ℕ) (n : ℕ) → fits v n ≡ not (has_tag n None v)
-fits_is v n = fits_stands n v ∙ ap not (sym ((runs n v).no_run))
+-- a delimiter_of delimiter_fits exactly where its tag does not stand in the value
+pub fits_unless_tag_occurs : (v : List ℕ) (n : ℕ) → delimiter_fits v n ≡ not (has_tag n None v)
+fits_unless_tag_occurs v n = fits_unless_found n v ∙ ap not (sym ((runs n v).no_run))
