@@ -1,5 +1,5 @@
--- A dollar string is one token, and its value is the one that it was made of. The shortest
--- delimiter_of that delimiter_fits is found.
+-- The dollar-quoted string of a value is one token and has this value. Its tag is the shortest that
+-- fits.
 use Rattle.std.proofs.Common.{◌≡◌, ℕ, zero, suc, ◌+◌, ◌-◌, ◌<◌, ◌≤◌, Bool, true, false, List, [], ◌∷◌, ◌++◌, length, get_or, take, drop, Option, Some, None, is_some, nat_eq, length-append, append-nil, refl, sym, ap, ◌∙◌, inl, inr, ◌&&◌, eqb, cond, arith}
 use Rattle.std.proofs.lemmas.Bool.{cases_eq, false≢true}
 use Rattle.std.proofs.lemmas.Bool.Decides.{nat_tests}
@@ -17,7 +17,7 @@ use Rattle.squawk_lexer.specs.Token.{token_form, lexeme_at}
 use Rattle.squawk_quote.specs.Values.{tag_then, delimiter_of, is_found_at, delimiter_fits, first_fitting_tag, shortest_tag, dollar_quoted, dollar_constant, strip_ends, value_of_kind, value_of_tokens, value_of, IsOneToken}
 use Rattle.squawk_quote.proofs.QuotedLaws.{one_token, token_is}
 
--- ---- the delimiter_of
+-- ---- the characters of a delimiter
 
 tag_append : (n : ℕ) (r s : List ℕ) → tag_then n r ++ s ≡ tag_then n (r ++ s)
 tag_append zero r s = refl
@@ -38,7 +38,7 @@ tag_next (suc n) r = tag_next n r
 delimiter_of_len : (n : ℕ) → length (delimiter_of n) ≡ n + 2
 delimiter_of_len n = let e = tag_chars_len n (36 ∷ []) in omega (arith, e)
 
--- ---- a delimiter_of with more tag_then than the value has characters delimiter_fits
+-- ---- a tag longer than the value fits
 
 pub starts_self : (t s : List ℕ) → starts_with nat_eq (t ++ s) t ≡ true
 starts_self [] s = refl
@@ -80,12 +80,12 @@ pub long_tag_fits : (v : List ℕ) (m : ℕ) → length v < m → delimiter_fits
 long_tag_fits v m h = ap (λ o. is_found_at o (length v + length (delimiter_of m))) (long_found m v h)
     ∙ eqb_self (length v + length (delimiter_of m))
 
--- ---- the shortest that delimiter_fits
+-- ---- the shortest tag that fits
 
--- the first fit among so many delimiter_fits, where the one behind them does
-fit : (v : List ℕ) (n more : ℕ) → delimiter_fits v (n + more) ≡ true → delimiter_fits v (first_fitting_tag v n more) ≡ true
-fit v n zero h = ap (delimiter_fits v) (omega arith) ∙ h
-fit v n (suc more) h = by (delimiter_fits v n) refl (fit v (n + 1) more)
+-- the tag found fits, if the one after all that are tried fits
+found_tag_fits : (v : List ℕ) (n more : ℕ) → delimiter_fits v (n + more) ≡ true → delimiter_fits v (first_fitting_tag v n more) ≡ true
+found_tag_fits v n zero h = ap (delimiter_fits v) (omega arith) ∙ h
+found_tag_fits v n (suc more) h = by (delimiter_fits v n) refl (found_tag_fits v (n + 1) more)
   where
     by : (b : Bool) → delimiter_fits v n ≡ b → (delimiter_fits v (n + 1 + more) ≡ true
         → delimiter_fits v (first_fitting_tag v (n + 1) more) ≡ true)
@@ -93,10 +93,10 @@ fit v n (suc more) h = by (delimiter_fits v n) refl (fit v (n + 1) more)
     by true t next = t
     by false t next = next (ap (delimiter_fits v) (omega arith) ∙ h)
 
--- and none before it does
-least : (v : List ℕ) (n more k : ℕ) → n ≤ k → k < first_fitting_tag v n more → delimiter_fits v k ≡ false
-least v n zero k low high = absurd (omega arith)
-least v n (suc more) k low high = by (delimiter_fits v n) refl high (least v (n + 1) more k)
+-- no tag before the one found fits
+earlier_tags_fail : (v : List ℕ) (n more k : ℕ) → n ≤ k → k < first_fitting_tag v n more → delimiter_fits v k ≡ false
+earlier_tags_fail v n zero k low high = absurd (omega arith)
+earlier_tags_fail v n (suc more) k low high = by (delimiter_fits v n) refl high (earlier_tags_fail v (n + 1) more k)
   where
     by : (b : Bool) → delimiter_fits v n ≡ b → k < cond b n (first_fitting_tag v (n + 1) more)
         → (n + 1 ≤ k → k < first_fitting_tag v (n + 1) more → delimiter_fits v k ≡ false) → delimiter_fits v k ≡ false
@@ -108,19 +108,19 @@ least v n (suc more) k low high = by (delimiter_fits v n) refl high (least v (n 
     ]
 
 pub tag_fits : (v : List ℕ) → delimiter_fits v (shortest_tag v) ≡ true
-tag_fits v = fit v 0 (length v + 1) (long_tag_fits v (0 + (length v + 1)) (omega arith))
+tag_fits v = found_tag_fits v 0 (length v + 1) (long_tag_fits v (0 + (length v + 1)) (omega arith))
 
 pub tag_least : (v : List ℕ) (k : ℕ) → k < shortest_tag v → delimiter_fits v k ≡ false
-tag_least v k h = least v 0 (length v + 1) k (omega arith) h
+tag_least v k h = earlier_tags_fail v 0 (length v + 1) k (omega arith) h
 
 -- ---- one token
 
--- what a fitting delimiter_of finds
+-- an end that is found at n is n
 found_at : (o : Option ℕ) (n : ℕ) → is_found_at o n ≡ true → o ≡ Some n
 found_at None n h = absurd (false≢true h)
 found_at (Some m) n h = ap Some (let e : m ≡ n = grind (arith, nat_tests) in e)
 
--- the text begins with `$`, the tag_then and `$`
+-- the text begins with `$`, the tag and `$`, and the lexer reads it so
 begins : (n : ℕ) (v : List ℕ) → dollar_quoted n v ≡ 36 ∷ tag_then n (36 ∷ (v ++ delimiter_of n))
 begins n v = ap (λ w. 36 ∷ w) (tag_append n (36 ∷ []) (v ++ delimiter_of n))
 
@@ -184,7 +184,7 @@ pub dollar_token : (n : ℕ) (v : List ℕ) → delimiter_fits v n ≡ true
     ≡ literal_until (DollarQuotedString true) (length (dollar_quoted n v))
 dollar_token n v t = starts_dollar (dollar_quoted n v) refl ∙ dollar_lexeme n v t
 
--- what stands between the delimiters
+-- the text between the delimiters is the value
 strip_dollar : (n : ℕ) (v : List ℕ) → strip_ends (tag_end (dollar_quoted n v) + 1) (dollar_quoted n v) ≡ v
 strip_dollar n v =
     let d = length (delimiter_of n) in

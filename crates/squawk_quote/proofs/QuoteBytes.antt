@@ -1,4 +1,4 @@
--- Quoted texts in bytes.
+-- Quoted texts in bytes: what the writers append.
 use Rattle.std.proofs.Common.{◌≡◌, ℕ, Bool, true, false, List, [], ◌∷◌, ◌++◌, length, append_assoc, append-nil, refl, sym, ap, subst, ◌∙◌, eqb, cond, arith}
 use Rattle.std.proofs.lemmas.Str.{encodes-append, chars-nil, chars_from_encodes, IsUtf8-string_bytes}
 use Rattle.std.proofs.Common.{Result, Ok, Err, IfOk, Some, String, Global}
@@ -21,7 +21,7 @@ escape_first q c cs = by (eqb c q)
     by true = refl
     by false = refl
 
--- a step over one character
+-- one step of the loop over the characters of a value, and its end
 pub put_more : (q c : ℕ) (cs new out whole : List ℕ)
     → new ≡ out ++ encode_utf8_all (escape_quotes q (c ∷ []))
     → out ++ encode_utf8_all (escape_quotes q (c ∷ cs)) ≡ whole
@@ -38,7 +38,7 @@ pub put_none : (q : ℕ) (rest out whole : List ℕ) → length rest ≡ 0
 put_none q rest out whole h inv = sym (append-nil out)
     ∙ ap (λ w. out ++ encode_utf8_all (escape_quotes q w)) (sym (chars_none rest h)) ∙ inv
 
--- a quoted text, written in three pieces
+-- a quote, the escaped value and a quote are the quoted text
 pub put_quoted : (q : ℕ) (cs none first mid new : List ℕ) → none ≡ []
     → first ≡ none ++ encode_utf8 q → mid ≡ first ++ encode_utf8_all (escape_quotes q cs)
     → new ≡ mid ++ encode_utf8 q
@@ -52,14 +52,14 @@ put_quoted q cs none first mid new n f m e =
     (sym (append-nil (encode_utf8 q)))
     ∙ ap (λ w. encode_utf8 q ++ w) (sym (encodes-append (escape_quotes q cs) (q ∷ [])))
 
--- ---- what holds of an answer that is such a text
+-- ---- from the text of a result to what holds of it
 
 on_ok : {T E : Type 0} {P Q : T → Type 0} (r : Result T E) → ((x : T) → P x → Q x) → IfOk r P
     → IfOk r Q
 on_ok (Ok x) f h = f x h
 on_ok (Err e) f h = h
 
--- an answer that spells a text has the value that the text has
+-- a result that is the UTF-8 of a text has the value of the text
 pub on_value : (cs v : List ℕ) (r : Result (String Global) FrontError) → value_of cs ≡ Some v
     → IfOk r (λ out. string_bytes out ≡ encode_utf8_all cs)
     → IfOk r (λ out. value_of (chars (string_bytes out)) ≡ Some v)
@@ -67,7 +67,7 @@ on_value cs v r e h = on_ok r (λ out is.
     ap value_of (sym (chars_from_encodes cs (string_bytes out) (IsUtf8-string_bytes out) (sym is)))
     ∙ e) h
 
--- and is the token that the text is
+-- a result that is the UTF-8 of one token is one token
 pub on_token : (kind : TokenKind) (cs : List ℕ) (r : Result (String Global) FrontError)
     → IsOneToken kind cs → IfOk r (λ out. string_bytes out ≡ encode_utf8_all cs)
     → IfOk r (λ out. IsOneToken kind (chars (string_bytes out)))

@@ -1,4 +1,4 @@
--- A quoted text is one token, and its value is the one that was quoted.
+-- A quoted text is one token, and has the value that was quoted.
 use Rattle.std.proofs.Common.{◌≡◌, ℕ, zero, suc, ◌+◌, ◌-◌, ◌≤◌, Bool, true, false, List, [], ◌∷◌, ◌++◌, length, take, Some, option_map, length-append, refl, ap, ◌∙◌, eqb, cond, arith}
 use Rattle.std.proofs.lemmas.Bool.Decides.{nat_tests}
 use Rattle.std.proofs.Math.Seq.{take-append_seam, take-length}
@@ -13,7 +13,7 @@ use Rattle.squawk_lexer.specs.Token.{token_form, lexeme_at, token_at}
 use Rattle.squawk_lexer.specs.Cut.{tokens_from, tokens}
 use Rattle.squawk_quote.specs.Values.{escape_quotes, string_constant, quoted_identifier, unescape_quotes, strip_ends, value_of_kind, value_of_tokens, value_of, IsOneToken}
 
--- ---- quoting and reading back
+-- ---- escaping is undone
 
 pub unescape_escape : (q : ℕ) (v : List ℕ) → unescape_quotes q (escape_quotes q v) ≡ v
 unescape_escape q [] = refl
@@ -33,7 +33,7 @@ unescape_escape q (c ∷ cs) = by (eqb c q) refl (unescape_escape q cs)
         rw same (ap (λ w. q ∷ w) e ∙ ap (λ d. d ∷ cs) is)
     by false t e = plain (escape_quotes q cs) t ∙ ap (λ w. c ∷ w) e
 
--- ---- where the quoted text ends
+-- ---- the quoted text ends at its last character
 
 plain_len : (q c : ℕ) (w : List ℕ) → eqb c q ≡ false → 1 ≤ length w
     → quoted_len false q (c ∷ w) ≡ option_map (λ n. n + 1) (quoted_len false q w)
@@ -73,14 +73,14 @@ one_token strings c cs e = ap (λ ts. token_at strings true (c ∷ cs) ∷ ts) (
     all zero (d ∷ ds) h = absurd (omega arith)
     all (suc n) (d ∷ ds) h = all n ds (omega arith)
 
--- a quoted text's own characters
+-- the text between the quotes
 pub strip_quoted : (q : ℕ) (w : List ℕ) → strip_ends 1 (q ∷ (w ++ q ∷ [])) ≡ w
 strip_quoted q w =
     let len : length (q ∷ (w ++ q ∷ [])) - (1 + 1) ≡ length w =
     omega (arith, length-append w (q ∷ [])) in
     ap (λ n. take n (w ++ q ∷ [])) len ∙ take-append_seam w (q ∷ [])
 
--- a string is one terminated token
+-- a string constant, and a quoted identifier, is one terminated lexeme
 pub string_lexeme : (v : List ℕ) → lexeme_at Standard true (string_constant v)
     ≡ literal_until (Str true) (length (string_constant v))
 unfolding token_form
@@ -96,7 +96,7 @@ ident_lexeme v =
     (let e : 1 + (length (escape_quotes 34 v) + 1) ≡ length (quoted_identifier v) =
     omega (arith, length-append (escape_quotes 34 v) (34 ∷ [])) in e))
 
--- and its value is the one that was quoted
+-- its value is the one that was quoted
 pub string_value : (v : List ℕ) → value_of (string_constant v) ≡ Some v
 string_value v =
     ap (λ ts. value_of_tokens ts (string_constant v)) (one_token Standard 39 (escape_quotes 39 v ++ 39
@@ -113,7 +113,7 @@ ident_value v =
     ∙ ap (λ w. Some (unescape_quotes 34 w)) (strip_quoted 34 (escape_quotes 34 v))
     ∙ ap Some (unescape_escape 34 v)
 
--- and these are tokens of their kinds
+-- a text that is one lexeme is one token of its kind
 pub token_is : (c : ℕ) (cs : List ℕ) (x : Lexeme) → lexeme_at Standard true (c ∷ cs) ≡ x
     → x.end ≡ length (c ∷ cs) → IsOneToken x.kind (c ∷ cs)
 token_is c cs x e len =

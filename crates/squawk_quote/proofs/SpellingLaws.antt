@@ -1,4 +1,4 @@
--- A string and a quoted identifier have one spelling for each value.
+-- A value has one spelling as a string constant, and one as a quoted identifier.
 use Rattle.std.proofs.Common.{◌≡◌, ℕ, zero, suc, ◌+◌, ◌-◌, ◌≤◌, Bool, true, false, List, [], ◌∷◌, ◌++◌, length, take, Option, Some, None, option_map, unwrap_or, refl, sym, ap, ◌∙◌, eqb, cond, arith}
 use Rattle.std.proofs.lemmas.Bool.Decides.{nat_tests}
 use Rattle.squawk_lexer.specs.Quoted.{quoted_len}
@@ -14,7 +14,7 @@ front_more c d cs =
     in e)
     ∙ ap (λ n. c ∷ take n (d ∷ cs)) (let e : length cs ≡ length (d ∷ cs) - 1 = omega arith in e)
 
--- where the first quote that closes is the last character, the text before it is a value escape_quotes
+-- the text before the last character of s is an escaped value, and the last character closes it
 abbrev Spelt : ℕ → List ℕ → Type 0
 Spelt q s = escape_quotes q (unescape_quotes q (front s)) ++ q ∷ [] ≡ s
 
@@ -83,7 +83,7 @@ spelt (suc n) q (c ∷ d ∷ cs) h e =
         ∙ ap (λ w. w ++ q ∷ []) (plain_first q c (front (d ∷ cs)) t)
         ∙ ap (λ w. c ∷ w) (one all)
 
--- a text that a quote begins, and whose first quote that closes is its last character, spells its
+-- a text that begins with a quote, and whose last character closes it, is the quoted text of its
 -- value
 pub one_spelling : (q : ℕ) (s : List ℕ) → quoted_len false q s ≡ Some (length s)
     → quoted_text q (unescape_quotes q (strip_ends 1 (q ∷ s))) ≡ q ∷ s

@@ -1,4 +1,4 @@
--- A delimiter_of delimiter_fits exactly where its tag stands nowhere in the value, nor at its end.
+-- A delimiter fits exactly if its tag stands neither in the value nor after a `$` at its end.
 use Rattle.std.proofs.Common.{◌≡◌, ◌⊎◌, inl, inr, ℕ, zero, suc, ◌+◌, ◌<◌, Bool, true, false, List, [], ◌∷◌, ◌++◌, length, Option, Some, None, option_map, nat_eq, refl, sym, ap, subst, ◌∙◌, not, ◌&&◌, ◌||◌, eqb, cond, arith}
 use Rattle.std.proofs.lemmas.Bool.{cases_eq}
 use Rattle.std.proofs.lemmas.Bool.Decides.{nat_tests}
@@ -7,17 +7,17 @@ use Rattle.squawk_lexer.specs.Dollar.{find_end}
 use Rattle.squawk_quote.specs.Values.{tag_then, delimiter_of, is_found_at, delimiter_fits, has_tag}
 use Rattle.squawk_quote.proofs.DollarLaws.{find_self}
 
--- whether the rest of a tag of m tag_then, and a `$`, begin the text v before the delimiter_of of n
+-- whether v, with the delimiter of n after it, begins with m letters `q` and a `$`
 abbrev rest_here : ℕ → ℕ → List ℕ → Bool
 rest_here n m v = starts_with nat_eq (v ++ delimiter_of n) (tag_then m (36 ∷ []))
 
--- whether the delimiter_of of n stands in v before itself, anywhere but at the end
+-- whether the delimiter of n, put after v, occurs before its own position
 abbrev stands : ℕ → List ℕ → Bool
 stands n [] = false
 stands n (c ∷ cs) = (eqb 36 c && rest_here n n cs) || stands n cs
 
--- what is open behind a part of the value: a run of k tag_then of which m more are wanted, or too
--- many, or none
+-- What `has_tag` says of v after a run of k letters that lacks m letters of the tag, after a run that
+-- is longer than the tag, and after no run.
 record Runs (n : ℕ) (v : List ℕ) : Type 0 where
   open_run : (k m : ℕ) → n ≡ k + m → has_tag n (Some k) v ≡ (rest_here n m v || stands n v)
   past_run : (k : ℕ) → n < k → has_tag n (Some k) v ≡ stands n v
@@ -43,9 +43,9 @@ runs_none n = record { open_run = at_end; past_run = λ k h. other_than k n h; n
     at_end k zero e = rw (let is : n ≡ k = omega arith in is) (self k)
     at_end k (suc m) e = more_than k n (omega arith)
 
--- behind a `$`
-behind_dollar : (n : ℕ) (cs : List ℕ) → Runs n cs → Runs n (36 ∷ cs)
-behind_dollar n cs r = record {
+-- after a `$`
+after_dollar : (n : ℕ) (cs : List ℕ) → Runs n cs → Runs n (36 ∷ cs)
+after_dollar n cs r = record {
   open_run = here;
   past_run = λ k h.
       rw (other_than k n h) begun;
@@ -61,9 +61,9 @@ behind_dollar n cs r = record {
         rw t refl
     here k (suc m) e = rw (more_than k n (omega arith)) begun
 
--- behind a letter
-behind_letter : (n : ℕ) (cs : List ℕ) → Runs n cs → Runs n (113 ∷ cs)
-behind_letter n cs r = record {
+-- after a letter of the tag
+after_letter : (n : ℕ) (cs : List ℕ) → Runs n cs → Runs n (113 ∷ cs)
+after_letter n cs r = record {
   open_run = here;
   past_run = λ k h.
       r.past_run (k + 1) (omega arith);
@@ -75,10 +75,10 @@ behind_letter n cs r = record {
     here k zero e = r.past_run (k + 1) (omega arith)
     here k (suc m) e = r.open_run (k + 1) m (omega arith)
 
--- behind any other character
-behind_other : (n c : ℕ) (cs : List ℕ) → eqb c 36 ≡ false → eqb c 113 ≡ false → Runs n cs
+-- after any other character
+after_other : (n c : ℕ) (cs : List ℕ) → eqb c 36 ≡ false → eqb c 113 ≡ false → Runs n cs
     → Runs n (c ∷ cs)
-behind_other n c cs d q r = record {
+after_other n c cs d q r = record {
   open_run = here;
   past_run = λ k h.
       rw (d, q, dollar) r.no_run;
@@ -101,12 +101,12 @@ runs n [] = runs_none n
 runs n (c ∷ cs) = by (runs n cs) (cases_eq c 36) (cases_eq c 113)
   where
     by : Runs n cs → (c ≡ 36) ⊎ (c ≡ 36 → ⊥) → (c ≡ 113) ⊎ (c ≡ 113 → ⊥) → Runs n (c ∷ cs)
-    by r (inl is) q = subst (λ x. Runs n (x ∷ cs)) (sym is) (behind_dollar n cs r)
-    by r (inr d) (inl is) = subst (λ x. Runs n (x ∷ cs)) (sym is) (behind_letter n cs r)
-    by r (inr d) (inr q) = behind_other n c cs (let e : eqb c 36 ≡ false = grind (arith, nat_tests)
+    by r (inl is) q = subst (λ x. Runs n (x ∷ cs)) (sym is) (after_dollar n cs r)
+    by r (inr d) (inl is) = subst (λ x. Runs n (x ∷ cs)) (sym is) (after_letter n cs r)
+    by r (inr d) (inr q) = after_other n c cs (let e : eqb c 36 ≡ false = grind (arith, nat_tests)
         in e) (let e : eqb c 113 ≡ false = grind (arith, nat_tests) in e) r
 
--- ---- where the delimiter_of is found
+-- ---- where the delimiter is found
 
 ends_later : (o : Option ℕ) (n : ℕ) → is_found_at (option_map (λ m. m + 1) o) (n + 1) ≡ is_found_at o n
 ends_later None n = refl
@@ -135,6 +135,6 @@ fits_unless_found n (c ∷ cs) = by (eqb 36 c && rest_here n n cs) refl (fits_un
         ap (is_found_at (option_map (λ m. m + 1) (find_end d (cs ++ d)))) sum
         ∙ ends_later (find_end d (cs ++ d)) (length cs + length d) ∙ e
 
--- a delimiter_of delimiter_fits exactly where its tag does not stand in the value
+-- a delimiter fits exactly if its tag does not occur
 pub fits_unless_tag_occurs : (v : List ℕ) (n : ℕ) → delimiter_fits v n ≡ not (has_tag n None v)
 fits_unless_tag_occurs v n = fits_unless_found n v ∙ ap not (sym ((runs n v).no_run))

@@ -1,8 +1,8 @@
-//! Laws of the definitions, each the clause of a function that does nothing.
-ghost use Rattle.squawk_split.specs.CopyData.{DataEndsFirst, DataMayGoOn};
+//! Laws of the definitions of COPY data, each the clause of a function that does nothing.
+ghost use Rattle.squawk_split.specs.CopyData.{DataEndsAtFirstMarker, DataWithoutMarkerIsAll};
 
-/// Inline data ends with the first end line, or else with the text.
-pub fn data_ends_first()
-    ensures ends { DataEndsFirst }
-    ensures goes_on { DataMayGoOn }
+/// COPY data ends with the first end-of-data marker, or else with the text.
+pub fn data_ends_at_first_marker()
+    ensures ends { DataEndsAtFirstMarker }
+    ensures all { DataWithoutMarkerIsAll }
 {}

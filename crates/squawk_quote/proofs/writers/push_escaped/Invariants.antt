@@ -5,7 +5,7 @@ use Rattle.std.specs.String.{string_bytes}
 use Rattle.squawk_quote.specs.Values.{escape_quotes}
 use Rattle.squawk_quote.proofs.writers.push_escaped.Given as goal
 
--- what is written, and then what the characters that are left become, is what all become
+-- the output so far, then the escaped characters that are left, is the whole output
 abbrev pub invariant-loop-c : goal.invariant-loop-c
 invariant-loop-c l =
     IsUtf8 (chars_rest l.c-iterator)
