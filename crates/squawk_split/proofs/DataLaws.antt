@@ -1,12 +1,13 @@
--- Inline data ends with the first end line.
+-- COPY data ends with the first end-of-data marker.
 use Rattle.std.proofs.Common.{◌≡◌, ℕ, zero, suc, ◌+◌, ◌<◌, Bool, true, false, List, [], ◌∷◌, length, drop, Option, Some, None, unwrap_or, refl, sym, ap, ◌∙◌, eqb, cond, arith}
 use Rattle.std.proofs.lemmas.Bool.Decides.{nat_tests}
 use Rattle.squawk_split.specs.CopyData.{end_marker_len, copy_data_len, IsEndMarker, DataEndsAtFirstMarker, DataWithoutMarkerIsAll}
 
--- the end line of a byte and what follows it, if it is LF
+-- the end-of-data marker after the byte c, if c is LF
 abbrev marker_after : ℕ → List ℕ → Option ℕ
 marker_after c cs = cond (eqb c 10) (end_marker_len cs) None
 
+-- a marker after the first byte, and one after a later byte, in the text and in its tail
 marker_at_start : (c : ℕ) (cs : List ℕ) (n : ℕ) → marker_after c cs ≡ Some n → IsEndMarker (c ∷ cs) 0 n
 marker_at_start c cs n e = by (eqb c 10) refl e
   where
@@ -50,6 +51,7 @@ no_marker_here c cs never = by (marker_after c cs) refl
     by None e = refl
     by (Some m) e = absurd (never m (marker_at_start c cs m e))
 
+-- the data ends with the first marker, or else with the text
 pub data_ends_at_first_marker : DataEndsAtFirstMarker
 data_ends_at_first_marker [] k n l never = absurd (let w : k < 0 = l.within in omega arith)
 data_ends_at_first_marker (c ∷ cs) zero n l never = ap (λ o. 1 + unwrap_or o (copy_data_len cs)) (marker_here c cs n l)

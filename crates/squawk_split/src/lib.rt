@@ -2,7 +2,7 @@
 #![tactic(auto)]
 
 mod data;
-/// Laws of the definitions of COPY data: for proofs.
+/// Laws of the definitions of COPY statements and their data: for proofs.
 pub mod laws;
 
 pub use data::copy_data_len;
