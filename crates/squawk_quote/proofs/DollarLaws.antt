@@ -55,7 +55,8 @@ clash cs y z zero h = absurd (omega arith)
 clash [] y z (suc m) h = refl
 clash (d ∷ ds) y z (suc m) h = rw (clash ds y z m (omega arith)) (and_false (nat_eq 113 d))
 
-pub find_self : (m : ℕ) → find_end (delimiter_of m) (delimiter_of m) ≡ Some (length (delimiter_of m))
+pub find_self : (m : ℕ) → find_end (delimiter_of m) (delimiter_of m)
+    ≡ Some (length (delimiter_of m))
 find_self m =
     let here : starts_with nat_eq (delimiter_of m) (delimiter_of m) ≡ true =
     ap (λ w. starts_with nat_eq w (delimiter_of m)) (sym (append-nil (delimiter_of m)))
@@ -64,7 +65,8 @@ find_self m =
 
 long_found : (m : ℕ) (v : List ℕ) → length v < m
     → find_end (delimiter_of m) (v ++ delimiter_of m) ≡ Some (length v + length (delimiter_of m))
-long_found m [] h = find_self m ∙ ap Some (let e : length (delimiter_of m) ≡ 0 + length (delimiter_of m) =
+long_found m [] h = find_self m
+    ∙ ap Some (let e : length (delimiter_of m) ≡ 0 + length (delimiter_of m) =
     omega arith in e)
 long_found m (c ∷ cs) h =
     let none : starts_with nat_eq (c ∷ cs ++ delimiter_of m) (delimiter_of m) ≡ false =
@@ -77,13 +79,15 @@ eqb_self : (n : ℕ) → eqb n n ≡ true
 eqb_self n = grind (arith, nat_tests)
 
 pub long_tag_fits : (v : List ℕ) (m : ℕ) → length v < m → delimiter_fits v m ≡ true
-long_tag_fits v m h = ap (λ o. is_found_at o (length v + length (delimiter_of m))) (long_found m v h)
+long_tag_fits v m h =
+    ap (λ o. is_found_at o (length v + length (delimiter_of m))) (long_found m v h)
     ∙ eqb_self (length v + length (delimiter_of m))
 
 -- ---- the shortest tag that fits
 
 -- the tag found fits, if the one after all that are tried fits
-found_tag_fits : (v : List ℕ) (n more : ℕ) → delimiter_fits v (n + more) ≡ true → delimiter_fits v (first_fitting_tag v n more) ≡ true
+found_tag_fits : (v : List ℕ) (n more : ℕ) → delimiter_fits v (n + more) ≡ true
+    → delimiter_fits v (first_fitting_tag v n more) ≡ true
 found_tag_fits v n zero h = ap (delimiter_fits v) (omega arith) ∙ h
 found_tag_fits v n (suc more) h = by (delimiter_fits v n) refl (found_tag_fits v (n + 1) more)
   where
@@ -94,12 +98,15 @@ found_tag_fits v n (suc more) h = by (delimiter_fits v n) refl (found_tag_fits v
     by false t next = next (ap (delimiter_fits v) (omega arith) ∙ h)
 
 -- no tag before the one found fits
-earlier_tags_fail : (v : List ℕ) (n more k : ℕ) → n ≤ k → k < first_fitting_tag v n more → delimiter_fits v k ≡ false
+earlier_tags_fail : (v : List ℕ) (n more k : ℕ) → n ≤ k → k < first_fitting_tag v n more
+    → delimiter_fits v k ≡ false
 earlier_tags_fail v n zero k low high = absurd (omega arith)
-earlier_tags_fail v n (suc more) k low high = by (delimiter_fits v n) refl high (earlier_tags_fail v (n + 1) more k)
+earlier_tags_fail v n (suc more) k low high =
+    by (delimiter_fits v n) refl high (earlier_tags_fail v (n + 1) more k)
   where
     by : (b : Bool) → delimiter_fits v n ≡ b → k < cond b n (first_fitting_tag v (n + 1) more)
-        → (n + 1 ≤ k → k < first_fitting_tag v (n + 1) more → delimiter_fits v k ≡ false) → delimiter_fits v k ≡ false
+        → (n + 1 ≤ k → k < first_fitting_tag v (n + 1) more → delimiter_fits v k ≡ false)
+        → delimiter_fits v k ≡ false
     by true t h next = absurd (omega arith)
     by false t h next = elim (cases_eq k n) [
       | inl is ↦ ap (delimiter_fits v) is
@@ -153,9 +160,11 @@ rest_at n v = ap (λ m. drop m (dollar_quoted n v)) (front n v)
 closing_at : (n : ℕ) (v : List ℕ) → delimiter_fits v n ≡ true
     → delimiter_end (dollar_quoted n v) ≡ Some (length v + length (delimiter_of n))
 closing_at n v t =
-    ap (λ d. find_end d (drop (tag_end (dollar_quoted n v) + 1) (dollar_quoted n v))) (delimiter_at n v)
+    ap (λ d. find_end d (drop (tag_end (dollar_quoted n v) + 1) (dollar_quoted n v)))
+        (delimiter_at n v)
     ∙ ap (find_end (delimiter_of n)) (rest_at n v)
-    ∙ found_at (find_end (delimiter_of n) (v ++ delimiter_of n)) (length v + length (delimiter_of n)) t
+    ∙ found_at (find_end (delimiter_of n) (v ++ delimiter_of n))
+    (length v + length (delimiter_of n)) t
 
 text_len : (n : ℕ) (v : List ℕ) → length (dollar_quoted n v)
     ≡ length (delimiter_of n) + (length v + length (delimiter_of n))
@@ -163,7 +172,8 @@ text_len n v = length-append (delimiter_of n) (v ++ delimiter_of n)
     ∙ ap (λ m. length (delimiter_of n) + m) (length-append v (delimiter_of n))
 
 dollar_lexeme : (n : ℕ) (v : List ℕ) → delimiter_fits v n ≡ true
-    → dollar (dollar_quoted n v) ≡ literal_until (DollarQuotedString true) (length (dollar_quoted n v))
+    → dollar (dollar_quoted n v)
+    ≡ literal_until (DollarQuotedString true) (length (dollar_quoted n v))
 dollar_lexeme n v t =
     let u = dollar_quoted n v in
     let string : dollar u ≡ dollar_string u = rw (opens_at n v) refl in
@@ -185,7 +195,8 @@ pub dollar_token : (n : ℕ) (v : List ℕ) → delimiter_fits v n ≡ true
 dollar_token n v t = starts_dollar (dollar_quoted n v) refl ∙ dollar_lexeme n v t
 
 -- the text between the delimiters is the value
-strip_dollar : (n : ℕ) (v : List ℕ) → strip_ends (tag_end (dollar_quoted n v) + 1) (dollar_quoted n v) ≡ v
+strip_dollar : (n : ℕ) (v : List ℕ)
+    → strip_ends (tag_end (dollar_quoted n v) + 1) (dollar_quoted n v) ≡ v
 strip_dollar n v =
     let d = length (delimiter_of n) in
     let len : length (dollar_quoted n v) - (d + d) ≡ length v = omega (arith, text_len n v) in

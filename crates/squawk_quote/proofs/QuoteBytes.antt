@@ -13,7 +13,8 @@ pub chars_none : (bs : List ℕ) → length bs ≡ 0 → chars bs ≡ []
 chars_none [] h = chars-nil
 chars_none (b ∷ bs) h = absurd (omega arith)
 
-escape_first : (q c : ℕ) (cs : List ℕ) → escape_quotes q (c ∷ cs) ≡ escape_quotes q (c ∷ []) ++ escape_quotes q cs
+escape_first : (q c : ℕ) (cs : List ℕ) → escape_quotes q (c ∷ cs)
+    ≡ escape_quotes q (c ∷ []) ++ escape_quotes q cs
 escape_first q c cs = by (eqb c q)
   where
     by : (b : Bool) → cond b (q ∷ q ∷ escape_quotes q cs) (c ∷ escape_quotes q cs)
@@ -28,7 +29,8 @@ pub put_more : (q c : ℕ) (cs new out whole : List ℕ)
     → new ++ encode_utf8_all (escape_quotes q cs) ≡ whole
 put_more q c cs new out whole e inv =
     ap (λ w. w ++ encode_utf8_all (escape_quotes q cs)) e
-    ∙ append_assoc out (encode_utf8_all (escape_quotes q (c ∷ []))) (encode_utf8_all (escape_quotes q cs))
+    ∙ append_assoc out (encode_utf8_all (escape_quotes q (c ∷ [])))
+    (encode_utf8_all (escape_quotes q cs))
     ∙ ap (λ w. out ++ w) (sym (encodes-append (escape_quotes q (c ∷ [])) (escape_quotes q cs))
     ∙ ap encode_utf8_all (sym (escape_first q c cs)))
     ∙ inv

@@ -85,8 +85,10 @@ pub string_lexeme : (v : List ℕ) → lexeme_at Standard true (string_constant 
     ≡ literal_until (Str true) (length (string_constant v))
 unfolding token_form
 string_lexeme v =
-    rw (escaped_len 39 v) (ap (literal_until (Str true)) (let e : 1 + (length (escape_quotes 39 v) + 1)
-    ≡ length (string_constant v) = omega (arith, length-append (escape_quotes 39 v) (39 ∷ [])) in e))
+    rw (escaped_len 39 v)
+        (ap (literal_until (Str true)) (let e : 1 + (length (escape_quotes 39 v) + 1)
+    ≡ length (string_constant v) =
+    omega (arith, length-append (escape_quotes 39 v) (39 ∷ [])) in e))
 
 pub ident_lexeme : (v : List ℕ) → lexeme_at Standard true (quoted_identifier v)
     ≡ lexeme_until (kinds.QuotedIdent true false) (length (quoted_identifier v))
@@ -99,7 +101,8 @@ ident_lexeme v =
 -- its value is the one that was quoted
 pub string_value : (v : List ℕ) → value_of (string_constant v) ≡ Some v
 string_value v =
-    ap (λ ts. value_of_tokens ts (string_constant v)) (one_token Standard 39 (escape_quotes 39 v ++ 39
+    ap (λ ts. value_of_tokens ts (string_constant v))
+        (one_token Standard 39 (escape_quotes 39 v ++ 39
     ∷ []) (ap (λ (x : Lexeme). x.end) (string_lexeme v)))
     ∙ ap (λ (x : Lexeme). value_of_kind x.kind (string_constant v)) (string_lexeme v)
     ∙ ap (λ w. Some (unescape_quotes 39 w)) (strip_quoted 39 (escape_quotes 39 v))
@@ -107,7 +110,8 @@ string_value v =
 
 pub ident_value : (v : List ℕ) → value_of (quoted_identifier v) ≡ Some v
 ident_value v =
-    ap (λ ts. value_of_tokens ts (quoted_identifier v)) (one_token Standard 34 (escape_quotes 34 v ++ 34
+    ap (λ ts. value_of_tokens ts (quoted_identifier v))
+        (one_token Standard 34 (escape_quotes 34 v ++ 34
     ∷ []) (ap (λ (x : Lexeme). x.end) (ident_lexeme v)))
     ∙ ap (λ (x : Lexeme). value_of_kind x.kind (quoted_identifier v)) (ident_lexeme v)
     ∙ ap (λ w. Some (unescape_quotes 34 w)) (strip_quoted 34 (escape_quotes 34 v))
@@ -128,4 +132,5 @@ string_token v = token_is 39 (escape_quotes 39 v ++ 39
 
 pub ident_token : (v : List ℕ) → IsOneToken (kinds.QuotedIdent true false) (quoted_identifier v)
 ident_token v = token_is 34 (escape_quotes 34 v ++ 34
-    ∷ []) (lexeme_until (kinds.QuotedIdent true false) (length (quoted_identifier v))) (ident_lexeme v) refl
+    ∷ []) (lexeme_until (kinds.QuotedIdent true false) (length (quoted_identifier v)))
+    (ident_lexeme v) refl

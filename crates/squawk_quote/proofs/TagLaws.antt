@@ -16,8 +16,8 @@ abbrev stands : ℕ → List ℕ → Bool
 stands n [] = false
 stands n (c ∷ cs) = (eqb 36 c && rest_here n n cs) || stands n cs
 
--- What `has_tag` says of v after a run of k letters that lacks m letters of the tag, after a run that
--- is longer than the tag, and after no run.
+-- what `has_tag` says of v after a run of k letters that lacks m letters of the tag, after a run
+-- longer than the tag, and after none
 record Runs (n : ℕ) (v : List ℕ) : Type 0 where
   open_run : (k m : ℕ) → n ≡ k + m → has_tag n (Some k) v ≡ (rest_here n m v || stands n v)
   past_run : (k : ℕ) → n < k → has_tag n (Some k) v ≡ stands n v
@@ -108,7 +108,8 @@ runs n (c ∷ cs) = by (runs n cs) (cases_eq c 36) (cases_eq c 113)
 
 -- ---- where the delimiter is found
 
-ends_later : (o : Option ℕ) (n : ℕ) → is_found_at (option_map (λ m. m + 1) o) (n + 1) ≡ is_found_at o n
+ends_later : (o : Option ℕ) (n : ℕ) → is_found_at (option_map (λ m. m + 1) o) (n + 1)
+    ≡ is_found_at o n
 ends_later None n = refl
 ends_later (Some m) n = by (cases_eq m n)
   where

@@ -6,13 +6,28 @@ use std::test::Fail;
 const ROWS: &[(&str, &str, &str, &str)] = &[
     ("empty value", "", "''", "\"\""),
     ("plain word", "select", "'select'", "\"select\""),
-    ("apostrophe and dollars", "it's $$q", "'it''s $$q'", "\"it's $$q\""),
+    (
+        "apostrophe and dollars",
+        "it's $$q",
+        "'it''s $$q'",
+        "\"it's $$q\"",
+    ),
     ("dollar", "$", "'$'", "\"$\""),
     ("quotation mark", "\"", "'\"'", "\"\"\"\""),
     ("only apostrophes", "''", "''''''", "\"''\""),
-    ("quotes at both ends", "'\"a\"'", "'''\"a\"'''", "\"'\"\"a\"\"'\""),
+    (
+        "quotes at both ends",
+        "'\"a\"'",
+        "'''\"a\"'''",
+        "\"'\"\"a\"\"'\"",
+    ),
     ("backslash before a quote", "\\'", "'\\'''", "\"\\'\""),
-    ("more than ASCII", "\u{e9}'\u{10437}", "'\u{e9}''\u{10437}'", "\"\u{e9}'\u{10437}\""),
+    (
+        "more than ASCII",
+        "\u{e9}'\u{10437}",
+        "'\u{e9}''\u{10437}'",
+        "\"\u{e9}'\u{10437}\"",
+    ),
     ("line end and NUL", "\r\n\0", "'\r\n\0'", "\"\r\n\0\""),
 ];
 

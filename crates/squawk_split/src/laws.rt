@@ -1,4 +1,5 @@
-//! Laws of the definitions of COPY statements and their data, each the clause of a function that does nothing.
+//! Laws of the definitions of COPY statements and their data, each the clause of a function that
+//! does nothing.
 ghost use Rattle.squawk_split.specs.CopyData.{DataEndsAtFirstMarker, DataWithoutMarkerIsAll};
 ghost use Rattle.squawk_split.specs.CopyFromStdin.{FromStdinIsFound, OnlyFromStdinIsFound};
 

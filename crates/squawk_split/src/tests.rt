@@ -8,7 +8,11 @@ const ROWS: &[(&str, &[u8], usize)] = &[
     ("marker between lines", b"\n1\nit's\n\\.\nselect 1;", 11),
     ("marker at the end", b"\n1\n\\.", 5),
     ("CR and LF", b"\r\n1\r\n\\.\r\nselect 1;", 9),
-    ("marker directly after the first line", b"\n\\.\nselect 1;", 4),
+    (
+        "marker directly after the first line",
+        b"\n\\.\nselect 1;",
+        4,
+    ),
     ("marker on the line of the semicolon", b"\\.", 2),
     ("marker before CR alone", b"\n\\.\rselect 1;", 13),
     ("space before the marker", b"\n \\.\nselect 1;", 14),

@@ -14,8 +14,9 @@ use Rattle.squawk_lexer.specs.declared.token.Strings.{Strings}
 use Rattle.squawk_lexer.specs.Text.{utf8_len}
 use Rattle.squawk_lexer.specs.Token.{lexeme_at, token_at}
 use Rattle.squawk_lexer.specs.Cut.{is_trivia}
-use Rattle.squawk_squeeze.specs.Squeezed.{TextToken, text_token, text_tokens_from, TriviaRun, extend_run, prepend_separator, squeeze_tokens, text_of, squeezed_rest, separator_bytes, separator_len}
+use Rattle.squawk_squeeze.specs.Squeezed.{TextToken, text_token, text_tokens_from, TriviaRun, extend_run, prepend_separator, squeeze_tokens, text_of, squeezed_rest, separator_bytes, separator_len, squeezed_text, without_trivia, text_tokens, IsSqueezed, KeepsTokens, IsUnchangedBySqueezing}
 use Rattle.squawk_squeeze.proofs.TokenLists.{text_tokens_first}
+use Rattle.squawk_squeeze.proofs.SqueezeLaws.{LexerLaws, keeps_tokens, squeeze_idempotent}
 
 pub chars_none : (bs : List ℕ) → length bs ≡ 0 → chars bs ≡ []
 chars_none [] h = chars-nil
@@ -99,7 +100,8 @@ step some strings text at t part utf8 here within there long is e part_utf8 =
       text_tokens = text_tokens_first some strings s u full
           ∙ ap (λ y. text_token (lexeme_at strings s u).kind y
           ∷ text_tokens_from strings 0 false (drop k u)) front
-          ∙ ap (λ y. text_token y (chars part) ∷ text_tokens_from strings 0 false (drop k u)) (sym kind)
+          ∙ ap (λ y. text_token y (chars part) ∷ text_tokens_from strings 0 false (drop k u))
+          (sym kind)
           ∙ ap (λ y. text_token t.kind (chars part) ∷ text_tokens_from strings 0 false y) rest
           ∙ ap (λ b. text_token t.kind (chars part)
           ∷ text_tokens_from strings 0 b (chars (drop (at + t.len) text))) (sym more);
@@ -114,8 +116,10 @@ pub rest_after_trivia : TokensProgress
     → t ≡ token_at strings (at == 0) (chars (drop at text)) → part ≡ take t.len (drop at text)
     → IsUtf8 part
     → (run : TriviaRun) → is_trivia t.kind ≡ true
-    → squeezed_rest strings run text at ≡ squeezed_rest strings (extend_run run (chars part)) text (at + t.len)
-rest_after_trivia some strings text at t part utf8 here within there long is e part_utf8 run gap_is =
+    → squeezed_rest strings run text at
+    ≡ squeezed_rest strings (extend_run run (chars part)) text (at + t.len)
+rest_after_trivia some strings text at t part utf8 here within there long is e part_utf8 run
+    gap_is =
     let x = step some strings text at t part utf8 here within there long is e part_utf8 in
     ap (λ ps. text_of (squeeze_tokens run ps)) x.text_tokens ∙ rw gap_is refl
 
@@ -136,7 +140,8 @@ pub rest_after_token : TokensProgress
     → IsUtf8 part
     → (run : TriviaRun) → is_trivia t.kind ≡ false
     → encode_utf8_all (squeezed_rest strings run text at)
-    ≡ separator_bytes run ++ (part ++ encode_utf8_all (squeezed_rest strings None text (at + t.len)))
+    ≡ separator_bytes run
+    ++ (part ++ encode_utf8_all (squeezed_rest strings None text (at + t.len)))
 rest_after_token some strings text at t part utf8 here within there long is e part_utf8 run gap_is =
     let x = step some strings text at t part utf8 here within there long is e part_utf8 in
     let rest = squeeze_tokens None (text_tokens_from strings 0 (at + t.len == 0)
@@ -164,11 +169,23 @@ rest_at_end strings text at run h =
         encode_utf8_all (text_of (squeeze_tokens run (text_tokens_from strings 0 (at == 0) w)))) e
         ∙ alone run
 
--- the characters of a result that has these bytes
-pub result_chars : (out : List ℕ) (cs : List ℕ) → IsUtf8 out → out ≡ encode_utf8_all cs
-    → cs ≡ chars out
-result_chars out cs utf8 e = chars_from_encodes cs out utf8 (sym e)
+-- a result that is the squeezed text has the tokens of the text, trivia left out
+pub result_keeps_tokens : LexerLaws → (strings : Strings) (text out : List ℕ) → IsUtf8 out
+    → IsSqueezed strings text out → KeepsTokens strings text out
+result_keeps_tokens laws strings text out utf8 is =
+    ap (λ u. without_trivia (text_tokens strings u))
+    (sym (chars_from_encodes (squeezed_text strings (chars text)) out utf8 (sym is)))
+    ∙ keeps_tokens laws strings (chars text)
 
+-- a result that is the squeezed text is squeezed
+pub result_is_unchanged : LexerLaws → (strings : Strings) (text out : List ℕ) → IsUtf8 out
+    → IsSqueezed strings text out → IsUnchangedBySqueezing strings out
+result_is_unchanged laws strings text out utf8 is =
+    let same : squeezed_text strings (chars text) ≡ chars out =
+    chars_from_encodes (squeezed_text strings (chars text)) out utf8 (sym is) in
+    ap (squeezed_text strings) (sym same) ∙ squeeze_idempotent laws strings (chars text) ∙ same
+
+-- what a step appends to the output, and how long it is then
 pub separator_bytes_len : (run : TriviaRun) → length (separator_bytes run) ≡ separator_len run
 separator_bytes_len None = refl
 separator_bytes_len (Some b) = refl
@@ -189,7 +206,8 @@ put_len new mid out sep part e f =
     ap length e ∙ length-append mid part ∙ ap (λ w. length w + length part) f
     ∙ ap (λ n. n + length part) (length-append out sep)
 
-pub put_last : (strings : Strings) (text : List ℕ) (at : ℕ) (run : TriviaRun) (new out whole : List ℕ)
+pub put_last : (strings : Strings) (text : List ℕ) (at : ℕ) (run : TriviaRun)
+    (new out whole : List ℕ)
     → new ≡ out ++ separator_bytes run → length text ≤ at
     → out ++ encode_utf8_all (squeezed_rest strings run text at) ≡ whole → new ≡ whole
 put_last strings text at run new out whole e h inv = e

@@ -26,6 +26,17 @@ pub record LexerLaws : Type 0 where
   pub stay : TokensStay
   pub stay_before : TokensStayBefore
 
+pub lexer_laws : TokensProgress → TokensWithin → LexemesLookAhead → GapsAreSeen → TokensStay
+    → TokensStayBefore → LexerLaws
+lexer_laws some within looks seen stay stay_before = record {
+  some = some;
+  within = within;
+  looks = looks;
+  seen = seen;
+  stay = stay;
+  stay_before = stay_before;
+}
+
 -- ---- separators
 
 separator_is_gap : (b : Bool) → IsGap (separator b)
@@ -39,20 +50,24 @@ record BeginsWithSeparator (ends : Bool) (w : List ℕ) : Type 0 where
   is : w ≡ separator char ∷ rest
   keeps : ends ≡ true → char ≡ true
 
-weaken : (a b : Bool) (w : List ℕ) → (a ≡ true → b ≡ true) → BeginsWithSeparator b w → BeginsWithSeparator a w
+weaken : (a b : Bool) (w : List ℕ) → (a ≡ true → b ≡ true) → BeginsWithSeparator b w
+    → BeginsWithSeparator a w
 weaken a b w h g = record { char = g.char; rest = g.rest; is = g.is; keeps = λ e. g.keeps (h e) }
 
 or_true : (a b : Bool) → a ≡ true → (a || b) ≡ true
 or_true a b e = rw e refl
 
-run_begins_with_separator : (b : Bool) (ps : List TextToken) → BeginsWithSeparator b (text_of (squeeze_tokens (Some b) ps))
+run_begins_with_separator : (b : Bool) (ps : List TextToken)
+    → BeginsWithSeparator b (text_of (squeeze_tokens (Some b) ps))
 run_begins_with_separator b [] = record { char = b; rest = []; is = refl; keeps = λ e. e }
-run_begins_with_separator b (p ∷ ps) = by (is_trivia p.kind) refl (run_begins_with_separator (b || list_any is_line_end p.text) ps)
+run_begins_with_separator b (p ∷ ps) =
+    by (is_trivia p.kind) refl (run_begins_with_separator (b || list_any is_line_end p.text) ps)
   where
     more : Bool
     more = b || list_any is_line_end p.text
 
-    by : (c : Bool) → is_trivia p.kind ≡ c → BeginsWithSeparator more (text_of (squeeze_tokens (Some more) ps))
+    by : (c : Bool) → is_trivia p.kind ≡ c
+        → BeginsWithSeparator more (text_of (squeeze_tokens (Some more) ps))
         → BeginsWithSeparator b (text_of (cond c (squeeze_tokens (Some more) ps)
         (prepend_separator (Some b) (p ∷ squeeze_tokens None ps))))
     by true t g =
@@ -94,7 +109,8 @@ first_in [] k h t = absurd (false≢true t)
 first_in (c ∷ cs) zero h t = absurd (omega arith)
 first_in (c ∷ cs) (suc k) h t = rw t refl
 
-first_token_or_separator : LexerLaws → (strings : Strings) (u : List ℕ) → 1 ≤ length u → Head strings u
+first_token_or_separator : LexerLaws → (strings : Strings) (u : List ℕ) → 1 ≤ length u
+    → Head strings u
 first_token_or_separator laws strings u some = by (is_trivia_lexeme x) refl
   where
     x : Lexeme
@@ -115,14 +131,17 @@ first_token_or_separator laws strings u some = by (is_trivia_lexeme x) refl
           t,
           subst (BeginsWithSeparator (is_line_end (get_or u 0 0))) (sym is)
               (weaken (is_line_end (get_or u 0 0)) b _
-              (first_in u x.end (laws.some strings false u some)) (run_begins_with_separator b rest)),
+              (first_in u x.end (laws.some strings false u some))
+                  (run_begins_with_separator b rest)),
         )
     by false t = inl (t, ap (λ ps. text_of (squeeze_tokens None ps)) first ∙ rw t refl)
 
 -- ---- a token other than trivia stays
 
-append_next : (k n : ℕ) (u x w : List ℕ) → w ≡ take n (drop k u) ++ x → take k u ++ w ≡ take (k + n) u ++ x
-append_next k n u x w e = ap (λ y. take k u ++ y) e ∙ sym (append_assoc (take k u) (take n (drop k u)) x)
+append_next : (k n : ℕ) (u x w : List ℕ) → w ≡ take n (drop k u) ++ x → take k u ++ w
+    ≡ take (k + n) u ++ x
+append_next k n u x w e =
+    ap (λ y. take k u ++ y) e ∙ sym (append_assoc (take k u) (take n (drop k u)) x)
     ∙ ap (λ y. y ++ x) (sym (take-add k n u))
 
 agrees_on : (k m : ℕ) (u x : List ℕ) → k + 2 ≤ m → m ≤ length u → Agrees (k + 2) u (take m u ++ x)
@@ -184,7 +203,8 @@ token_stays laws strings s u some t = by (cases_lt 0 (length u1))
             let on : 1 ≤ n = laws.some strings false u2 more in
             let less : n ≤ length u2 = laws.within strings false u2 more in
             looks (1 + n) (squeezed_tail strings (drop n u2)) (omega arith) (omega (arith, long))
-            (e ∙ append_next 1 n u1 (squeezed_tail strings (drop n u2)) (squeezed_tail strings u2) is)
+            (e ∙ append_next 1 n u1 (squeezed_tail strings (drop n u2)) (squeezed_tail strings u2)
+                is)
         of (inr (gapped, g)) more =
             let here : begins_gap (drop (k + 1) u) ≡ true = ap begins_gap (sym (drop-drop 1 k u))
             ∙ sym (laws.seen strings u2) ∙ gapped in
@@ -195,7 +215,8 @@ token_stays laws strings s u some t = by (cases_lt 0 (length u1))
         to : (0 < length u2) ⊎ (length u2 ≤ 0)
             → lexeme_at strings s (take k u ++ w) ≡ lexeme_at strings s u
         to (inl more) = of (first_token_or_separator laws strings u2 more) more
-        to (inr none) = whole (e ∙ ap (λ y. take 1 u1 ++ y) (squeezed_tail_empty strings u2 (omega arith))
+        to (inr none) = whole
+            (e ∙ ap (λ y. take 1 u1 ++ y) (squeezed_tail_empty strings u2 (omega arith))
             ∙ take-append-drop 1 u1)
 
     of : 1 ≤ length u1 → Head strings u1 → lexeme_at strings s (take k u ++ w)
@@ -259,7 +280,8 @@ separator_first : LexerLaws → (strings : Strings) (s : Bool) (b : Bool) (w : L
 separator_first laws strings s b w h =
     text_tokens_first laws.some strings s (separator b ∷ w) (omega arith)
     ∙ ap (λ x. first_text_token x (separator b ∷ w)
-    ∷ text_tokens_from strings 0 false (drop x.end (separator b ∷ w))) (separator_lexeme strings s b w h)
+    ∷ text_tokens_from strings 0 false (drop x.end (separator b ∷ w)))
+    (separator_lexeme strings s b w h)
 
 -- the tokens of the text of `ps` are `ps` again
 abbrev Relexes : Strings → Bool → List TextToken → Type 0
@@ -282,7 +304,8 @@ stable_alone : LexerLaws → (strings : Strings) (n : ℕ) → IsStable strings 
     → Relexes strings s (squeeze_tokens None (text_tokens_from strings 0 s u))
 stable_alone laws strings n less s [] h = refl
 stable_alone laws strings n less s (c ∷ cs) h =
-    subst (λ ps. Relexes strings s (squeeze_tokens None ps)) (sym first) (by (is_trivia_lexeme x) refl)
+    subst (λ ps. Relexes strings s (squeeze_tokens None ps)) (sym first)
+        (by (is_trivia_lexeme x) refl)
   where
     u : List ℕ
     u = c ∷ cs
@@ -318,7 +341,8 @@ stable_alone laws strings n less s (c ∷ cs) h =
     len = length-take-le k u inside
 
     by : (b : Bool) → is_trivia_lexeme x ≡ b
-        → Relexes strings s (cond b (squeeze_tokens (extend_run None (take k u)) rest) (first_text_token x u
+        → Relexes strings s (cond b (squeeze_tokens (extend_run None (take k u)) rest)
+        (first_text_token x u
         ∷ squeeze_tokens None rest))
     by true t = less.after (list_any is_line_end (take k u)) s u1 shorter
     by false t =
@@ -339,7 +363,8 @@ stable_after : LexerLaws → (strings : Strings) (n : ℕ) → IsStable strings 
     → Relexes strings s (squeeze_tokens (Some b) (text_tokens_from strings 0 false u))
 stable_after laws strings n less b s [] h = after_none laws strings b s [] refl
 stable_after laws strings n less b s (c ∷ cs) h =
-    subst (λ ps. Relexes strings s (squeeze_tokens (Some b) ps)) (sym first) (by (is_trivia_lexeme x) refl)
+    subst (λ ps. Relexes strings s (squeeze_tokens (Some b) ps)) (sym first)
+        (by (is_trivia_lexeme x) refl)
   where
     u : List ℕ
     u = c ∷ cs
@@ -372,7 +397,8 @@ stable_after laws strings n less b s (c ∷ cs) h =
     more = b || list_any is_line_end (take k u)
 
     by : (d : Bool) → is_trivia_lexeme x ≡ d
-        → Relexes strings s (cond d (squeeze_tokens (Some more) rest) (prepend_separator (Some b) (first_text_token x u
+        → Relexes strings s (cond d (squeeze_tokens (Some more) rest)
+        (prepend_separator (Some b) (first_text_token x u
         ∷ squeeze_tokens None rest)))
     by true t = less.after more s u1 shorter
     by false t =
@@ -406,13 +432,15 @@ stable laws strings (suc n) = record {
 
 -- the tokens of the squeezed text are the squeezed tokens
 pub squeezed_tokens : LexerLaws → (strings : Strings) (text : List ℕ)
-    → text_tokens strings (squeezed_text strings text) ≡ squeeze_tokens None (text_tokens strings text)
+    → text_tokens strings (squeezed_text strings text)
+    ≡ squeeze_tokens None (text_tokens strings text)
 squeezed_tokens laws strings text =
     (stable laws strings (length text)).alone true text (omega arith)
 
 -- the tokens of the squeezed text are those of the text but for trivia
 pub keeps_tokens : LexerLaws → (strings : Strings) (text : List ℕ)
-    → without_trivia (text_tokens strings (squeezed_text strings text)) ≡ without_trivia (text_tokens strings text)
+    → without_trivia (text_tokens strings (squeezed_text strings text))
+    ≡ without_trivia (text_tokens strings text)
 keeps_tokens laws strings text = ap without_trivia (squeezed_tokens laws strings text)
     ∙ without_trivia_same None (text_tokens strings text)
 

@@ -1,5 +1,5 @@
--- Lists of tokens with their texts: how the first token of a text begins the list, and what squeezing
--- does to lists.
+-- Lists of tokens with their texts: how the first token of a text begins the list, and what
+-- squeezing does to lists.
 use Rattle.std.proofs.Common.{◌≡◌, ℕ, zero, suc, ◌-◌, ◌<◌, ◌≤◌, Bool, true, false, List, [], ◌∷◌, length, take, drop, Some, None, refl, ap, ◌∙◌, cond, arith}
 use Rattle.squawk_lexer.specs.declared.token.Strings.{Strings}
 use Rattle.squawk_lexer.specs.Kind.{Lexeme}
@@ -38,19 +38,24 @@ text_tokens_first more strings s (c ∷ cs) h =
 -- ---- lists of tokens
 
 -- separators are trivia, so squeezing keeps all other tokens
-without_trivia_separator : (run : TriviaRun) (ps : List TextToken) → without_trivia (prepend_separator run ps) ≡ without_trivia ps
+without_trivia_separator : (run : TriviaRun) (ps : List TextToken)
+    → without_trivia (prepend_separator run ps) ≡ without_trivia ps
 without_trivia_separator None ps = refl
 without_trivia_separator (Some b) ps = refl
 
-pub without_trivia_same : (run : TriviaRun) (ps : List TextToken) → without_trivia (squeeze_tokens run ps) ≡ without_trivia ps
+pub without_trivia_same : (run : TriviaRun) (ps : List TextToken)
+    → without_trivia (squeeze_tokens run ps) ≡ without_trivia ps
 without_trivia_same run [] = without_trivia_separator run []
 without_trivia_same run (p ∷ ps) =
-    by (is_trivia p.kind) refl (without_trivia_same (extend_run run p.text) ps) (without_trivia_same None ps)
+    by (is_trivia p.kind) refl (without_trivia_same (extend_run run p.text) ps)
+        (without_trivia_same None ps)
   where
-    by : (b : Bool) → is_trivia p.kind ≡ b → without_trivia (squeeze_tokens (extend_run run p.text) ps) ≡ without_trivia ps
+    by : (b : Bool) → is_trivia p.kind ≡ b
+        → without_trivia (squeeze_tokens (extend_run run p.text) ps) ≡ without_trivia ps
         → without_trivia (squeeze_tokens None ps) ≡ without_trivia ps
         → without_trivia (cond b (squeeze_tokens (extend_run run p.text) ps)
-        (prepend_separator run (p ∷ squeeze_tokens None ps))) ≡ cond b (without_trivia ps) (p ∷ without_trivia ps)
+        (prepend_separator run (p ∷ squeeze_tokens None ps)))
+            ≡ cond b (without_trivia ps) (p ∷ without_trivia ps)
     by true t more next = more
     by false t more next = without_trivia_separator run (p ∷ squeeze_tokens None ps)
         ∙ rw t (ap (λ qs. p ∷ qs) next)
@@ -66,19 +71,23 @@ pub squeeze_tokens_twice : (run : TriviaRun) (ps : List TextToken)
 squeeze_tokens_twice None [] = refl
 squeeze_tokens_twice (Some b) [] = ap (λ o. prepend_separator o []) (extend_by_separator b)
 squeeze_tokens_twice run (p ∷ ps) =
-    by (is_trivia p.kind) refl (squeeze_tokens_twice (extend_run run p.text) ps) (squeeze_tokens_twice None ps)
+    by (is_trivia p.kind) refl (squeeze_tokens_twice (extend_run run p.text) ps)
+        (squeeze_tokens_twice None ps)
   where
     next : (o : TriviaRun) → is_trivia p.kind ≡ false → squeeze_tokens None (squeeze_tokens None ps)
         ≡ squeeze_tokens None ps
-        → squeeze_tokens o (p ∷ squeeze_tokens None ps) ≡ prepend_separator o (p ∷ squeeze_tokens None ps)
+        → squeeze_tokens o (p ∷ squeeze_tokens None ps)
+        ≡ prepend_separator o (p ∷ squeeze_tokens None ps)
     next o t e = rw t (ap (λ qs. prepend_separator o (p ∷ qs)) e)
 
-    to_gap : (o : TriviaRun) → is_trivia p.kind ≡ false → squeeze_tokens None (squeeze_tokens None ps)
+    to_gap : (o : TriviaRun) → is_trivia p.kind ≡ false
+        → squeeze_tokens None (squeeze_tokens None ps)
         ≡ squeeze_tokens None ps
         → squeeze_tokens None (prepend_separator o (p ∷ squeeze_tokens None ps))
         ≡ prepend_separator o (p ∷ squeeze_tokens None ps)
     to_gap None t e = next None t e
-    to_gap (Some b) t e = ap (λ o. squeeze_tokens o (p ∷ squeeze_tokens None ps)) (extend_by_separator b)
+    to_gap (Some b) t e =
+        ap (λ o. squeeze_tokens o (p ∷ squeeze_tokens None ps)) (extend_by_separator b)
         ∙ next (Some b) t e
 
     by : (b : Bool) → is_trivia p.kind ≡ b

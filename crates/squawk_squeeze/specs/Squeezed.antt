@@ -29,7 +29,8 @@ text_tokens_from strings zero at_start (c ∷ cs) =
     text_token (lexeme_at strings at_start (c ∷ cs)).kind
     (take (lexeme_at strings at_start (c ∷ cs)).end (c ∷ cs))
     ∷ text_tokens_from strings ((lexeme_at strings at_start (c ∷ cs)).end - 1) false cs
-text_tokens_from strings (suc inside) at_start (c ∷ cs) = text_tokens_from strings inside at_start cs
+text_tokens_from strings (suc inside) at_start (c ∷ cs) =
+    text_tokens_from strings inside at_start cs
 
 -- the tokens of a text, with their texts
 abbrev pub text_tokens : Strings → List ℕ → List TextToken

@@ -9,7 +9,11 @@ use std::test::Fail;
 const STANDARD: &[(&str, &str, &str)] = &[
     ("empty text", "", ""),
     ("spaces", "select  1", "select 1"),
-    ("line comment and block comment", "select  1 -- one\n/* two */ from t;", "select 1\nfrom t;"),
+    (
+        "line comment and block comment",
+        "select  1 -- one\n/* two */ from t;",
+        "select 1\nfrom t;",
+    ),
     ("comment between operators", "-/*a*/-", "- -"),
     ("two byte order marks", "\u{feff}\u{feff}x", " \u{feff}x"),
     ("psql command", "\\echo a\r\n;", "\\echo a\n;"),

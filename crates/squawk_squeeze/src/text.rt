@@ -57,7 +57,8 @@ fn extend_run(run: Option<bool>, text: &str) -> Option<bool>
 
 // Appends the character that stands for a run of trivia, if there is a run.
 fn push_separator(out: &mut String, run: Option<bool>) -> Result<(), AllocError>
-    ensures { OnOk result (string_bytes out.new ≡ string_bytes out.old ++ spec.separator_bytes run) }
+    ensures { OnOk result (string_bytes out.new
+        ≡ string_bytes out.old ++ spec.separator_bytes run) }
 {
     match run {
         None => Ok(()),

@@ -9,5 +9,6 @@ use Rattle.squawk_quote.proofs.writers.push_escaped.Given as goal
 abbrev pub invariant-loop-c : goal.invariant-loop-c
 invariant-loop-c l =
     IsUtf8 (chars_rest l.c-iterator)
-    × (string_bytes l.out ++ encode_utf8_all (escape_quotes l.quote (chars (chars_rest l.c-iterator)))
+    × (string_bytes l.out
+    ++ encode_utf8_all (escape_quotes l.quote (chars (chars_rest l.c-iterator)))
     ≡ string_bytes l.fn.out ++ encode_utf8_all (escape_quotes l.quote (chars l.fn.value)))

@@ -3,8 +3,8 @@ use Rattle.std.proofs.lemmas.Str.{IsCharBoundary-start, IsUtf8-string_bytes}
 use Rattle.std.specs.Str.{chars, encode_utf8_all}
 use Rattle.std.specs.String.{string_bytes}
 use Rattle.squawk_squeeze.specs.Squeezed.{squeezed_rest, separator_bytes, squeezed_text, without_trivia, text_tokens}
-use Rattle.squawk_squeeze.proofs.SqueezeLaws.{LexerLaws, keeps_tokens, squeeze_idempotent}
-use Rattle.squawk_squeeze.proofs.SqueezeBytes.{rest_after_trivia, rest_after_token, result_chars, separator_bytes_len, separator_len_one, put_kept, put_len, put_last, part_len}
+use Rattle.squawk_squeeze.proofs.SqueezeLaws.{lexer_laws}
+use Rattle.squawk_squeeze.proofs.SqueezeBytes.{rest_after_trivia, rest_after_token, result_keeps_tokens, result_is_unchanged, separator_bytes_len, separator_len_one, put_kept, put_len, put_last, part_len}
 use Rattle.squawk_squeeze.proofs.text.squeeze.Goals as goal
 
 pub loop-at-init : goal.loop-at-init
@@ -60,7 +60,8 @@ loop-at-preserved c =
     let trivia = sym c.is_trivia.ensures ∙ c.if-is_trivia.false in
     let part_is : part ≡ take t.len (drop at text) = c.range-part.ensures.value
     ∙ ap (λ n. take n (drop at text)) (let e : at + t.len - at ≡ t.len = omega arith in e) in
-    let whole = rest_after_token c.tokens_progress.ensures.some c.args.strings text at t part c.utf8.text
+    let whole = rest_after_token c.tokens_progress.ensures.some c.args.strings text at t part
+        c.utf8.text
     c.loop-at.invariant.boundary c.loop-at-test.true
     c.cut_at_in-token.ensures.ends_between c.cut_at_in-token.ensures.positive
     c.cut_at_in-token.ensures.token part_is c.range-part.utf8 c.loop-at.run trivia in
@@ -89,40 +90,14 @@ returns-clause-text c =
 
 pub returns-clause-keeps_tokens : goal.returns-clause-keeps_tokens
 returns-clause-keeps_tokens c =
-    let laws : LexerLaws = record {
-      some = c.tokens_progress.ensures.some;
-      within =
-          c.tokens_progress.ensures.within;
-      looks = c.tokens_look_ahead.ensures.lexemes;
-      seen =
-          c.tokens_stay.ensures.seen;
-      stay = c.tokens_stay.ensures.near;
-      stay_before =
-          c.tokens_stay.ensures.before;
-    } in
-    let is = put_last c.args.strings c.args.text.now c.loop-at.at c.loop-at.run _
-    (string_bytes c.loop-at.out) _ c.in_ok-push_separator-2.ensures c.loop-at-test.false
-    c.loop-at.invariant.text in
-    let same = result_chars _ _ (IsUtf8-string_bytes c.push_separator-2.new.out) is in
-    ap (λ u. without_trivia (text_tokens c.args.strings u)) (sym same)
-    ∙ keeps_tokens laws c.args.strings (chars c.args.text.now)
+    result_keeps_tokens (lexer_laws c.tokens_progress.ensures.some c.tokens_progress.ensures.within
+    c.tokens_look_ahead.ensures.lexemes c.tokens_stay.ensures.seen c.tokens_stay.ensures.near
+    c.tokens_stay.ensures.before) c.args.strings c.args.text.now _
+    (IsUtf8-string_bytes c.push_separator-2.new.out) (returns-clause-text c)
 
 pub returns-clause-idempotent : goal.returns-clause-idempotent
 returns-clause-idempotent c =
-    let laws : LexerLaws = record {
-      some = c.tokens_progress.ensures.some;
-      within =
-          c.tokens_progress.ensures.within;
-      looks = c.tokens_look_ahead.ensures.lexemes;
-      seen =
-          c.tokens_stay.ensures.seen;
-      stay = c.tokens_stay.ensures.near;
-      stay_before =
-          c.tokens_stay.ensures.before;
-    } in
-    let is = put_last c.args.strings c.args.text.now c.loop-at.at c.loop-at.run _
-    (string_bytes c.loop-at.out) _ c.in_ok-push_separator-2.ensures c.loop-at-test.false
-    c.loop-at.invariant.text in
-    let same = result_chars _ _ (IsUtf8-string_bytes c.push_separator-2.new.out) is in
-    ap (squeezed_text c.args.strings) (sym same) ∙ squeeze_idempotent laws c.args.strings (chars c.args.text.now)
-    ∙ same
+    result_is_unchanged (lexer_laws c.tokens_progress.ensures.some c.tokens_progress.ensures.within
+    c.tokens_look_ahead.ensures.lexemes c.tokens_stay.ensures.seen c.tokens_stay.ensures.near
+    c.tokens_stay.ensures.before) c.args.strings c.args.text.now _
+    (IsUtf8-string_bytes c.push_separator-2.new.out) (returns-clause-text c)
