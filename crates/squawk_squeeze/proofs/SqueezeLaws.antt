@@ -1,5 +1,5 @@
 -- Squeezing keeps every token but trivia, and squeezing twice is squeezing once.
-use Rattle.std.proofs.Common.{◌≡◌, ℕ, zero, suc, ◌+◌, ◌-◌, ◌<◌, ◌≤◌, Bool, true, false, List, [], ◌∷◌, ◌++◌, length, get_or, take, drop, Some, None, length-drop, length-append, append_assoc, refl, sym, ap, subst, ◌∙◌, inl, inr, ◌⊎◌, ◌&&◌, ◌||◌, cond, arith}
+use Rattle.std.proofs.Common.{◌≡◌, ℕ, zero, suc, ◌+◌, ◌<◌, ◌≤◌, Bool, true, false, List, [], ◌∷◌, ◌++◌, length, get_or, take, drop, Some, None, length-drop, length-append, append_assoc, refl, sym, ap, subst, ◌∙◌, inl, inr, ◌⊎◌, ◌&&◌, ◌||◌, cond, arith}
 use Rattle.std.proofs.lemmas.Bool.{cases_lt, false≢true}
 use Rattle.std.proofs.lemmas.Bool.Decides.{nat_tests}
 use Rattle.std.proofs.lemmas.List.{take-append-drop, take-append-le, take-take, drop-drop, get_or-drop, length-take-le}
@@ -14,7 +14,7 @@ use Rattle.squawk_lexer.specs.Cut.{is_trivia}
 use Rattle.squawk_lexer.specs.Laws.{TokensProgress, TokensWithin}
 use Rattle.squawk_lexer.specs.LookAhead.{Agrees, LexemesLookAhead}
 use Rattle.squawk_lexer.specs.Gaps.{begins_gap, GapsAreSeen, IsGap, TokensStay, TokensStayBefore}
-use Rattle.squawk_squeeze.specs.Squeezed.{TextToken, text_token, text_tokens_from, text_tokens, without_trivia, TriviaRun, extend_run, separator, prepend_separator, squeeze_tokens, text_of, squeezed_text}
+use Rattle.squawk_squeeze.specs.Squeezed.{TextToken, text_token, text_tokens_from, text_tokens, without_trivia, extend_run, separator, prepend_separator, squeeze_tokens, text_of, squeezed_text}
 use Rattle.squawk_squeeze.proofs.TokenLists.{first_text_token, text_tokens_first, without_trivia_same, squeeze_tokens_twice}
 
 -- the laws of the lexer that the proof uses
@@ -132,7 +132,7 @@ first_token_or_separator laws strings u some = by (is_trivia_lexeme x) refl
           subst (BeginsWithSeparator (is_line_end (get_or u 0 0))) (sym is)
               (weaken (is_line_end (get_or u 0 0)) b _
               (first_in u x.end (laws.some strings false u some))
-                  (run_begins_with_separator b rest)),
+              (run_begins_with_separator b rest)),
         )
     by false t = inl (t, ap (λ ps. text_of (squeeze_tokens None ps)) first ∙ rw t refl)
 
@@ -204,7 +204,7 @@ token_stays laws strings s u some t = by (cases_lt 0 (length u1))
             let less : n ≤ length u2 = laws.within strings false u2 more in
             looks (1 + n) (squeezed_tail strings (drop n u2)) (omega arith) (omega (arith, long))
             (e ∙ append_next 1 n u1 (squeezed_tail strings (drop n u2)) (squeezed_tail strings u2)
-                is)
+            is)
         of (inr (gapped, g)) more =
             let here : begins_gap (drop (k + 1) u) ≡ true = ap begins_gap (sym (drop-drop 1 k u))
             ∙ sym (laws.seen strings u2) ∙ gapped in
@@ -305,7 +305,7 @@ stable_alone : LexerLaws → (strings : Strings) (n : ℕ) → IsStable strings 
 stable_alone laws strings n less s [] h = refl
 stable_alone laws strings n less s (c ∷ cs) h =
     subst (λ ps. Relexes strings s (squeeze_tokens None ps)) (sym first)
-        (by (is_trivia_lexeme x) refl)
+    (by (is_trivia_lexeme x) refl)
   where
     u : List ℕ
     u = c ∷ cs
@@ -364,7 +364,7 @@ stable_after : LexerLaws → (strings : Strings) (n : ℕ) → IsStable strings 
 stable_after laws strings n less b s [] h = after_none laws strings b s [] refl
 stable_after laws strings n less b s (c ∷ cs) h =
     subst (λ ps. Relexes strings s (squeeze_tokens (Some b) ps)) (sym first)
-        (by (is_trivia_lexeme x) refl)
+    (by (is_trivia_lexeme x) refl)
   where
     u : List ℕ
     u = c ∷ cs

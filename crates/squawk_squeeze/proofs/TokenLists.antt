@@ -48,14 +48,14 @@ pub without_trivia_same : (run : TriviaRun) (ps : List TextToken)
 without_trivia_same run [] = without_trivia_separator run []
 without_trivia_same run (p ∷ ps) =
     by (is_trivia p.kind) refl (without_trivia_same (extend_run run p.text) ps)
-        (without_trivia_same None ps)
+    (without_trivia_same None ps)
   where
     by : (b : Bool) → is_trivia p.kind ≡ b
         → without_trivia (squeeze_tokens (extend_run run p.text) ps) ≡ without_trivia ps
         → without_trivia (squeeze_tokens None ps) ≡ without_trivia ps
         → without_trivia (cond b (squeeze_tokens (extend_run run p.text) ps)
         (prepend_separator run (p ∷ squeeze_tokens None ps)))
-            ≡ cond b (without_trivia ps) (p ∷ without_trivia ps)
+        ≡ cond b (without_trivia ps) (p ∷ without_trivia ps)
     by true t more next = more
     by false t more next = without_trivia_separator run (p ∷ squeeze_tokens None ps)
         ∙ rw t (ap (λ qs. p ∷ qs) next)
@@ -72,7 +72,7 @@ squeeze_tokens_twice None [] = refl
 squeeze_tokens_twice (Some b) [] = ap (λ o. prepend_separator o []) (extend_by_separator b)
 squeeze_tokens_twice run (p ∷ ps) =
     by (is_trivia p.kind) refl (squeeze_tokens_twice (extend_run run p.text) ps)
-        (squeeze_tokens_twice None ps)
+    (squeeze_tokens_twice None ps)
   where
     next : (o : TriviaRun) → is_trivia p.kind ≡ false → squeeze_tokens None (squeeze_tokens None ps)
         ≡ squeeze_tokens None ps

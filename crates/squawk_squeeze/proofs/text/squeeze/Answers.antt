@@ -1,8 +1,8 @@
 use Rattle.std.proofs.Common.{◌≡◌, ◌++◌, ◌+◌, ◌-◌, ℕ, List, length, take, drop, None, refl, sym, ap, ◌∙◌, arith}
 use Rattle.std.proofs.lemmas.Str.{IsCharBoundary-start, IsUtf8-string_bytes}
-use Rattle.std.specs.Str.{chars, encode_utf8_all}
+use Rattle.std.specs.Str.{encode_utf8_all}
 use Rattle.std.specs.String.{string_bytes}
-use Rattle.squawk_squeeze.specs.Squeezed.{squeezed_rest, separator_bytes, squeezed_text, without_trivia, text_tokens}
+use Rattle.squawk_squeeze.specs.Squeezed.{squeezed_rest, separator_bytes}
 use Rattle.squawk_squeeze.proofs.SqueezeLaws.{lexer_laws}
 use Rattle.squawk_squeeze.proofs.SqueezeBytes.{rest_after_trivia, rest_after_token, result_keeps_tokens, result_is_unchanged, separator_bytes_len, separator_len_one, put_kept, put_len, put_last, part_len}
 use Rattle.squawk_squeeze.proofs.text.squeeze.Goals as goal
@@ -61,7 +61,7 @@ loop-at-preserved c =
     let part_is : part ≡ take t.len (drop at text) = c.range-part.ensures.value
     ∙ ap (λ n. take n (drop at text)) (let e : at + t.len - at ≡ t.len = omega arith in e) in
     let whole = rest_after_token c.tokens_progress.ensures.some c.args.strings text at t part
-        c.utf8.text
+    c.utf8.text
     c.loop-at.invariant.boundary c.loop-at-test.true
     c.cut_at_in-token.ensures.ends_between c.cut_at_in-token.ensures.positive
     c.cut_at_in-token.ensures.token part_is c.range-part.utf8 c.loop-at.run trivia in
