@@ -67,7 +67,7 @@ data_ends_at_first_marker (c ∷ cs) zero n l never =
 data_ends_at_first_marker (c ∷ cs) (suc k) n l never =
     let none : marker_after c cs ≡ None = no_marker_here c cs (λ m x. never 0 m (omega arith) x) in
     let rest : copy_data_len cs ≡ k + 1 + n =
-        data_ends_at_first_marker cs k n (later_marker_is_in_tail c cs k n l) (λ j m less x.
+    data_ends_at_first_marker cs k n (later_marker_is_in_tail c cs k n l) (λ j m less x.
     never (suc j) m (omega arith) (marker_in_tail_is_later c cs j m x)) in
     ap (λ o. 1 + unwrap_or o (copy_data_len cs)) none ∙ omega (arith, rest)
 

@@ -1,6 +1,6 @@
 -- The statements that data of COPY follows in a script. Kinds are those of a statement's tokens,
 -- without trivia.
-use Rattle.std.specs.Prelude.{◌≡◌, ℕ, zero, suc, ◌+◌, ◌-◌, ◌<◌, Bool, true, false, ◌&&◌, ◌||◌, ◌==◌, List, [], ◌∷◌, ◌++◌, length, take, slice_index, if◌then◌else◌}
+use Rattle.std.specs.Prelude.{◌≡◌, ℕ, zero, suc, ◌+◌, ◌-◌, Bool, true, false, ◌&&◌, ◌||◌, ◌==◌, List, [], ◌∷◌, ◌++◌, length, take, slice_index, if◌then◌else◌}
 use Rattle.squawk_kinds.specs.declared.numbers.TheConstants.Number as kind
 
 -- the number of open parentheses after one more kind; one that closes none changes nothing
