@@ -9,34 +9,34 @@ use Rattle.squawk_lexer.specs.declared.token.LiteralKind.TheVariants.{DollarQuot
 use Rattle.squawk_lexer.specs.declared.token.TokenKind.TheVariants as kinds
 use Rattle.squawk_lexer.specs.declared.token.Strings.TheVariants.{Standard}
 use Rattle.squawk_lexer.specs.Kind.{Lexeme, literal_until}
-use Rattle.squawk_lexer.specs.Classes.{is_tag_cont}
+use Rattle.squawk_lexer.specs.Classes.{is_tag_cont, dollar_sign}
 use Rattle.squawk_lexer.specs.Quoted.{end_or_text_end}
 use Rattle.squawk_lexer.specs.Dollar.{find_end, tag_end, is_dollar_quote_start, delimiter_end, dollar_string, dollar}
 use Rattle.squawk_lexer.specs.Dollar.{delimiter as opening_delimiter}
 use Rattle.squawk_lexer.specs.Token.{token_form, lexeme_at}
-use Rattle.squawk_quote.specs.Values.{tag_then, delimiter_of, is_found_at, delimiter_fits, first_fitting_tag, shortest_tag, dollar_quoted, dollar_constant, strip_ends, value_of_kind, value_of_tokens, value_of, IsOneToken}
+use Rattle.squawk_quote.specs.Values.{letter_q, tag_then, delimiter_of, is_found_at, delimiter_fits, first_fitting_tag, shortest_tag, dollar_quoted, dollar_constant, strip_ends, value_of_kind, value_of_tokens, value_of, IsOneToken}
 use Rattle.squawk_quote.proofs.QuotedLaws.{one_token, token_is}
 
 -- ---- the characters of a delimiter
 
 tag_append : (n : ℕ) (r s : List ℕ) → tag_then n r ++ s ≡ tag_then n (r ++ s)
 tag_append zero r s = refl
-tag_append (suc n) r s = ap (λ w. 113 ∷ w) (tag_append n r s)
+tag_append (suc n) r s = ap (λ w. letter_q ∷ w) (tag_append n r s)
 
 tag_chars_len : (n : ℕ) (r : List ℕ) → length (tag_then n r) ≡ n + length r
 tag_chars_len zero r = omega arith
 tag_chars_len (suc n) r = let e = tag_chars_len n r in omega (arith, e)
 
-tag_run : (n : ℕ) (r : List ℕ) → prefix_len is_tag_cont (tag_then n (36 ∷ r)) ≡ n
+tag_run : (n : ℕ) (r : List ℕ) → prefix_len is_tag_cont (tag_then n (dollar_sign ∷ r)) ≡ n
 tag_run zero r = refl
 tag_run (suc n) r = ap (λ m. 1 + m) (tag_run n r) ∙ omega arith
 
-tag_next : (n : ℕ) (r : List ℕ) → get_or (tag_then n (36 ∷ r)) n 0 ≡ 36
+tag_next : (n : ℕ) (r : List ℕ) → get_or (tag_then n (dollar_sign ∷ r)) n 0 ≡ dollar_sign
 tag_next zero r = refl
 tag_next (suc n) r = tag_next n r
 
 delimiter_of_len : (n : ℕ) → length (delimiter_of n) ≡ n + 2
-delimiter_of_len n = let e = tag_chars_len n (36 ∷ []) in omega (arith, e)
+delimiter_of_len n = let e = tag_chars_len n (dollar_sign ∷ []) in omega (arith, e)
 
 -- ---- a tag longer than the value fits
 
@@ -50,10 +50,10 @@ and_false true = refl
 and_false false = refl
 
 clash : (cs y z : List ℕ) (m : ℕ) → length cs < m
-    → starts_with nat_eq (cs ++ 36 ∷ y) (tag_then m z) ≡ false
+    → starts_with nat_eq (cs ++ dollar_sign ∷ y) (tag_then m z) ≡ false
 clash cs y z zero h = absurd (omega arith)
 clash [] y z (suc m) h = refl
-clash (d ∷ ds) y z (suc m) h = rw (clash ds y z m (omega arith)) (and_false (nat_eq 113 d))
+clash (d ∷ ds) y z (suc m) h = rw (clash ds y z m (omega arith)) (and_false (nat_eq letter_q d))
 
 pub find_self : (m : ℕ) → find_end (delimiter_of m) (delimiter_of m)
     ≡ Some (length (delimiter_of m))
@@ -70,7 +70,8 @@ long_found m [] h = find_self m
     omega arith in e)
 long_found m (c ∷ cs) h =
     let none : starts_with nat_eq (c ∷ cs ++ delimiter_of m) (delimiter_of m) ≡ false =
-    rw (clash cs (tag_then m (36 ∷ [])) (36 ∷ []) m (omega arith)) (and_false (nat_eq 36 c)) in
+    rw (clash cs (tag_then m (dollar_sign ∷ [])) (dollar_sign ∷ []) m (omega arith))
+        (and_false (nat_eq dollar_sign c)) in
     let sum : length cs + length (delimiter_of m) + 1 ≡ length (c ∷ cs) + length (delimiter_of m) =
     omega arith in
     rw (none, long_found m cs (omega arith)) (ap Some sum)
@@ -128,10 +129,11 @@ found_at None n h = absurd (false≢true h)
 found_at (Some m) n h = ap Some (let e : m ≡ n = grind (arith, nat_tests) in e)
 
 -- the text begins with `$`, the tag and `$`, and the lexer reads it so
-begins : (n : ℕ) (v : List ℕ) → dollar_quoted n v ≡ 36 ∷ tag_then n (36 ∷ (v ++ delimiter_of n))
-begins n v = ap (λ w. 36 ∷ w) (tag_append n (36 ∷ []) (v ++ delimiter_of n))
+begins : (n : ℕ) (v : List ℕ) → dollar_quoted n v
+    ≡ dollar_sign ∷ tag_then n (dollar_sign ∷ (v ++ delimiter_of n))
+begins n v = ap (λ w. dollar_sign ∷ w) (tag_append n (dollar_sign ∷ []) (v ++ delimiter_of n))
 
-tag_of : (n : ℕ) (r : List ℕ) → tag_end (36 ∷ tag_then n (36 ∷ r)) ≡ n + 1
+tag_of : (n : ℕ) (r : List ℕ) → tag_end (dollar_sign ∷ tag_then n (dollar_sign ∷ r)) ≡ n + 1
 tag_of zero r = refl
 tag_of (suc n) r = ap (λ m. 1 + m) (tag_run (suc n) r) ∙ omega arith
 
@@ -140,10 +142,13 @@ tag_at n v = ap tag_end (begins n v) ∙ tag_of n (v ++ delimiter_of n)
 
 opens_at : (n : ℕ) (v : List ℕ) → is_dollar_quote_start (dollar_quoted n v) ≡ true
 opens_at n v =
-    let here : get_or (dollar_quoted n v) (n + 1) 0 ≡ 36 = ap (λ w. get_or w (n + 1) 0) (begins n v)
-    ∙ ap (λ m. get_or (36 ∷ tag_then n (36 ∷ (v ++ delimiter_of n))) m 0) (let e : n + 1 ≡ suc n =
+    let here : get_or (dollar_quoted n v) (n + 1) 0 ≡ dollar_sign =
+        ap (λ w. get_or w (n + 1) 0) (begins n v)
+    ∙ ap (λ m. get_or (dollar_sign ∷ tag_then n (dollar_sign ∷ (v ++ delimiter_of n))) m 0)
+    (let e : n + 1 ≡ suc n =
     omega arith in e) ∙ tag_next n (v ++ delimiter_of n) in
-    ap (λ m. eqb (get_or (dollar_quoted n v) m 0) 36) (tag_at n v) ∙ ap (λ c. eqb c 36) here
+    ap (λ m. eqb (get_or (dollar_quoted n v) m 0) dollar_sign) (tag_at n v)
+        ∙ ap (λ c. eqb c dollar_sign) here
 
 front : (n : ℕ) (v : List ℕ) → tag_end (dollar_quoted n v) + 1 ≡ length (delimiter_of n)
 front n v = omega (arith, tag_at n v, delimiter_of_len n)
@@ -185,7 +190,7 @@ dollar_lexeme n v t =
     (end_or_text_end u (tag_end u + 1) (delimiter_end u))) (closing_at n v t)
     ∙ ap (literal_until (DollarQuotedString true)) end
 
-starts_dollar : (u : List ℕ) → get_or u 0 0 ≡ 36 → lexeme_at Standard true u ≡ dollar u
+starts_dollar : (u : List ℕ) → get_or u 0 0 ≡ dollar_sign → lexeme_at Standard true u ≡ dollar u
 unfolding token_form
 starts_dollar u e = rw e refl
 
@@ -209,7 +214,8 @@ pub dollar_value : (v : List ℕ) → value_of (dollar_constant v) ≡ Some v
 dollar_value v =
     let n = shortest_tag v in
     let is = dollar_token n v (tag_fits v) in
-    ap (λ ts. value_of_tokens ts (dollar_constant v)) (one_token Standard 36 (tag_then n (36 ∷ [])
+    ap (λ ts. value_of_tokens ts (dollar_constant v))
+        (one_token Standard dollar_sign (tag_then n (dollar_sign ∷ [])
     ++ (v ++ delimiter_of n)) (ap (λ (x : Lexeme). x.end) is))
     ∙ ap (λ (x : Lexeme). value_of_kind x.kind (dollar_constant v)) is
     ∙ ap Some (strip_dollar n v)
@@ -218,6 +224,6 @@ pub dollar_is_token : (v : List ℕ)
     → IsOneToken (kinds.Literal (DollarQuotedString true)) (dollar_constant v)
 dollar_is_token v =
     let n = shortest_tag v in
-    token_is 36 (tag_then n (36 ∷ []) ++ (v ++ delimiter_of n))
+    token_is dollar_sign (tag_then n (dollar_sign ∷ []) ++ (v ++ delimiter_of n))
     (literal_until (DollarQuotedString true) (length (dollar_constant v)))
     (dollar_token n v (tag_fits v)) refl

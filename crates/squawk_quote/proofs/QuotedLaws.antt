@@ -7,6 +7,7 @@ use Rattle.squawk_lexer.specs.declared.token.LiteralKind.TheVariants.{Str}
 use Rattle.squawk_lexer.specs.declared.token.Strings.{Strings}
 use Rattle.squawk_lexer.specs.declared.token.Strings.TheVariants.{Standard}
 use Rattle.squawk_lexer.specs.Kind.{Lexeme, lexeme_until, literal_until}
+use Rattle.squawk_lexer.specs.Classes.{apostrophe, quotation_mark}
 use Rattle.squawk_lexer.specs.Quoted.{quoted_len}
 use Rattle.squawk_lexer.specs.Text.{utf8_len}
 use Rattle.squawk_lexer.specs.Token.{token_form, lexeme_at, token_at}
@@ -85,37 +86,39 @@ pub string_lexeme : (v : List ℕ) → lexeme_at Standard true (string_constant 
     ≡ literal_until (Str true) (length (string_constant v))
 unfolding token_form
 string_lexeme v =
-    rw (escaped_len 39 v)
-        (ap (literal_until (Str true)) (let e : 1 + (length (escape_quotes 39 v) + 1)
+    rw (escaped_len apostrophe v)
+        (ap (literal_until (Str true)) (let e : 1 + (length (escape_quotes apostrophe v) + 1)
     ≡ length (string_constant v) =
-    omega (arith, length-append (escape_quotes 39 v) (39 ∷ [])) in e))
+    omega (arith, length-append (escape_quotes apostrophe v) (apostrophe ∷ [])) in e))
 
 pub ident_lexeme : (v : List ℕ) → lexeme_at Standard true (quoted_identifier v)
     ≡ lexeme_until (kinds.QuotedIdent true false) (length (quoted_identifier v))
 unfolding token_form
 ident_lexeme v =
-    rw (escaped_len 34 v) (ap (lexeme_until (kinds.QuotedIdent true false))
-    (let e : 1 + (length (escape_quotes 34 v) + 1) ≡ length (quoted_identifier v) =
-    omega (arith, length-append (escape_quotes 34 v) (34 ∷ [])) in e))
+    rw (escaped_len quotation_mark v) (ap (lexeme_until (kinds.QuotedIdent true false))
+    (let e : 1 + (length (escape_quotes quotation_mark v) + 1) ≡ length (quoted_identifier v) =
+    omega (arith, length-append (escape_quotes quotation_mark v) (quotation_mark ∷ [])) in e))
 
 -- its value is the one that was quoted
 pub string_value : (v : List ℕ) → value_of (string_constant v) ≡ Some v
 string_value v =
     ap (λ ts. value_of_tokens ts (string_constant v))
-        (one_token Standard 39 (escape_quotes 39 v ++ 39
+        (one_token Standard apostrophe (escape_quotes apostrophe v ++ apostrophe
     ∷ []) (ap (λ (x : Lexeme). x.end) (string_lexeme v)))
     ∙ ap (λ (x : Lexeme). value_of_kind x.kind (string_constant v)) (string_lexeme v)
-    ∙ ap (λ w. Some (unescape_quotes 39 w)) (strip_quoted 39 (escape_quotes 39 v))
-    ∙ ap Some (unescape_escape 39 v)
+    ∙ ap (λ w. Some (unescape_quotes apostrophe w))
+    (strip_quoted apostrophe (escape_quotes apostrophe v))
+    ∙ ap Some (unescape_escape apostrophe v)
 
 pub ident_value : (v : List ℕ) → value_of (quoted_identifier v) ≡ Some v
 ident_value v =
     ap (λ ts. value_of_tokens ts (quoted_identifier v))
-        (one_token Standard 34 (escape_quotes 34 v ++ 34
+        (one_token Standard quotation_mark (escape_quotes quotation_mark v ++ quotation_mark
     ∷ []) (ap (λ (x : Lexeme). x.end) (ident_lexeme v)))
     ∙ ap (λ (x : Lexeme). value_of_kind x.kind (quoted_identifier v)) (ident_lexeme v)
-    ∙ ap (λ w. Some (unescape_quotes 34 w)) (strip_quoted 34 (escape_quotes 34 v))
-    ∙ ap Some (unescape_escape 34 v)
+    ∙ ap (λ w. Some (unescape_quotes quotation_mark w))
+    (strip_quoted quotation_mark (escape_quotes quotation_mark v))
+    ∙ ap Some (unescape_escape quotation_mark v)
 
 -- a text that is one lexeme is one token of its kind
 pub token_is : (c : ℕ) (cs : List ℕ) (x : Lexeme) → lexeme_at Standard true (c ∷ cs) ≡ x
@@ -127,10 +130,10 @@ token_is c cs x e len =
     ∙ ap (λ w. record { kind = x.kind; len = utf8_len w } ∷ []) (take-length (c ∷ cs))
 
 pub string_token : (v : List ℕ) → IsOneToken (kinds.Literal (Str true)) (string_constant v)
-string_token v = token_is 39 (escape_quotes 39 v ++ 39
+string_token v = token_is apostrophe (escape_quotes apostrophe v ++ apostrophe
     ∷ []) (literal_until (Str true) (length (string_constant v))) (string_lexeme v) refl
 
 pub ident_token : (v : List ℕ) → IsOneToken (kinds.QuotedIdent true false) (quoted_identifier v)
-ident_token v = token_is 34 (escape_quotes 34 v ++ 34
+ident_token v = token_is quotation_mark (escape_quotes quotation_mark v ++ quotation_mark
     ∷ []) (lexeme_until (kinds.QuotedIdent true false) (length (quoted_identifier v)))
     (ident_lexeme v) refl

@@ -3,18 +3,19 @@ use Rattle.std.proofs.Common.{◌≡◌, ◌⊎◌, inl, inr, ℕ, zero, suc, �
 use Rattle.std.proofs.lemmas.Bool.{cases_eq}
 use Rattle.std.proofs.lemmas.Bool.Decides.{nat_tests}
 use Rattle.std.specs.List.{starts_with}
+use Rattle.squawk_lexer.specs.Classes.{dollar_sign}
 use Rattle.squawk_lexer.specs.Dollar.{find_end}
-use Rattle.squawk_quote.specs.Values.{tag_then, delimiter_of, is_found_at, delimiter_fits, has_tag}
+use Rattle.squawk_quote.specs.Values.{letter_q, tag_then, delimiter_of, is_found_at, delimiter_fits, has_tag}
 use Rattle.squawk_quote.proofs.DollarLaws.{find_self}
 
 -- whether v, with the delimiter of n after it, begins with m letters `q` and a `$`
 abbrev rest_here : ℕ → ℕ → List ℕ → Bool
-rest_here n m v = starts_with nat_eq (v ++ delimiter_of n) (tag_then m (36 ∷ []))
+rest_here n m v = starts_with nat_eq (v ++ delimiter_of n) (tag_then m (dollar_sign ∷ []))
 
 -- whether the delimiter of n, put after v, occurs before its own position
 abbrev stands : ℕ → List ℕ → Bool
 stands n [] = false
-stands n (c ∷ cs) = (eqb 36 c && rest_here n n cs) || stands n cs
+stands n (c ∷ cs) = (eqb dollar_sign c && rest_here n n cs) || stands n cs
 
 -- what `has_tag` says of v after a run of k letters that lacks m letters of the tag, after a run
 -- longer than the tag, and after none
@@ -44,7 +45,7 @@ runs_none n = record { open_run = at_end; past_run = λ k h. other_than k n h; n
     at_end k (suc m) e = more_than k n (omega arith)
 
 -- after a `$`
-after_dollar : (n : ℕ) (cs : List ℕ) → Runs n cs → Runs n (36 ∷ cs)
+after_dollar : (n : ℕ) (cs : List ℕ) → Runs n cs → Runs n (dollar_sign ∷ cs)
 after_dollar n cs r = record {
   open_run = here;
   past_run = λ k h.
@@ -55,14 +56,14 @@ after_dollar n cs r = record {
     begun : has_tag n (Some 0) cs ≡ (rest_here n n cs || stands n cs)
     begun = r.open_run 0 n (omega arith)
 
-    here : (k m : ℕ) → n ≡ k + m → has_tag n (Some k) (36 ∷ cs)
-        ≡ (rest_here n m (36 ∷ cs) || stands n (36 ∷ cs))
+    here : (k m : ℕ) → n ≡ k + m → has_tag n (Some k) (dollar_sign ∷ cs)
+        ≡ (rest_here n m (dollar_sign ∷ cs) || stands n (dollar_sign ∷ cs))
     here k zero e = let t : eqb n k ≡ true = rw (let is : n ≡ k = omega arith in is) (self k) in
         rw t refl
     here k (suc m) e = rw (more_than k n (omega arith)) begun
 
 -- after a letter of the tag
-after_letter : (n : ℕ) (cs : List ℕ) → Runs n cs → Runs n (113 ∷ cs)
+after_letter : (n : ℕ) (cs : List ℕ) → Runs n cs → Runs n (letter_q ∷ cs)
 after_letter n cs r = record {
   open_run = here;
   past_run = λ k h.
@@ -70,13 +71,14 @@ after_letter n cs r = record {
   no_run = r.no_run;
 }
   where
-    here : (k m : ℕ) → n ≡ k + m → has_tag n (Some k) (113 ∷ cs)
-        ≡ (rest_here n m (113 ∷ cs) || stands n (113 ∷ cs))
+    here : (k m : ℕ) → n ≡ k + m → has_tag n (Some k) (letter_q ∷ cs)
+        ≡ (rest_here n m (letter_q ∷ cs) || stands n (letter_q ∷ cs))
     here k zero e = r.past_run (k + 1) (omega arith)
     here k (suc m) e = r.open_run (k + 1) m (omega arith)
 
 -- after any other character
-after_other : (n c : ℕ) (cs : List ℕ) → eqb c 36 ≡ false → eqb c 113 ≡ false → Runs n cs
+after_other : (n c : ℕ) (cs : List ℕ) → eqb c dollar_sign ≡ false → eqb c letter_q ≡ false
+    → Runs n cs
     → Runs n (c ∷ cs)
 after_other n c cs d q r = record {
   open_run = here;
@@ -85,10 +87,10 @@ after_other n c cs d q r = record {
   no_run = rw (d, dollar) r.no_run;
 }
   where
-    dollar : eqb 36 c ≡ false
+    dollar : eqb dollar_sign c ≡ false
     dollar = grind (arith, nat_tests)
 
-    letter : eqb 113 c ≡ false
+    letter : eqb letter_q c ≡ false
     letter = grind (arith, nat_tests)
 
     here : (k m : ℕ) → n ≡ k + m → has_tag n (Some k) (c ∷ cs)
@@ -98,13 +100,15 @@ after_other n c cs d q r = record {
 
 runs : (n : ℕ) (v : List ℕ) → Runs n v
 runs n [] = runs_none n
-runs n (c ∷ cs) = by (runs n cs) (cases_eq c 36) (cases_eq c 113)
+runs n (c ∷ cs) = by (runs n cs) (cases_eq c dollar_sign) (cases_eq c letter_q)
   where
-    by : Runs n cs → (c ≡ 36) ⊎ (c ≡ 36 → ⊥) → (c ≡ 113) ⊎ (c ≡ 113 → ⊥) → Runs n (c ∷ cs)
+    by : Runs n cs → (c ≡ dollar_sign) ⊎ (c ≡ dollar_sign → ⊥) → (c ≡ letter_q) ⊎ (c ≡ letter_q → ⊥)
+        → Runs n (c ∷ cs)
     by r (inl is) q = subst (λ x. Runs n (x ∷ cs)) (sym is) (after_dollar n cs r)
     by r (inr d) (inl is) = subst (λ x. Runs n (x ∷ cs)) (sym is) (after_letter n cs r)
-    by r (inr d) (inr q) = after_other n c cs (let e : eqb c 36 ≡ false = grind (arith, nat_tests)
-        in e) (let e : eqb c 113 ≡ false = grind (arith, nat_tests) in e) r
+    by r (inr d) (inr q) =
+        after_other n c cs (let e : eqb c dollar_sign ≡ false = grind (arith, nat_tests)
+        in e) (let e : eqb c letter_q ≡ false = grind (arith, nat_tests) in e) r
 
 -- ---- where the delimiter is found
 
@@ -122,12 +126,14 @@ fits_unless_found : (n : ℕ) (v : List ℕ) → delimiter_fits v n ≡ not (sta
 fits_unless_found n [] =
     rw (find_self n) (ap (eqb (length (delimiter_of n))) (let e : 0 + length (delimiter_of n)
     ≡ length (delimiter_of n) = omega arith in e) ∙ self (length (delimiter_of n)))
-fits_unless_found n (c ∷ cs) = by (eqb 36 c && rest_here n n cs) refl (fits_unless_found n cs)
+fits_unless_found n (c ∷ cs) =
+    by (eqb dollar_sign c && rest_here n n cs) refl (fits_unless_found n cs)
   where
     d : List ℕ
     d = delimiter_of n
 
-    by : (b : Bool) → (eqb 36 c && rest_here n n cs) ≡ b → delimiter_fits cs n ≡ not (stands n cs)
+    by : (b : Bool) → (eqb dollar_sign c && rest_here n n cs) ≡ b → delimiter_fits cs n
+        ≡ not (stands n cs)
         → is_found_at (cond b (Some (length d)) (option_map (λ m. m + 1) (find_end d (cs ++ d))))
         (length (c ∷ cs) + length d) ≡ not (b || stands n cs)
     by true t e = other_than (length (c ∷ cs) + length d) (length d) (omega arith)

@@ -143,9 +143,9 @@ abbrev pub TagRun : Type 0
 TagRun = Option ℕ
 
 -- the run after one more character
-abbrev pub extend_run : TagRun → ℕ → TagRun
-extend_run None c = if c == dollar_sign then Some 0 else None
-extend_run (Some n) c =
+abbrev pub extend_tag_run : TagRun → ℕ → TagRun
+extend_tag_run None c = if c == dollar_sign then Some 0 else None
+extend_tag_run (Some n) c =
     if c == dollar_sign then Some 0 else if c == letter_q then Some (n + 1) else None
 
 -- whether the run is a tag of n letters
@@ -156,4 +156,5 @@ is_run_of n (Some m) = n == m
 -- whether a tag of n letters stands between two `$` of the value, or after a `$` at its end
 abbrev pub has_tag : ℕ → TagRun → List ℕ → Bool
 has_tag n run [] = is_run_of n run
-has_tag n run (c ∷ cs) = (c == dollar_sign && is_run_of n run) || has_tag n (extend_run run c) cs
+has_tag n run (c ∷ cs) =
+    (c == dollar_sign && is_run_of n run) || has_tag n (extend_tag_run run c) cs
