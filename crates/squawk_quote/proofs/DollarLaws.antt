@@ -71,7 +71,7 @@ long_found m [] h = find_self m
 long_found m (c ∷ cs) h =
     let none : starts_with nat_eq (c ∷ cs ++ delimiter_of m) (delimiter_of m) ≡ false =
     rw (clash cs (tag_then m (dollar_sign ∷ [])) (dollar_sign ∷ []) m (omega arith))
-        (and_false (nat_eq dollar_sign c)) in
+    (and_false (nat_eq dollar_sign c)) in
     let sum : length cs + length (delimiter_of m) + 1 ≡ length (c ∷ cs) + length (delimiter_of m) =
     omega arith in
     rw (none, long_found m cs (omega arith)) (ap Some sum)
@@ -143,12 +143,12 @@ tag_at n v = ap tag_end (begins n v) ∙ tag_of n (v ++ delimiter_of n)
 opens_at : (n : ℕ) (v : List ℕ) → is_dollar_quote_start (dollar_quoted n v) ≡ true
 opens_at n v =
     let here : get_or (dollar_quoted n v) (n + 1) 0 ≡ dollar_sign =
-        ap (λ w. get_or w (n + 1) 0) (begins n v)
+    ap (λ w. get_or w (n + 1) 0) (begins n v)
     ∙ ap (λ m. get_or (dollar_sign ∷ tag_then n (dollar_sign ∷ (v ++ delimiter_of n))) m 0)
     (let e : n + 1 ≡ suc n =
     omega arith in e) ∙ tag_next n (v ++ delimiter_of n) in
     ap (λ m. eqb (get_or (dollar_quoted n v) m 0) dollar_sign) (tag_at n v)
-        ∙ ap (λ c. eqb c dollar_sign) here
+    ∙ ap (λ c. eqb c dollar_sign) here
 
 front : (n : ℕ) (v : List ℕ) → tag_end (dollar_quoted n v) + 1 ≡ length (delimiter_of n)
 front n v = omega (arith, tag_at n v, delimiter_of_len n)
@@ -166,7 +166,7 @@ closing_at : (n : ℕ) (v : List ℕ) → delimiter_fits v n ≡ true
     → delimiter_end (dollar_quoted n v) ≡ Some (length v + length (delimiter_of n))
 closing_at n v t =
     ap (λ d. find_end d (drop (tag_end (dollar_quoted n v) + 1) (dollar_quoted n v)))
-        (delimiter_at n v)
+    (delimiter_at n v)
     ∙ ap (find_end (delimiter_of n)) (rest_at n v)
     ∙ found_at (find_end (delimiter_of n) (v ++ delimiter_of n))
     (length v + length (delimiter_of n)) t
@@ -215,7 +215,7 @@ dollar_value v =
     let n = shortest_tag v in
     let is = dollar_token n v (tag_fits v) in
     ap (λ ts. value_of_tokens ts (dollar_constant v))
-        (one_token Standard dollar_sign (tag_then n (dollar_sign ∷ [])
+    (one_token Standard dollar_sign (tag_then n (dollar_sign ∷ [])
     ++ (v ++ delimiter_of n)) (ap (λ (x : Lexeme). x.end) is))
     ∙ ap (λ (x : Lexeme). value_of_kind x.kind (dollar_constant v)) is
     ∙ ap Some (strip_dollar n v)

@@ -86,9 +86,8 @@ pub string_lexeme : (v : List ℕ) → lexeme_at Standard true (string_constant 
     ≡ literal_until (Str true) (length (string_constant v))
 unfolding token_form
 string_lexeme v =
-    rw (escaped_len apostrophe v)
-        (ap (literal_until (Str true)) (let e : 1 + (length (escape_quotes apostrophe v) + 1)
-    ≡ length (string_constant v) =
+    rw (escaped_len apostrophe v) (ap (literal_until (Str true))
+    (let e : 1 + (length (escape_quotes apostrophe v) + 1) ≡ length (string_constant v) =
     omega (arith, length-append (escape_quotes apostrophe v) (apostrophe ∷ [])) in e))
 
 pub ident_lexeme : (v : List ℕ) → lexeme_at Standard true (quoted_identifier v)
@@ -103,8 +102,8 @@ ident_lexeme v =
 pub string_value : (v : List ℕ) → value_of (string_constant v) ≡ Some v
 string_value v =
     ap (λ ts. value_of_tokens ts (string_constant v))
-        (one_token Standard apostrophe (escape_quotes apostrophe v ++ apostrophe
-    ∷ []) (ap (λ (x : Lexeme). x.end) (string_lexeme v)))
+    (one_token Standard apostrophe (escape_quotes apostrophe v ++ apostrophe ∷ [])
+    (ap (λ (x : Lexeme). x.end) (string_lexeme v)))
     ∙ ap (λ (x : Lexeme). value_of_kind x.kind (string_constant v)) (string_lexeme v)
     ∙ ap (λ w. Some (unescape_quotes apostrophe w))
     (strip_quoted apostrophe (escape_quotes apostrophe v))
@@ -113,8 +112,8 @@ string_value v =
 pub ident_value : (v : List ℕ) → value_of (quoted_identifier v) ≡ Some v
 ident_value v =
     ap (λ ts. value_of_tokens ts (quoted_identifier v))
-        (one_token Standard quotation_mark (escape_quotes quotation_mark v ++ quotation_mark
-    ∷ []) (ap (λ (x : Lexeme). x.end) (ident_lexeme v)))
+    (one_token Standard quotation_mark (escape_quotes quotation_mark v ++ quotation_mark ∷ [])
+    (ap (λ (x : Lexeme). x.end) (ident_lexeme v)))
     ∙ ap (λ (x : Lexeme). value_of_kind x.kind (quoted_identifier v)) (ident_lexeme v)
     ∙ ap (λ w. Some (unescape_quotes quotation_mark w))
     (strip_quoted quotation_mark (escape_quotes quotation_mark v))
@@ -130,10 +129,12 @@ token_is c cs x e len =
     ∙ ap (λ w. record { kind = x.kind; len = utf8_len w } ∷ []) (take-length (c ∷ cs))
 
 pub string_token : (v : List ℕ) → IsOneToken (kinds.Literal (Str true)) (string_constant v)
-string_token v = token_is apostrophe (escape_quotes apostrophe v ++ apostrophe
-    ∷ []) (literal_until (Str true) (length (string_constant v))) (string_lexeme v) refl
+string_token v =
+    token_is apostrophe (escape_quotes apostrophe v ++ apostrophe ∷ [])
+    (literal_until (Str true) (length (string_constant v))) (string_lexeme v) refl
 
 pub ident_token : (v : List ℕ) → IsOneToken (kinds.QuotedIdent true false) (quoted_identifier v)
-ident_token v = token_is quotation_mark (escape_quotes quotation_mark v ++ quotation_mark
-    ∷ []) (lexeme_until (kinds.QuotedIdent true false) (length (quoted_identifier v)))
+ident_token v =
+    token_is quotation_mark (escape_quotes quotation_mark v ++ quotation_mark ∷ [])
+    (lexeme_until (kinds.QuotedIdent true false) (length (quoted_identifier v)))
     (ident_lexeme v) refl

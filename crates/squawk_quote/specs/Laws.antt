@@ -1,5 +1,5 @@
 -- Laws of the values and of the texts that spell them.
-use Rattle.std.specs.Prelude.{◌≡◌, ◌<◌, ℕ, Bool, true, false, not, List, ◌∷◌, length, Some, None}
+use Rattle.std.specs.Prelude.{◌≡◌, ◌<◌, ℕ, true, false, not, List, ◌∷◌, length, Some, None}
 use Rattle.squawk_lexer.specs.declared.token.TokenKind.TheVariants.{Literal}
 use Rattle.squawk_lexer.specs.declared.token.LiteralKind.TheVariants.{DollarQuotedString}
 use Rattle.squawk_lexer.specs.Quoted.{quoted_len}

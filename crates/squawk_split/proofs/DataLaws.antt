@@ -1,22 +1,23 @@
 -- COPY data ends with the first end-of-data marker.
 use Rattle.std.proofs.Common.{◌≡◌, ℕ, zero, suc, ◌+◌, ◌<◌, Bool, true, false, List, [], ◌∷◌, length, drop, Option, Some, None, unwrap_or, refl, sym, ap, ◌∙◌, eqb, cond, arith}
 use Rattle.std.proofs.lemmas.Bool.Decides.{nat_tests}
+use Rattle.squawk_lexer.specs.Classes.{line_feed}
 use Rattle.squawk_split.specs.CopyData.{end_marker_len, copy_data_len, IsEndMarker, DataEndsAtFirstMarker, DataWithoutMarkerIsAll}
 
 -- the end-of-data marker after the byte c, if c is LF
 abbrev marker_after : ℕ → List ℕ → Option ℕ
-marker_after c cs = cond (eqb c 10) (end_marker_len cs) None
+marker_after c cs = cond (eqb c line_feed) (end_marker_len cs) None
 
 -- a marker after the first byte, and one after a later byte, in the text and in its tail
 marker_at_start : (c : ℕ) (cs : List ℕ) (n : ℕ) → marker_after c cs ≡ Some n
     → IsEndMarker (c ∷ cs) 0 n
-marker_at_start c cs n e = by (eqb c 10) refl e
+marker_at_start c cs n e = by (eqb c line_feed) refl e
   where
-    by : (b : Bool) → eqb c 10 ≡ b → cond b (end_marker_len cs) None ≡ Some n
+    by : (b : Bool) → eqb c line_feed ≡ b → cond b (end_marker_len cs) None ≡ Some n
         → IsEndMarker (c ∷ cs) 0 n
     by true t e = record {
       within = omega arith;
-      after_line_feed = let is : c ≡ 10 =
+      after_line_feed = let is : c ≡ line_feed =
           grind (arith, nat_tests) in is;
       marker = e;
     }
@@ -47,8 +48,8 @@ later_marker_is_in_tail c cs k n l = record {
 }
 
 marker_here : (c : ℕ) (cs : List ℕ) (n : ℕ) → IsEndMarker (c ∷ cs) 0 n → marker_after c cs ≡ Some n
-marker_here c cs n l = let t : eqb c 10 ≡ true =
-    ap (λ x. eqb x 10) l.after_line_feed in rw t l.marker
+marker_here c cs n l = let t : eqb c line_feed ≡ true =
+    ap (λ x. eqb x line_feed) l.after_line_feed in rw t l.marker
 
 no_marker_here : (c : ℕ) (cs : List ℕ) → ((m : ℕ) → IsEndMarker (c ∷ cs) 0 m → ⊥)
     → marker_after c cs ≡ None

@@ -9,11 +9,11 @@ use Rattle.squawk_quote.proofs.writers.quote_ident.Goals as goal
 pub returns-clause-value : goal.returns-clause-value
 returns-clause-value c =
     on_value (quoted_identifier (chars c.args.value.now)) (chars c.args.value.now)
-        c.quote_with.result
+    c.quote_with.result
     (ident_value (chars c.args.value.now)) c.quote_with.ensures.text
 
 pub returns-clause-token : goal.returns-clause-token
 returns-clause-token c =
     on_token (kinds.QuotedIdent true false) (quoted_identifier (chars c.args.value.now))
-        c.quote_with.result
+    c.quote_with.result
     (ident_token (chars c.args.value.now)) c.quote_with.ensures.text

@@ -15,5 +15,5 @@ returns-clause-value c =
 pub returns-clause-token : goal.returns-clause-token
 returns-clause-token c =
     on_token (kinds.Literal (Str true)) (string_constant (chars c.args.value.now))
-        c.quote_with.result
+    c.quote_with.result
     (string_token (chars c.args.value.now)) c.quote_with.ensures.text
