@@ -1,4 +1,4 @@
--- Quoted texts in bytes.
+-- Quoted texts in bytes: what the writers append.
 use Rattle.std.proofs.Common.{◌≡◌, ℕ, Bool, true, false, List, [], ◌∷◌, ◌++◌, length, append_assoc, append-nil, refl, sym, ap, subst, ◌∙◌, eqb, cond, arith}
 use Rattle.std.proofs.lemmas.Str.{encodes-append, chars-nil, chars_from_encodes, IsUtf8-string_bytes}
 use Rattle.std.proofs.Common.{Result, Ok, Err, IfOk, Some, String, Global}
@@ -6,60 +6,62 @@ use Rattle.std.specs.String.{string_bytes}
 use Rattle.squawk_events.specs.declared.error.FrontError.{FrontError}
 use Rattle.std.specs.Char.{encode_utf8}
 use Rattle.std.specs.Str.{chars, encode_utf8_all}
-use Rattle.squawk_quote.specs.Values.{doubled, quoted_text, value_of, IsToken}
+use Rattle.squawk_quote.specs.Values.{escape_quotes, quoted_text, value_of, IsOneToken}
 use Rattle.squawk_lexer.specs.declared.token.TokenKind.{TokenKind}
 
 pub chars_none : (bs : List ℕ) → length bs ≡ 0 → chars bs ≡ []
 chars_none [] h = chars-nil
 chars_none (b ∷ bs) h = absurd (omega arith)
 
-doubled_first : (q c : ℕ) (cs : List ℕ) → doubled q (c ∷ cs) ≡ doubled q (c ∷ []) ++ doubled q cs
-doubled_first q c cs = by (eqb c q)
+escape_first : (q c : ℕ) (cs : List ℕ) → escape_quotes q (c ∷ cs)
+    ≡ escape_quotes q (c ∷ []) ++ escape_quotes q cs
+escape_first q c cs = by (eqb c q)
   where
-    by : (b : Bool) → cond b (q ∷ q ∷ doubled q cs) (c ∷ doubled q cs)
-        ≡ cond b (q ∷ q ∷ []) (c ∷ []) ++ doubled q cs
+    by : (b : Bool) → cond b (q ∷ q ∷ escape_quotes q cs) (c ∷ escape_quotes q cs)
+        ≡ cond b (q ∷ q ∷ []) (c ∷ []) ++ escape_quotes q cs
     by true = refl
     by false = refl
 
--- a step over one character
+-- one step of the loop over the characters of a value, and its end
 pub put_more : (q c : ℕ) (cs new out whole : List ℕ)
-    → new ≡ out ++ encode_utf8_all (doubled q (c ∷ []))
-    → out ++ encode_utf8_all (doubled q (c ∷ cs)) ≡ whole
-    → new ++ encode_utf8_all (doubled q cs) ≡ whole
+    → new ≡ out ++ encode_utf8_all (escape_quotes q (c ∷ []))
+    → out ++ encode_utf8_all (escape_quotes q (c ∷ cs)) ≡ whole
+    → new ++ encode_utf8_all (escape_quotes q cs) ≡ whole
 put_more q c cs new out whole e inv =
-    ap (λ w. w ++ encode_utf8_all (doubled q cs)) e
-    ∙ append_assoc out (encode_utf8_all (doubled q (c ∷ []))) (encode_utf8_all (doubled q cs))
-    ∙ ap (λ w. out ++ w) (sym (encodes-append (doubled q (c ∷ [])) (doubled q cs))
-    ∙ ap encode_utf8_all (sym (doubled_first q c cs)))
+    ap (λ w. w ++ encode_utf8_all (escape_quotes q cs)) e
+    ∙ append_assoc out (encode_utf8_all (escape_quotes q (c ∷ [])))
+    (encode_utf8_all (escape_quotes q cs))
+    ∙ ap (λ w. out ++ w) (sym (encodes-append (escape_quotes q (c ∷ [])) (escape_quotes q cs))
+    ∙ ap encode_utf8_all (sym (escape_first q c cs)))
     ∙ inv
 
 pub put_none : (q : ℕ) (rest out whole : List ℕ) → length rest ≡ 0
-    → out ++ encode_utf8_all (doubled q (chars rest)) ≡ whole → out ≡ whole
+    → out ++ encode_utf8_all (escape_quotes q (chars rest)) ≡ whole → out ≡ whole
 put_none q rest out whole h inv = sym (append-nil out)
-    ∙ ap (λ w. out ++ encode_utf8_all (doubled q w)) (sym (chars_none rest h)) ∙ inv
+    ∙ ap (λ w. out ++ encode_utf8_all (escape_quotes q w)) (sym (chars_none rest h)) ∙ inv
 
--- a quoted text, written in three pieces
+-- a quote, the escaped value and a quote are the quoted text
 pub put_quoted : (q : ℕ) (cs none first mid new : List ℕ) → none ≡ []
-    → first ≡ none ++ encode_utf8 q → mid ≡ first ++ encode_utf8_all (doubled q cs)
+    → first ≡ none ++ encode_utf8 q → mid ≡ first ++ encode_utf8_all (escape_quotes q cs)
     → new ≡ mid ++ encode_utf8 q
     → new ≡ encode_utf8_all (quoted_text q cs)
 put_quoted q cs none first mid new n f m e =
     e
-    ∙ ap (λ w. w ++ encode_utf8 q) (m ∙ ap (λ w. w ++ encode_utf8_all (doubled q cs)) (f
+    ∙ ap (λ w. w ++ encode_utf8 q) (m ∙ ap (λ w. w ++ encode_utf8_all (escape_quotes q cs)) (f
     ∙ ap (λ w. w ++ encode_utf8 q) n))
-    ∙ append_assoc (encode_utf8 q) (encode_utf8_all (doubled q cs)) (encode_utf8 q)
-    ∙ ap (λ w. encode_utf8 q ++ (encode_utf8_all (doubled q cs) ++ w))
+    ∙ append_assoc (encode_utf8 q) (encode_utf8_all (escape_quotes q cs)) (encode_utf8 q)
+    ∙ ap (λ w. encode_utf8 q ++ (encode_utf8_all (escape_quotes q cs) ++ w))
     (sym (append-nil (encode_utf8 q)))
-    ∙ ap (λ w. encode_utf8 q ++ w) (sym (encodes-append (doubled q cs) (q ∷ [])))
+    ∙ ap (λ w. encode_utf8 q ++ w) (sym (encodes-append (escape_quotes q cs) (q ∷ [])))
 
--- ---- what holds of an answer that is such a text
+-- ---- from the text of a result to what holds of it
 
 on_ok : {T E : Type 0} {P Q : T → Type 0} (r : Result T E) → ((x : T) → P x → Q x) → IfOk r P
     → IfOk r Q
 on_ok (Ok x) f h = f x h
 on_ok (Err e) f h = h
 
--- an answer that spells a text has the value that the text has
+-- a result that is the UTF-8 of a text has the value of the text
 pub on_value : (cs v : List ℕ) (r : Result (String Global) FrontError) → value_of cs ≡ Some v
     → IfOk r (λ out. string_bytes out ≡ encode_utf8_all cs)
     → IfOk r (λ out. value_of (chars (string_bytes out)) ≡ Some v)
@@ -67,10 +69,10 @@ on_value cs v r e h = on_ok r (λ out is.
     ap value_of (sym (chars_from_encodes cs (string_bytes out) (IsUtf8-string_bytes out) (sym is)))
     ∙ e) h
 
--- and is the token that the text is
+-- a result that is the UTF-8 of one token is one token
 pub on_token : (kind : TokenKind) (cs : List ℕ) (r : Result (String Global) FrontError)
-    → IsToken kind cs → IfOk r (λ out. string_bytes out ≡ encode_utf8_all cs)
-    → IfOk r (λ out. IsToken kind (chars (string_bytes out)))
+    → IsOneToken kind cs → IfOk r (λ out. string_bytes out ≡ encode_utf8_all cs)
+    → IfOk r (λ out. IsOneToken kind (chars (string_bytes out)))
 on_token kind cs r t h = on_ok r (λ out is.
-    subst (IsToken kind) (chars_from_encodes cs (string_bytes out) (IsUtf8-string_bytes out)
+    subst (IsOneToken kind) (chars_from_encodes cs (string_bytes out) (IsUtf8-string_bytes out)
     (sym is)) t) h

@@ -1,4 +1,4 @@
--- A quoted text is one token, and its value is the one that was quoted.
+-- A quoted text is one token, and has the value that was quoted.
 use Rattle.std.proofs.Common.{◌≡◌, ℕ, zero, suc, ◌+◌, ◌-◌, ◌≤◌, Bool, true, false, List, [], ◌∷◌, ◌++◌, length, take, Some, option_map, length-append, refl, ap, ◌∙◌, eqb, cond, arith}
 use Rattle.std.proofs.lemmas.Bool.Decides.{nat_tests}
 use Rattle.std.proofs.Math.Seq.{take-append_seam, take-length}
@@ -7,46 +7,47 @@ use Rattle.squawk_lexer.specs.declared.token.LiteralKind.TheVariants.{Str}
 use Rattle.squawk_lexer.specs.declared.token.Strings.{Strings}
 use Rattle.squawk_lexer.specs.declared.token.Strings.TheVariants.{Standard}
 use Rattle.squawk_lexer.specs.Kind.{Lexeme, lexeme_until, literal_until}
+use Rattle.squawk_lexer.specs.Classes.{apostrophe, quotation_mark}
 use Rattle.squawk_lexer.specs.Quoted.{quoted_len}
 use Rattle.squawk_lexer.specs.Text.{utf8_len}
 use Rattle.squawk_lexer.specs.Token.{token_form, lexeme_at, token_at}
 use Rattle.squawk_lexer.specs.Cut.{tokens_from, tokens}
-use Rattle.squawk_quote.specs.Values.{doubled, string_of, ident_of, undoubled, inside, value_by, value_in, value_of, IsToken}
+use Rattle.squawk_quote.specs.Values.{escape_quotes, string_constant, quoted_identifier, unescape_quotes, strip_ends, value_of_kind, value_of_tokens, value_of, IsOneToken}
 
--- ---- quoting and reading back
+-- ---- escaping is undone
 
-pub undoubled_doubled : (q : ℕ) (v : List ℕ) → undoubled q (doubled q v) ≡ v
-undoubled_doubled q [] = refl
-undoubled_doubled q (c ∷ cs) = by (eqb c q) refl (undoubled_doubled q cs)
+pub unescape_escape : (q : ℕ) (v : List ℕ) → unescape_quotes q (escape_quotes q v) ≡ v
+unescape_escape q [] = refl
+unescape_escape q (c ∷ cs) = by (eqb c q) refl (unescape_escape q cs)
   where
-    plain : (w : List ℕ) → eqb c q ≡ false → undoubled q (c ∷ w) ≡ c ∷ undoubled q w
+    plain : (w : List ℕ) → eqb c q ≡ false → unescape_quotes q (c ∷ w) ≡ c ∷ unescape_quotes q w
     plain [] t = refl
     plain (d ∷ ds) t = rw t refl
 
     same : eqb q q ≡ true
     same = grind (arith, nat_tests)
 
-    by : (b : Bool) → eqb c q ≡ b → undoubled q (doubled q cs) ≡ cs
-        → undoubled q (cond b (q ∷ q ∷ doubled q cs) (c ∷ doubled q cs)) ≡ c ∷ cs
+    by : (b : Bool) → eqb c q ≡ b → unescape_quotes q (escape_quotes q cs) ≡ cs
+        → unescape_quotes q (cond b (q ∷ q ∷ escape_quotes q cs) (c ∷ escape_quotes q cs)) ≡ c ∷ cs
     by true t e =
         let is : q ≡ c = grind (arith, nat_tests) in
         rw same (ap (λ w. q ∷ w) e ∙ ap (λ d. d ∷ cs) is)
-    by false t e = plain (doubled q cs) t ∙ ap (λ w. c ∷ w) e
+    by false t e = plain (escape_quotes q cs) t ∙ ap (λ w. c ∷ w) e
 
--- ---- where the quoted text ends
+-- ---- the quoted text ends at its last character
 
 plain_len : (q c : ℕ) (w : List ℕ) → eqb c q ≡ false → 1 ≤ length w
     → quoted_len false q (c ∷ w) ≡ option_map (λ n. n + 1) (quoted_len false q w)
 plain_len q c [] t h = absurd (omega arith)
 plain_len q c (d ∷ ds) t h = rw t refl
 
-pub doubled_len : (q : ℕ) (v : List ℕ) → quoted_len false q (doubled q v ++ q ∷ [])
-    ≡ Some (length (doubled q v) + 1)
-doubled_len q [] = let same : eqb q q ≡ true = grind (arith, nat_tests) in rw same refl
-doubled_len q (c ∷ cs) = by (eqb c q) refl (doubled_len q cs)
+pub escaped_len : (q : ℕ) (v : List ℕ) → quoted_len false q (escape_quotes q v ++ q ∷ [])
+    ≡ Some (length (escape_quotes q v) + 1)
+escaped_len q [] = let same : eqb q q ≡ true = grind (arith, nat_tests) in rw same refl
+escaped_len q (c ∷ cs) = by (eqb c q) refl (escaped_len q cs)
   where
     w : List ℕ
-    w = doubled q cs
+    w = escape_quotes q cs
 
     by : (b : Bool) → eqb c q ≡ b → quoted_len false q (w ++ q ∷ []) ≡ Some (length w + 1)
         → quoted_len false q (cond b (q ∷ q ∷ w) (c ∷ w) ++ q ∷ [])
@@ -73,59 +74,67 @@ one_token strings c cs e = ap (λ ts. token_at strings true (c ∷ cs) ∷ ts) (
     all zero (d ∷ ds) h = absurd (omega arith)
     all (suc n) (d ∷ ds) h = all n ds (omega arith)
 
--- a quoted text's own characters
-pub inside_quoted : (q : ℕ) (w : List ℕ) → inside 1 (q ∷ (w ++ q ∷ [])) ≡ w
-inside_quoted q w =
+-- the text between the quotes
+pub strip_quoted : (q : ℕ) (w : List ℕ) → strip_ends 1 (q ∷ (w ++ q ∷ [])) ≡ w
+strip_quoted q w =
     let len : length (q ∷ (w ++ q ∷ [])) - (1 + 1) ≡ length w =
     omega (arith, length-append w (q ∷ [])) in
     ap (λ n. take n (w ++ q ∷ [])) len ∙ take-append_seam w (q ∷ [])
 
--- a string is one terminated token
-pub string_lexeme : (v : List ℕ) → lexeme_at Standard true (string_of v)
-    ≡ literal_until (Str true) (length (string_of v))
+-- a string constant, and a quoted identifier, is one terminated lexeme
+pub string_lexeme : (v : List ℕ) → lexeme_at Standard true (string_constant v)
+    ≡ literal_until (Str true) (length (string_constant v))
 unfolding token_form
 string_lexeme v =
-    rw (doubled_len 39 v) (ap (literal_until (Str true)) (let e : 1 + (length (doubled 39 v) + 1)
-    ≡ length (string_of v) = omega (arith, length-append (doubled 39 v) (39 ∷ [])) in e))
+    rw (escaped_len apostrophe v) (ap (literal_until (Str true))
+    (let e : 1 + (length (escape_quotes apostrophe v) + 1) ≡ length (string_constant v) =
+    omega (arith, length-append (escape_quotes apostrophe v) (apostrophe ∷ [])) in e))
 
-pub ident_lexeme : (v : List ℕ) → lexeme_at Standard true (ident_of v)
-    ≡ lexeme_until (kinds.QuotedIdent true false) (length (ident_of v))
+pub ident_lexeme : (v : List ℕ) → lexeme_at Standard true (quoted_identifier v)
+    ≡ lexeme_until (kinds.QuotedIdent true false) (length (quoted_identifier v))
 unfolding token_form
 ident_lexeme v =
-    rw (doubled_len 34 v) (ap (lexeme_until (kinds.QuotedIdent true false))
-    (let e : 1 + (length (doubled 34 v) + 1) ≡ length (ident_of v) =
-    omega (arith, length-append (doubled 34 v) (34 ∷ [])) in e))
+    rw (escaped_len quotation_mark v) (ap (lexeme_until (kinds.QuotedIdent true false))
+    (let e : 1 + (length (escape_quotes quotation_mark v) + 1) ≡ length (quoted_identifier v) =
+    omega (arith, length-append (escape_quotes quotation_mark v) (quotation_mark ∷ [])) in e))
 
--- and its value is the one that was quoted
-pub string_value : (v : List ℕ) → value_of (string_of v) ≡ Some v
+-- its value is the one that was quoted
+pub string_value : (v : List ℕ) → value_of (string_constant v) ≡ Some v
 string_value v =
-    ap (λ ts. value_in ts (string_of v)) (one_token Standard 39 (doubled 39 v ++ 39
-    ∷ []) (ap (λ (x : Lexeme). x.end) (string_lexeme v)))
-    ∙ ap (λ (x : Lexeme). value_by x.kind (string_of v)) (string_lexeme v)
-    ∙ ap (λ w. Some (undoubled 39 w)) (inside_quoted 39 (doubled 39 v))
-    ∙ ap Some (undoubled_doubled 39 v)
+    ap (λ ts. value_of_tokens ts (string_constant v))
+    (one_token Standard apostrophe (escape_quotes apostrophe v ++ apostrophe ∷ [])
+    (ap (λ (x : Lexeme). x.end) (string_lexeme v)))
+    ∙ ap (λ (x : Lexeme). value_of_kind x.kind (string_constant v)) (string_lexeme v)
+    ∙ ap (λ w. Some (unescape_quotes apostrophe w))
+    (strip_quoted apostrophe (escape_quotes apostrophe v))
+    ∙ ap Some (unescape_escape apostrophe v)
 
-pub ident_value : (v : List ℕ) → value_of (ident_of v) ≡ Some v
+pub ident_value : (v : List ℕ) → value_of (quoted_identifier v) ≡ Some v
 ident_value v =
-    ap (λ ts. value_in ts (ident_of v)) (one_token Standard 34 (doubled 34 v ++ 34
-    ∷ []) (ap (λ (x : Lexeme). x.end) (ident_lexeme v)))
-    ∙ ap (λ (x : Lexeme). value_by x.kind (ident_of v)) (ident_lexeme v)
-    ∙ ap (λ w. Some (undoubled 34 w)) (inside_quoted 34 (doubled 34 v))
-    ∙ ap Some (undoubled_doubled 34 v)
+    ap (λ ts. value_of_tokens ts (quoted_identifier v))
+    (one_token Standard quotation_mark (escape_quotes quotation_mark v ++ quotation_mark ∷ [])
+    (ap (λ (x : Lexeme). x.end) (ident_lexeme v)))
+    ∙ ap (λ (x : Lexeme). value_of_kind x.kind (quoted_identifier v)) (ident_lexeme v)
+    ∙ ap (λ w. Some (unescape_quotes quotation_mark w))
+    (strip_quoted quotation_mark (escape_quotes quotation_mark v))
+    ∙ ap Some (unescape_escape quotation_mark v)
 
--- and these are tokens of their kinds
-token_is : (c : ℕ) (cs : List ℕ) (x : Lexeme) → lexeme_at Standard true (c ∷ cs) ≡ x
-    → x.end ≡ length (c ∷ cs) → IsToken x.kind (c ∷ cs)
+-- a text that is one lexeme is one token of its kind
+pub token_is : (c : ℕ) (cs : List ℕ) (x : Lexeme) → lexeme_at Standard true (c ∷ cs) ≡ x
+    → x.end ≡ length (c ∷ cs) → IsOneToken x.kind (c ∷ cs)
 token_is c cs x e len =
     one_token Standard c cs (ap (λ (y : Lexeme). y.end) e ∙ len)
     ∙ ap (λ (y : Lexeme). record { kind = y.kind; len = utf8_len (take y.end (c ∷ cs)) } ∷ []) e
     ∙ ap (λ n. record { kind = x.kind; len = utf8_len (take n (c ∷ cs)) } ∷ []) len
     ∙ ap (λ w. record { kind = x.kind; len = utf8_len w } ∷ []) (take-length (c ∷ cs))
 
-pub string_token : (v : List ℕ) → IsToken (kinds.Literal (Str true)) (string_of v)
-string_token v = token_is 39 (doubled 39 v ++ 39
-    ∷ []) (literal_until (Str true) (length (string_of v))) (string_lexeme v) refl
+pub string_token : (v : List ℕ) → IsOneToken (kinds.Literal (Str true)) (string_constant v)
+string_token v =
+    token_is apostrophe (escape_quotes apostrophe v ++ apostrophe ∷ [])
+    (literal_until (Str true) (length (string_constant v))) (string_lexeme v) refl
 
-pub ident_token : (v : List ℕ) → IsToken (kinds.QuotedIdent true false) (ident_of v)
-ident_token v = token_is 34 (doubled 34 v ++ 34
-    ∷ []) (lexeme_until (kinds.QuotedIdent true false) (length (ident_of v))) (ident_lexeme v) refl
+pub ident_token : (v : List ℕ) → IsOneToken (kinds.QuotedIdent true false) (quoted_identifier v)
+ident_token v =
+    token_is quotation_mark (escape_quotes quotation_mark v ++ quotation_mark ∷ [])
+    (lexeme_until (kinds.QuotedIdent true false) (length (quoted_identifier v)))
+    (ident_lexeme v) refl

@@ -1,8 +1,8 @@
--- A string and a quoted identifier have one spelling for each value.
+-- A value has one spelling as a string constant, and one as a quoted identifier.
 use Rattle.std.proofs.Common.{◌≡◌, ℕ, zero, suc, ◌+◌, ◌-◌, ◌≤◌, Bool, true, false, List, [], ◌∷◌, ◌++◌, length, take, Option, Some, None, option_map, unwrap_or, refl, sym, ap, ◌∙◌, eqb, cond, arith}
 use Rattle.std.proofs.lemmas.Bool.Decides.{nat_tests}
 use Rattle.squawk_lexer.specs.Quoted.{quoted_len}
-use Rattle.squawk_quote.specs.Values.{doubled, quoted_text, undoubled, inside}
+use Rattle.squawk_quote.specs.Values.{escape_quotes, quoted_text, unescape_quotes, strip_ends}
 
 -- a text without its last character
 abbrev front : List ℕ → List ℕ
@@ -14,9 +14,9 @@ front_more c d cs =
     in e)
     ∙ ap (λ n. c ∷ take n (d ∷ cs)) (let e : length cs ≡ length (d ∷ cs) - 1 = omega arith in e)
 
--- where the first quote that closes is the last character, the text before it is a value doubled
+-- the text before the last character of s is an escaped value, and the last character closes it
 abbrev Spelt : ℕ → List ℕ → Type 0
-Spelt q s = doubled q (undoubled q (front s)) ++ q ∷ [] ≡ s
+Spelt q s = escape_quotes q (unescape_quotes q (front s)) ++ q ∷ [] ≡ s
 
 found_all : (o : Option ℕ) (j len : ℕ) → option_map (λ n. n + j) o ≡ Some (len + j) → o ≡ Some len
 found_all None j len e = absurd (cc)
@@ -24,12 +24,12 @@ found_all (Some n) j len e = ap Some (let h : n + j ≡ len + j = ap (λ o. unwr
     omega arith)
 
 plain_first : (q c : ℕ) (w : List ℕ) → eqb c q ≡ false
-    → doubled q (undoubled q (c ∷ w)) ≡ c ∷ doubled q (undoubled q w)
+    → escape_quotes q (unescape_quotes q (c ∷ w)) ≡ c ∷ escape_quotes q (unescape_quotes q w)
 plain_first q c [] t = rw t refl
 plain_first q c (d ∷ ds) t = rw (t) (rw t refl)
 
-two_first : (q : ℕ) (w : List ℕ) → doubled q (undoubled q (q ∷ q ∷ w))
-    ≡ q ∷ q ∷ doubled q (undoubled q w)
+two_first : (q : ℕ) (w : List ℕ) → escape_quotes q (unescape_quotes q (q ∷ q ∷ w))
+    ≡ q ∷ q ∷ escape_quotes q (unescape_quotes q w)
 two_first q w = let same : eqb q q ≡ true = grind (arith, nat_tests) in rw same (rw same refl)
 
 some_left : (q : ℕ) (w : List ℕ) (n : ℕ) → quoted_len false q w ≡ Some n → 1 ≤ length w
@@ -65,10 +65,10 @@ spelt (suc n) q (c ∷ d ∷ cs) h e =
         ∙ ap Some (let s : length (c ∷ d ∷ cs) ≡ length cs + 2 = omega arith in s)) in
         let first : c ≡ q = grind (arith, nat_tests) in
         let second : d ≡ q = grind (arith, nat_tests) in
-        ap (λ w. doubled q (undoubled q w) ++ q
+        ap (λ w. escape_quotes q (unescape_quotes q w) ++ q
         ∷ []) (front_two cs (some_left q cs (length cs) all))
-        ∙ ap (λ x. doubled q (undoubled q (x ∷ d ∷ front cs)) ++ q ∷ []) first
-        ∙ ap (λ x. doubled q (undoubled q (q ∷ x ∷ front cs)) ++ q ∷ []) second
+        ∙ ap (λ x. escape_quotes q (unescape_quotes q (x ∷ d ∷ front cs)) ++ q ∷ []) first
+        ∙ ap (λ x. escape_quotes q (unescape_quotes q (q ∷ x ∷ front cs)) ++ q ∷ []) second
         ∙ ap (λ w. w ++ q ∷ []) (two_first q (front cs))
         ∙ ap (λ w. q ∷ q ∷ w) (two all)
         ∙ ap (λ x. x ∷ q ∷ cs) (sym first)
@@ -79,15 +79,15 @@ spelt (suc n) q (c ∷ d ∷ cs) h e =
         let all : quoted_len false q (d ∷ cs) ≡ Some (length (d ∷ cs)) =
         found_all (quoted_len false q (d ∷ cs)) 1 (length (d ∷ cs)) (e
         ∙ ap Some (let s : length (c ∷ d ∷ cs) ≡ length (d ∷ cs) + 1 = omega arith in s)) in
-        ap (λ w. doubled q (undoubled q w) ++ q ∷ []) (front_more c d cs)
+        ap (λ w. escape_quotes q (unescape_quotes q w) ++ q ∷ []) (front_more c d cs)
         ∙ ap (λ w. w ++ q ∷ []) (plain_first q c (front (d ∷ cs)) t)
         ∙ ap (λ w. c ∷ w) (one all)
 
--- a text that a quote begins, and whose first quote that closes is its last character, spells its
+-- a text that begins with a quote, and whose last character closes it, is the quoted text of its
 -- value
 pub one_spelling : (q : ℕ) (s : List ℕ) → quoted_len false q s ≡ Some (length s)
-    → quoted_text q (undoubled q (inside 1 (q ∷ s))) ≡ q ∷ s
+    → quoted_text q (unescape_quotes q (strip_ends 1 (q ∷ s))) ≡ q ∷ s
 one_spelling q s e =
     let len : length (q ∷ s) - (1 + 1) ≡ length s - 1 = omega arith in
-    ap (λ n. quoted_text q (undoubled q (take n s))) len
+    ap (λ n. quoted_text q (unescape_quotes q (take n s))) len
     ∙ ap (λ w. q ∷ w) (spelt (length s) q s (omega arith) e)

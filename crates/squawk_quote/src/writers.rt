@@ -1,23 +1,19 @@
-//! Texts that spell a value.
-ghost use Rattle.std.specs.Prelude.{◌≡◌, ◌++◌, ◌<◌, ◌↔◌, [], ◌^◌, ◌∷◌, length, IfOk, OnOk, IsErrOf, Some};
+//! Writers of string constants and quoted identifiers.
+ghost use Rattle.std.specs.Prelude.{◌≡◌, ◌++◌, ◌<◌, ◌≤◌, [], ◌∷◌, length, IfOk, IfErr, OnOk};
 ghost use Rattle.std.specs.Str.{chars, encode_utf8_all};
 ghost use Rattle.std.specs.String.{string_bytes};
-ghost use Rattle.squawk_lexer.specs.Classes.{apostrophe, quotation_mark};
-ghost use Rattle.squawk_quote.specs.Values.{doubled, quoted_text, string_of, ident_of, value_of, IsToken};
-ghost use Rattle.std.specs.Prelude.{true, false};
-ghost use Rattle.squawk_lexer.specs.declared.token.TokenKind.TheVariants.{Literal, QuotedIdent};
-ghost use Rattle.squawk_lexer.specs.declared.token.LiteralKind.TheVariants.{Str};
+ghost use Rattle.squawk_quote.specs.Values as spec;
 
 use squawk_events::FrontError;
 use std::alloc::{AllocError, Global};
 
-/// The most bytes that a text may have.
+// The length limit of a text, in bytes: the largest `u32`.
 const LIMIT: usize = 4294967295;
 
-/// Appends a character, or a quote twice.
-fn push_doubled(out: &mut String, quote: char, c: char) -> Result<(), AllocError>
+// Appends a character, and a quote twice.
+fn push_escaped_char(out: &mut String, quote: char, c: char) -> Result<(), AllocError>
     ensures { OnOk result (string_bytes out.new
-        ≡ string_bytes out.old ++ encode_utf8_all (doubled quote (c ∷ []))) }
+        ≡ string_bytes out.old ++ encode_utf8_all (spec.escape_quotes quote (c ∷ []))) }
 {
     if c == quote {
         out.push(quote)?;
@@ -25,28 +21,28 @@ fn push_doubled(out: &mut String, quote: char, c: char) -> Result<(), AllocError
     out.push(c)
 }
 
-/// Appends a text with each quote twice.
-fn push_all(out: &mut String, quote: char, value: &str) -> Result<(), AllocError>
+// Appends a value with each quote doubled.
+fn push_escaped(out: &mut String, quote: char, value: &str) -> Result<(), AllocError>
     ensures { OnOk result (string_bytes out.new
-        ≡ string_bytes out.old ++ encode_utf8_all (doubled quote (chars value.now))) }
+        ≡ string_bytes out.old ++ encode_utf8_all (spec.escape_quotes quote (chars value.now))) }
 {
     for c in value.chars() {
-        push_doubled(out, quote, c)?;
+        push_escaped_char(out, quote, c)?;
     }
     Ok(())
 }
 
-/// The value between two quotes.
-fn quoted(alloc: Global, quote: char, value: &str) -> Result<String, FrontError>
+// Writes a value between two quotes, with each quote in it doubled.
+fn quote_with(alloc: Global, quote: char, value: &str) -> Result<String, FrontError>
     ensures text { IfOk result (λ out. string_bytes out
-        ≡ encode_utf8_all (quoted_text quote (chars value.now))) }
-    ensures too_long { IsErrOf result FrontError.TooLong
-        → LIMIT < length (encode_utf8_all (quoted_text quote (chars value.now))) }
-    ensures fits { IfOk result (λ out. length (string_bytes out) < 2 ^ 32) }
+        ≡ encode_utf8_all (spec.quoted_text quote (chars value.now))) }
+    ensures within_limit { IfOk result (λ out. length (string_bytes out) ≤ LIMIT) }
+    ensures refusals { IfErr result (spec.IsRefusal (LIMIT
+        < length (encode_utf8_all (spec.quoted_text quote (chars value.now))))) }
 {
     let mut out = String::new(alloc);
     out.push(quote)?;
-    push_all(&mut out, quote, value)?;
+    push_escaped(&mut out, quote, value)?;
     out.push(quote)?;
     if out.len() > LIMIT {
         return Err(FrontError::TooLong);
@@ -54,33 +50,43 @@ fn quoted(alloc: Global, quote: char, value: &str) -> Result<String, FrontError>
     Ok(out)
 }
 
-/// The value as a string: `'`, the value with each `'` twice, and `'`.
+/// Writes a value as a string constant: the value between two apostrophes, with each apostrophe in
+/// it doubled (PostgreSQL's manual, 4.1.2.1). With `standard_conforming_strings` on, the result is
+/// one terminated token, and its value is `value`.
+///
+/// # Errors
+///
+/// `TooLong` only if the string constant has more than 4294967295 bytes; no longer one is returned.
+/// `OutOfMemory` if there is not enough memory for it.
 pub fn quote_string(alloc: Global, value: &str) -> Result<String, FrontError>
-    ensures text { IfOk result (λ out. string_bytes out
-        ≡ encode_utf8_all (string_of (chars value.now))) }
-    // It is one terminated token, and its value is the one that was given.
-    ensures token { IfOk result (λ out. IsToken (Literal (Str true)) (chars (string_bytes out))) }
-    ensures value { IfOk result (λ out. value_of (chars (string_bytes out))
-        ≡ Some (chars value.now)) }
-    ensures too_long { IsErrOf result FrontError.TooLong
-        → LIMIT < length (encode_utf8_all (string_of (chars value.now))) }
-    ensures fits { IfOk result (λ out. length (string_bytes out) < 2 ^ 32) }
+    ensures text { IfOk result (λ out. string_bytes out ≡ spec.string_constant_bytes value.now) }
+    ensures token { IfOk result (λ out. spec.IsStringConstant (string_bytes out)) }
+    ensures value { IfOk result (λ out. spec.HasValue value.now (string_bytes out)) }
+    ensures within_limit { IfOk result (λ out. length (string_bytes out) ≤ LIMIT) }
+    ensures refusals { IfErr result (spec.IsRefusal (LIMIT
+        < length (spec.string_constant_bytes value.now))) }
 {
-    quoted(alloc, '\'', value)
+    quote_with(alloc, '\'', value)
 }
 
-/// The value as a quoted identifier: `"`, the value with each `"` twice, and `"`.
+/// Writes a value as a quoted identifier: the value between two quotation marks, with each
+/// quotation mark in it doubled (PostgreSQL's manual, 4.1.1). The result is one terminated token,
+/// and its value is `value`.
+///
+/// PostgreSQL itself refuses an identifier without characters, and shortens a long one; this writer
+/// does neither.
+///
+/// # Errors
+///
+/// `TooLong` only if the quoted identifier has more than 4294967295 bytes; no longer one is
+/// returned. `OutOfMemory` if there is not enough memory for it.
 pub fn quote_ident(alloc: Global, value: &str) -> Result<String, FrontError>
-    ensures text { IfOk result (λ out. string_bytes out
-        ≡ encode_utf8_all (ident_of (chars value.now))) }
-    // It is one terminated token, and its value is the one that was given.
-    ensures token { IfOk result (λ out.
-        IsToken (QuotedIdent true false) (chars (string_bytes out))) }
-    ensures value { IfOk result (λ out. value_of (chars (string_bytes out))
-        ≡ Some (chars value.now)) }
-    ensures too_long { IsErrOf result FrontError.TooLong
-        → LIMIT < length (encode_utf8_all (ident_of (chars value.now))) }
-    ensures fits { IfOk result (λ out. length (string_bytes out) < 2 ^ 32) }
+    ensures text { IfOk result (λ out. string_bytes out ≡ spec.quoted_identifier_bytes value.now) }
+    ensures token { IfOk result (λ out. spec.IsQuotedIdentifier (string_bytes out)) }
+    ensures value { IfOk result (λ out. spec.HasValue value.now (string_bytes out)) }
+    ensures within_limit { IfOk result (λ out. length (string_bytes out) ≤ LIMIT) }
+    ensures refusals { IfErr result (spec.IsRefusal (LIMIT
+        < length (spec.quoted_identifier_bytes value.now))) }
 {
-    quoted(alloc, '"', value)
+    quote_with(alloc, '"', value)
 }

@@ -1,2 +1,2 @@
 pub mod CopyData
-pub mod CopyIn
+pub mod CopyFromStdin

@@ -1,2 +1,4 @@
+pub mod TokenLists
+pub mod TokenLaws
 pub mod SqueezeLaws
 pub mod SqueezeBytes

@@ -1,4 +1,4 @@
--- The squeezed text in bytes.
+-- The squeezed text in bytes: one step of the loop of `squeeze`.
 use Rattle.std.proofs.Common.{◌≡◌, ℕ, ◌+◌, ◌<◌, ◌≤◌, true, false, List, [], ◌∷◌, ◌++◌, length, take, drop, Some, None, length-drop, length-append, append_assoc, refl, sym, ap, ◌∙◌, arith, IsUtf8}
 use Rattle.std.proofs.lemmas.Str.{chars-nil, chars_from_encodes, encodes-chars, encodes-append, IsUtf8-drop, length-encode}
 use Rattle.std.proofs.lemmas.List.{take-append-drop, drop-drop, length-take-le}
@@ -14,8 +14,9 @@ use Rattle.squawk_lexer.specs.declared.token.Strings.{Strings}
 use Rattle.squawk_lexer.specs.Text.{utf8_len}
 use Rattle.squawk_lexer.specs.Token.{lexeme_at, token_at}
 use Rattle.squawk_lexer.specs.Cut.{is_trivia}
-use Rattle.squawk_squeeze.specs.Squeezed.{Piece, piece, pieces_from, Open, widened, gap, squeezed_pieces, joined, left, gap_bytes, gap_len}
-use Rattle.squawk_squeeze.proofs.SqueezeLaws.{pieces_first}
+use Rattle.squawk_squeeze.specs.Squeezed.{TextToken, text_token, text_tokens_from, TriviaRun, extend_run, prepend_separator, squeeze_tokens, text_of, squeezed_rest, separator_bytes, separator_len, squeezed_text, without_trivia, text_tokens, IsSqueezed, KeepsTokens, IsUnchangedBySqueezing}
+use Rattle.squawk_squeeze.proofs.TokenLists.{text_tokens_first}
+use Rattle.squawk_squeeze.proofs.SqueezeLaws.{LexerLaws, keeps_tokens, squeeze_idempotent}
 
 pub chars_none : (bs : List ℕ) → length bs ≡ 0 → chars bs ≡ []
 chars_none [] h = chars-nil
@@ -26,7 +27,7 @@ length_encodes [] = refl
 length_encodes (c ∷ cs) = length-append (encode_utf8 c) (encode_utf8_all cs)
     ∙ omega (arith, length-encode c, length_encodes cs, sum_by-cons len_utf8 c cs)
 
--- the bytes of the first k characters, and the characters behind them
+-- the bytes of the first k characters, and those of the other characters
 part_bytes : (bs : List ℕ) (k : ℕ) → IsUtf8 bs
     → take (utf8_len (take k (chars bs))) bs ≡ encode_utf8_all (take k (chars bs))
 part_bytes bs k utf8 =
@@ -51,9 +52,9 @@ rest_bytes bs k utf8 =
     (sym (length_encodes front))
     ∙ drop-append_seam (encode_utf8_all front) (encode_utf8_all (drop k (chars bs)))
 
--- ---- a step over one token
+-- ---- one step of the loop, over one token
 
--- the text of a token, and what is behind it, in characters
+-- the characters of the token, and those after it
 drop_on : (n at : ℕ) (text : List ℕ) → drop n (drop at text) ≡ drop (at + n) text
 drop_on n at text = drop-drop n at text ∙ ap (λ m. drop m text) (omega arith)
 
@@ -66,8 +67,8 @@ some_chars bs utf8 h = by (chars bs) (encodes-chars bs utf8)
 
 record IsStep (strings : Strings) (text : List ℕ) (at : ℕ) (t : Token) (part : List ℕ) : Type 0
   where
-    pieces : pieces_from strings 0 (at == 0) (chars (drop at text))
-        ≡ piece t.kind (chars part) ∷ pieces_from strings 0 (at + t.len == 0)
+    text_tokens : text_tokens_from strings 0 (at == 0) (chars (drop at text))
+        ≡ text_token t.kind (chars part) ∷ text_tokens_from strings 0 (at + t.len == 0)
         (chars (drop (at + t.len) text))
     spelt : encode_utf8_all (chars part) ≡ part
 
@@ -96,104 +97,121 @@ step some strings text at t part utf8 here within there long is e part_utf8 =
     let more : (at + t.len == 0) ≡ false = grind (arith, nat_tests) in
     let full : 1 ≤ length u = some_chars bs bs_utf8 (omega (arith, length-drop at text)) in
     record {
-      pieces = pieces_first some strings s u full
-          ∙ ap (λ y. piece (lexeme_at strings s u).kind y
-          ∷ pieces_from strings 0 false (drop k u)) front
-          ∙ ap (λ y. piece y (chars part) ∷ pieces_from strings 0 false (drop k u)) (sym kind)
-          ∙ ap (λ y. piece t.kind (chars part) ∷ pieces_from strings 0 false y) rest
-          ∙ ap (λ b. piece t.kind (chars part)
-          ∷ pieces_from strings 0 b (chars (drop (at + t.len) text))) (sym more);
+      text_tokens = text_tokens_first some strings s u full
+          ∙ ap (λ y. text_token (lexeme_at strings s u).kind y
+          ∷ text_tokens_from strings 0 false (drop k u)) front
+          ∙ ap (λ y. text_token y (chars part) ∷ text_tokens_from strings 0 false (drop k u))
+          (sym kind)
+          ∙ ap (λ y. text_token t.kind (chars part) ∷ text_tokens_from strings 0 false y) rest
+          ∙ ap (λ b. text_token t.kind (chars part)
+          ∷ text_tokens_from strings 0 b (chars (drop (at + t.len) text))) (sym more);
       spelt = encodes-chars part part_utf8;
     }
 
--- a token of a gap widens it
-pub left_gap : TokensProgress
+-- a token of trivia extends the run
+pub rest_after_trivia : TokensProgress
     → (strings : Strings) (text : List ℕ) (at : ℕ) (t : Token) (part : List ℕ) → IsUtf8 text
     → IsCharBoundary text at → at < length text
     → IsCharBoundary text (at + t.len) → 0 < t.len
     → t ≡ token_at strings (at == 0) (chars (drop at text)) → part ≡ take t.len (drop at text)
     → IsUtf8 part
-    → (so_far : Open) → is_trivia t.kind ≡ true
-    → left strings so_far text at ≡ left strings (widened so_far (chars part)) text (at + t.len)
-left_gap some strings text at t part utf8 here within there long is e part_utf8 so_far gap_is =
+    → (run : TriviaRun) → is_trivia t.kind ≡ true
+    → squeezed_rest strings run text at
+    ≡ squeezed_rest strings (extend_run run (chars part)) text (at + t.len)
+rest_after_trivia some strings text at t part utf8 here within there long is e part_utf8 run
+    gap_is =
     let x = step some strings text at t part utf8 here within there long is e part_utf8 in
-    ap (λ ps. joined (squeezed_pieces so_far ps)) x.pieces ∙ rw gap_is refl
+    ap (λ ps. text_of (squeeze_tokens run ps)) x.text_tokens ∙ rw gap_is refl
 
-gap_spelt : (so_far : Open) (p : Piece) (ps : List Piece)
-    → encode_utf8_all (joined (gap so_far (p ∷ ps)))
-    ≡ gap_bytes so_far ++ (encode_utf8_all p.text ++ encode_utf8_all (joined ps))
+separator_spelling : (run : TriviaRun) (p : TextToken) (ps : List TextToken)
+    → encode_utf8_all (text_of (prepend_separator run (p ∷ ps)))
+    ≡ separator_bytes run ++ (encode_utf8_all p.text ++ encode_utf8_all (text_of ps))
 unfolding encode_utf8
-gap_spelt None p ps = encodes-append p.text (joined ps)
-gap_spelt (Some true) p ps = ap (λ w. 10 ∷ w) (encodes-append p.text (joined ps))
-gap_spelt (Some false) p ps = ap (λ w. 32 ∷ w) (encodes-append p.text (joined ps))
+separator_spelling None p ps = encodes-append p.text (text_of ps)
+separator_spelling (Some true) p ps = ap (λ w. 10 ∷ w) (encodes-append p.text (text_of ps))
+separator_spelling (Some false) p ps = ap (λ w. 32 ∷ w) (encodes-append p.text (text_of ps))
 
--- any other token is written behind it
-pub left_kept : TokensProgress
+-- any other token follows the separator of the run
+pub rest_after_token : TokensProgress
     → (strings : Strings) (text : List ℕ) (at : ℕ) (t : Token) (part : List ℕ) → IsUtf8 text
     → IsCharBoundary text at → at < length text
     → IsCharBoundary text (at + t.len) → 0 < t.len
     → t ≡ token_at strings (at == 0) (chars (drop at text)) → part ≡ take t.len (drop at text)
     → IsUtf8 part
-    → (so_far : Open) → is_trivia t.kind ≡ false
-    → encode_utf8_all (left strings so_far text at)
-    ≡ gap_bytes so_far ++ (part ++ encode_utf8_all (left strings None text (at + t.len)))
-left_kept some strings text at t part utf8 here within there long is e part_utf8 so_far gap_is =
+    → (run : TriviaRun) → is_trivia t.kind ≡ false
+    → encode_utf8_all (squeezed_rest strings run text at)
+    ≡ separator_bytes run
+    ++ (part ++ encode_utf8_all (squeezed_rest strings None text (at + t.len)))
+rest_after_token some strings text at t part utf8 here within there long is e part_utf8 run gap_is =
     let x = step some strings text at t part utf8 here within there long is e part_utf8 in
-    let rest = squeezed_pieces None (pieces_from strings 0 (at + t.len == 0)
+    let rest = squeeze_tokens None (text_tokens_from strings 0 (at + t.len == 0)
     (chars (drop (at + t.len) text))) in
-    ap (λ ps. encode_utf8_all (joined (squeezed_pieces so_far ps))) x.pieces
-    ∙ rw gap_is (gap_spelt so_far (piece t.kind (chars part)) rest
-    ∙ ap (λ w. gap_bytes so_far ++ (w ++ encode_utf8_all (joined rest))) x.spelt)
+    ap (λ ps. encode_utf8_all (text_of (squeeze_tokens run ps))) x.text_tokens
+    ∙ rw gap_is (separator_spelling run (text_token t.kind (chars part)) rest
+    ∙ ap (λ w. separator_bytes run ++ (w ++ encode_utf8_all (text_of rest))) x.spelt)
 
--- at the end, the gap is left
-pub left_end : (strings : Strings) (text : List ℕ) (at : ℕ) (so_far : Open) → length text ≤ at
-    → encode_utf8_all (left strings so_far text at) ≡ gap_bytes so_far
+-- at the end of the text, the separator of the run is left
+pub rest_at_end : (strings : Strings) (text : List ℕ) (at : ℕ) (run : TriviaRun) → length text ≤ at
+    → encode_utf8_all (squeezed_rest strings run text at) ≡ separator_bytes run
 unfolding encode_utf8
-left_end strings text at so_far h =
+rest_at_end strings text at run h =
     by (chars (drop at text)) (chars_none (drop at text) (omega (arith, length-drop at text)))
   where
-    alone : (o : Open) → encode_utf8_all (joined (gap o [])) ≡ gap_bytes o
+    alone : (o : TriviaRun) → encode_utf8_all (text_of (prepend_separator o [])) ≡ separator_bytes o
     alone None = refl
     alone (Some true) = refl
     alone (Some false) = refl
 
     by : (u : List ℕ) → u ≡ []
-        → encode_utf8_all (joined (squeezed_pieces so_far (pieces_from strings 0 (at == 0) u)))
-        ≡ gap_bytes so_far
+        → encode_utf8_all (text_of (squeeze_tokens run (text_tokens_from strings 0 (at == 0) u)))
+        ≡ separator_bytes run
     by u e = ap (λ w.
-        encode_utf8_all (joined (squeezed_pieces so_far (pieces_from strings 0 (at == 0) w)))) e
-        ∙ alone so_far
+        encode_utf8_all (text_of (squeeze_tokens run (text_tokens_from strings 0 (at == 0) w)))) e
+        ∙ alone run
 
--- the characters of an answer that has these bytes
-pub answer_chars : (out : List ℕ) (cs : List ℕ) → IsUtf8 out → out ≡ encode_utf8_all cs
-    → cs ≡ chars out
-answer_chars out cs utf8 e = chars_from_encodes cs out utf8 (sym e)
+-- a result that is the squeezed text has the tokens of the text, trivia left out
+pub result_keeps_tokens : LexerLaws → (strings : Strings) (text out : List ℕ) → IsUtf8 out
+    → IsSqueezed strings text out → KeepsTokens strings text out
+result_keeps_tokens laws strings text out utf8 is =
+    ap (λ u. without_trivia (text_tokens strings u))
+    (sym (chars_from_encodes (squeezed_text strings (chars text)) out utf8 (sym is)))
+    ∙ keeps_tokens laws strings (chars text)
 
-pub gap_bytes_len : (so_far : Open) → length (gap_bytes so_far) ≡ gap_len so_far
-gap_bytes_len None = refl
-gap_bytes_len (Some b) = refl
+-- a result that is the squeezed text is squeezed
+pub result_is_unchanged : LexerLaws → (strings : Strings) (text out : List ℕ) → IsUtf8 out
+    → IsSqueezed strings text out → IsUnchangedBySqueezing strings out
+result_is_unchanged laws strings text out utf8 is =
+    let same : squeezed_text strings (chars text) ≡ chars out =
+    chars_from_encodes (squeezed_text strings (chars text)) out utf8 (sym is) in
+    ap (squeezed_text strings) (sym same) ∙ squeeze_idempotent laws strings (chars text) ∙ same
 
-pub gap_len_one : (so_far : Open) → gap_len so_far ≤ 1
-gap_len_one None = omega arith
-gap_len_one (Some b) = omega arith
+-- what a step appends to the output, and how long it is then
+pub separator_bytes_len : (run : TriviaRun) → length (separator_bytes run) ≡ separator_len run
+separator_bytes_len None = refl
+separator_bytes_len (Some b) = refl
 
-pub put_kept : (new mid out gap part rest whole : List ℕ) → new ≡ mid ++ part → mid ≡ out ++ gap
-    → whole ≡ gap ++ (part ++ rest) → new ++ rest ≡ out ++ whole
-put_kept new mid out gap part rest whole e f g =
-    ap (λ w. w ++ rest) (e ∙ ap (λ w. w ++ part) f) ∙ append_assoc (out ++ gap) part rest
-    ∙ append_assoc out gap (part ++ rest) ∙ ap (λ w. out ++ w) (sym g)
+pub separator_len_one : (run : TriviaRun) → separator_len run ≤ 1
+separator_len_one None = omega arith
+separator_len_one (Some b) = omega arith
 
-pub put_len : (new mid out gap part : List ℕ) → new ≡ mid ++ part → mid ≡ out ++ gap
-    → length new ≡ length out + length gap + length part
-put_len new mid out gap part e f =
+pub put_kept : (new mid out sep part rest whole : List ℕ) → new ≡ mid ++ part → mid ≡ out ++ sep
+    → whole ≡ sep ++ (part ++ rest) → new ++ rest ≡ out ++ whole
+put_kept new mid out sep part rest whole e f g =
+    ap (λ w. w ++ rest) (e ∙ ap (λ w. w ++ part) f) ∙ append_assoc (out ++ sep) part rest
+    ∙ append_assoc out sep (part ++ rest) ∙ ap (λ w. out ++ w) (sym g)
+
+pub put_len : (new mid out sep part : List ℕ) → new ≡ mid ++ part → mid ≡ out ++ sep
+    → length new ≡ length out + length sep + length part
+put_len new mid out sep part e f =
     ap length e ∙ length-append mid part ∙ ap (λ w. length w + length part) f
-    ∙ ap (λ n. n + length part) (length-append out gap)
+    ∙ ap (λ n. n + length part) (length-append out sep)
 
-pub put_last : (strings : Strings) (text : List ℕ) (at : ℕ) (so_far : Open) (new out whole : List ℕ)
-    → new ≡ out ++ gap_bytes so_far → length text ≤ at
-    → out ++ encode_utf8_all (left strings so_far text at) ≡ whole → new ≡ whole
-put_last strings text at so_far new out whole e h inv = e
-    ∙ ap (λ w. out ++ w) (sym (left_end strings text at so_far h)) ∙ inv
+pub put_last : (strings : Strings) (text : List ℕ) (at : ℕ) (run : TriviaRun)
+    (new out whole : List ℕ)
+    → new ≡ out ++ separator_bytes run → length text ≤ at
+    → out ++ encode_utf8_all (squeezed_rest strings run text at) ≡ whole → new ≡ whole
+put_last strings text at run new out whole e h inv = e
+    ∙ ap (λ w. out ++ w) (sym (rest_at_end strings text at run h)) ∙ inv
 
 pub part_len : (part text : List ℕ) (at n : ℕ) → part ≡ take n (drop at text) → at + n ≤ length text
     → length part ≡ n

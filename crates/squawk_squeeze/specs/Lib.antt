@@ -1,1 +1,2 @@
 pub mod Squeezed
+pub mod Laws

@@ -1,7 +1,9 @@
--- A text whose gaps are one character each.
-use Rattle.std.specs.Prelude.{ℕ, zero, suc, ◌-◌, Bool, true, false, ◌||◌, List, [], ◌∷◌, ◌++◌, ◌==◌, take, drop, Option, Some, None, if◌then◌else◌}
+-- The text in which one character stands for each run of trivia. Texts are lists of characters.
+use Rattle.std.specs.Prelude.{◌≡◌, ℕ, zero, suc, ◌-◌, Bool, true, false, ◌||◌, List, [], ◌∷◌, ◌++◌, ◌==◌, take, drop, Option, Some, None, if◌then◌else◌, ⊤}
 use Rattle.std.specs.List.{list_any}
-use Rattle.std.specs.Str.{chars}
+use Rattle.std.specs.Str.{chars, encode_utf8_all}
+use Rattle.squawk_events.specs.declared.error.FrontError.{FrontError}
+use Rattle.squawk_events.specs.declared.error.FrontError.TheVariants.{TooLong, OutOfMemory}
 use Rattle.squawk_lexer.specs.declared.token.TokenKind.{TokenKind}
 use Rattle.squawk_lexer.specs.declared.token.TokenKind.TheVariants.{Whitespace}
 use Rattle.squawk_lexer.specs.declared.token.Strings.{Strings}
@@ -9,83 +11,111 @@ use Rattle.squawk_lexer.specs.Classes.{is_line_end, line_feed}
 use Rattle.squawk_lexer.specs.Token.{lexeme_at}
 use Rattle.squawk_lexer.specs.Cut.{is_trivia}
 
--- a token with its text
-pub record Piece : Type 0 where
+-- ---- tokens with their texts
+
+-- a token's kind and its text
+pub record TextToken : Type 0 where
   pub kind : TokenKind
   pub text : List ℕ
 
-abbrev pub piece : TokenKind → List ℕ → Piece
-piece kind text = record { kind = kind; text = text }
+abbrev pub text_token : TokenKind → List ℕ → TextToken
+text_token kind text = record { kind = kind; text = text }
 
 -- A token begins at each character that is not inside one; the first `inside` characters are.
 -- `at_start` says that the whole text begins here.
-abbrev pub pieces_from : Strings → ℕ → Bool → List ℕ → List Piece
-pieces_from strings inside at_start [] = []
-pieces_from strings zero at_start (c ∷ cs) =
-    piece (lexeme_at strings at_start (c ∷ cs)).kind
+abbrev pub text_tokens_from : Strings → ℕ → Bool → List ℕ → List TextToken
+text_tokens_from strings inside at_start [] = []
+text_tokens_from strings zero at_start (c ∷ cs) =
+    text_token (lexeme_at strings at_start (c ∷ cs)).kind
     (take (lexeme_at strings at_start (c ∷ cs)).end (c ∷ cs))
-    ∷ pieces_from strings ((lexeme_at strings at_start (c ∷ cs)).end - 1) false cs
-pieces_from strings (suc inside) at_start (c ∷ cs) = pieces_from strings inside at_start cs
+    ∷ text_tokens_from strings ((lexeme_at strings at_start (c ∷ cs)).end - 1) false cs
+text_tokens_from strings (suc inside) at_start (c ∷ cs) =
+    text_tokens_from strings inside at_start cs
 
 -- the tokens of a text, with their texts
-abbrev pub pieces : Strings → List ℕ → List Piece
-pieces strings text = pieces_from strings 0 true text
+abbrev pub text_tokens : Strings → List ℕ → List TextToken
+text_tokens strings text = text_tokens_from strings 0 true text
 
--- whether it is white or a comment
-abbrev pub is_gap : Piece → Bool
-is_gap p = is_trivia p.kind
+-- the text of a list of tokens
+abbrev pub text_of : List TextToken → List ℕ
+text_of [] = []
+text_of (t ∷ ts) = t.text ++ text_of ts
 
--- the tokens that are neither
-abbrev pub kept : List Piece → List Piece
-kept [] = []
-kept (p ∷ ps) = if is_gap p then kept ps else p ∷ kept ps
+-- the tokens other than white space and comments
+abbrev pub without_trivia : List TextToken → List TextToken
+without_trivia [] = []
+without_trivia (t ∷ ts) = if is_trivia t.kind then without_trivia ts else t ∷ without_trivia ts
 
--- the gap that has begun: none, or one that has a line end (LF or CR) so far, or one that has not
-abbrev pub Open : Type 0
-Open = Option Bool
+-- ---- runs of trivia
 
--- the gap with one more text
-abbrev pub widened : Open → List ℕ → Open
-widened None text = Some (list_any is_line_end text)
-widened (Some line_end) text = Some (line_end || list_any is_line_end text)
+-- the trivia directly before a token: none, or whether its text has a line end (LF or CR)
+abbrev pub TriviaRun : Type 0
+TriviaRun = Option Bool
 
--- the character that a gap becomes: LF where it has a line end, or else a space (32)
-abbrev pub gap_char : Bool → ℕ
-gap_char line_end = if line_end then line_feed else 32
+-- the run after one more token of trivia, which has this text
+abbrev pub extend_run : TriviaRun → List ℕ → TriviaRun
+extend_run None text = Some (list_any is_line_end text)
+extend_run (Some line_end) text = Some (line_end || list_any is_line_end text)
 
-abbrev pub gap : Open → List Piece → List Piece
-gap None ps = ps
-gap (Some line_end) ps = piece Whitespace (gap_char line_end ∷ []) ∷ ps
+abbrev pub space : ℕ
+space = 32
 
--- each longest run of white and comments becomes one character
-abbrev pub squeezed_pieces : Open → List Piece → List Piece
-squeezed_pieces so_far [] = gap so_far []
-squeezed_pieces so_far (p ∷ ps) =
-    if is_gap p then squeezed_pieces (widened so_far p.text) ps
-    else gap so_far (p ∷ squeezed_pieces None ps)
+-- the character that a run becomes: LF if it has a line end, or else a space
+abbrev pub separator : Bool → ℕ
+separator line_end = if line_end then line_feed else space
 
--- the text that the pieces are
-abbrev pub joined : List Piece → List ℕ
-joined [] = []
-joined (p ∷ ps) = p.text ++ joined ps
+abbrev pub separator_token : Bool → TextToken
+separator_token line_end = text_token Whitespace (separator line_end ∷ [])
 
--- the text, squeezed
-abbrev pub squeezed : Strings → List ℕ → List ℕ
-squeezed strings text = joined (squeezed_pieces None (pieces strings text))
+abbrev pub prepend_separator : TriviaRun → List TextToken → List TextToken
+prepend_separator None ts = ts
+prepend_separator (Some line_end) ts = separator_token line_end ∷ ts
 
--- ---- the loop of src/lib.rt
+-- each longest run of trivia becomes one token of one character; `run` precedes the tokens
+abbrev pub squeeze_tokens : TriviaRun → List TextToken → List TextToken
+squeeze_tokens run [] = prepend_separator run []
+squeeze_tokens run (t ∷ ts) =
+    if is_trivia t.kind then squeeze_tokens (extend_run run t.text) ts
+    else prepend_separator run (t ∷ squeeze_tokens None ts)
 
--- what the tokens from the byte `at` on become, where so much of a gap has begun before
-abbrev pub left : Strings → Open → List ℕ → ℕ → List ℕ
-left strings so_far text at =
-    joined (squeezed_pieces so_far (pieces_from strings 0 (at == 0) (chars (drop at text))))
+-- the text in which one character stands for each longest run of trivia
+abbrev pub squeezed_text : Strings → List ℕ → List ℕ
+squeezed_text strings text = text_of (squeeze_tokens None (text_tokens strings text))
 
--- how many bytes a gap becomes
-abbrev pub gap_len : Open → ℕ
-gap_len None = 0
-gap_len (Some line_end) = 1
+-- ---- what `squeeze` returns, in bytes
 
--- the bytes that an open gap becomes
-abbrev pub gap_bytes : Open → List ℕ
-gap_bytes None = []
-gap_bytes (Some line_end) = gap_char line_end ∷ []
+-- `out` is the squeezed text of `text`
+abbrev pub IsSqueezed : Strings → List ℕ → List ℕ → Type 0
+IsSqueezed strings text out = out ≡ encode_utf8_all (squeezed_text strings (chars text))
+
+-- the tokens of `out`, trivia left out, have the kinds and texts of those of `text`
+abbrev pub KeepsTokens : Strings → List ℕ → List ℕ → Type 0
+KeepsTokens strings text out =
+    without_trivia (text_tokens strings (chars out))
+    ≡ without_trivia (text_tokens strings (chars text))
+
+-- nothing is left to squeeze in `out`
+abbrev pub IsUnchangedBySqueezing : Strings → List ℕ → Type 0
+IsUnchangedBySqueezing strings out = squeezed_text strings (chars out) ≡ chars out
+
+-- what `squeeze` may refuse, and when; lack of memory has no other cause
+abbrev pub IsRefusal : (too_long : Type 0) → FrontError → Type 0
+IsRefusal too_long TooLong = too_long
+IsRefusal too_long OutOfMemory = ⊤
+
+-- ---- for private functions
+
+-- the squeezed text of the tokens from byte `at` on, where `run` precedes them
+abbrev pub squeezed_rest : Strings → TriviaRun → List ℕ → ℕ → List ℕ
+squeezed_rest strings run text at =
+    text_of (squeeze_tokens run (text_tokens_from strings 0 (at == 0) (chars (drop at text))))
+
+-- the number of bytes that a run becomes
+abbrev pub separator_len : TriviaRun → ℕ
+separator_len None = 0
+separator_len (Some line_end) = 1
+
+-- the bytes that a run becomes
+abbrev pub separator_bytes : TriviaRun → List ℕ
+separator_bytes None = []
+separator_bytes (Some line_end) = separator line_end ∷ []

@@ -1,6 +1,8 @@
-//! A text whose gaps between tokens are one character each.
+//! Squeezes SQL text: one character stands for each run of white space and comments.
 #![tactic(auto)]
 
+/// Laws of the definitions of squeezing: for proofs.
+pub mod laws;
 mod text;
 
 pub use text::squeeze;

@@ -1,22 +1,22 @@
-//! White space and comments, squeezed.
-ghost use Rattle.std.specs.Prelude.{◌≡◌, ◌++◌, ◌≤◌, ◌<◌, ◌↔◌, length, IfOk, OnOk, IsErrOf};
+//! Replaces each run of white space and comments by one character.
+ghost use Rattle.std.specs.Prelude.{◌≡◌, ◌++◌, ◌≤◌, ◌<◌, ◌↔◌, length, IfOk, IfErr, OnOk, IsErrOf};
 ghost use Rattle.std.specs.List.{list_any};
-ghost use Rattle.std.specs.Str.{chars, encode_utf8_all};
+ghost use Rattle.std.specs.Str.{chars};
 ghost use Rattle.std.specs.String.{string_bytes};
 ghost use Rattle.squawk_lexer.specs.Classes.{is_line_end};
 ghost use Rattle.squawk_lexer.specs.Cut.{is_trivia};
-ghost use Rattle.squawk_squeeze.specs.Squeezed.{pieces, kept, widened, gap_bytes, squeezed};
+ghost use Rattle.squawk_squeeze.specs.Squeezed as spec;
 
 use squawk_events::FrontError;
 use squawk_lexer::laws::{tokens_look_ahead, tokens_progress, tokens_stay};
 use squawk_lexer::{Strings, TokenKind, cut_at_in};
 use std::alloc::{AllocError, Global};
 
-/// The most bytes that a text may have.
+// The length limit of a text, in bytes: the largest `u32`.
 const LIMIT: usize = 4294967295;
 
-/// Whether a token is white space or a comment.
-fn is_gap(kind: TokenKind) -> bool
+// Whether a token is white space or a comment.
+fn is_trivia(kind: TokenKind) -> bool
     ensures { result ≡ is_trivia kind }
 {
     match kind {
@@ -25,14 +25,14 @@ fn is_gap(kind: TokenKind) -> bool
     }
 }
 
-/// Whether a character is LF or CR.
+// Whether a character is LF or CR.
 fn is_line_end(c: char) -> bool
     ensures { result ≡ is_line_end c }
 {
     c == '\n' || c == '\r'
 }
 
-/// Whether a text has an LF or a CR.
+// Whether a text contains an LF or a CR.
 fn has_line_end(text: &str) -> bool
     ensures { result ≡ list_any is_line_end (chars text.now) }
 {
@@ -44,43 +44,50 @@ fn has_line_end(text: &str) -> bool
     false
 }
 
-/// The gap with one more text.
-fn widened(gap: Option<bool>, text: &str) -> Option<bool>
-    ensures { result ≡ widened gap (chars text.now) }
+// Adds the text of one more token to a run of trivia. A run is `Some(whether it has a line end)`.
+fn extend_run(run: Option<bool>, text: &str) -> Option<bool>
+    ensures { result ≡ spec.extend_run run (chars text.now) }
 {
-    let more = has_line_end(text);
-    match gap {
-        None => Some(more),
-        Some(line_end) => Some(line_end || more),
+    let ends_line = has_line_end(text);
+    match run {
+        None => Some(ends_line),
+        Some(line_end) => Some(line_end || ends_line),
     }
 }
 
-/// Appends the character that a gap becomes, if one has begun.
-fn push_gap(out: &mut String, gap: Option<bool>) -> Result<(), AllocError>
-    ensures { OnOk result (string_bytes out.new ≡ string_bytes out.old ++ gap_bytes gap) }
+// Appends the character that stands for a run of trivia, if there is a run.
+fn push_separator(out: &mut String, run: Option<bool>) -> Result<(), AllocError>
+    ensures { OnOk result (string_bytes out.new
+        ≡ string_bytes out.old ++ spec.separator_bytes run) }
 {
-    match gap {
+    match run {
         None => Ok(()),
         Some(true) => out.push_str("\n"),
         Some(false) => out.push_str(" "),
     }
 }
 
-/// The text with each longest run of white space and comments made one character: LF where the run
-/// has an LF or a CR, or else a space. All other tokens stay.
+/// Replaces each longest run of white space and comments by one character: LF if the run contains
+/// an LF or a CR, or else a space. All other tokens keep their kinds and texts.
 ///
-/// `TooLong` comes exactly where the text has more than 4294967295 bytes, before any memory is
-/// taken, and `OutOfMemory` where there is no memory for the answer.
+/// PostgreSQL reads a comment as white space (manual, 4.1.5), and a line end between two string
+/// constants joins them where a space does not (4.1.2.1), so a run that has one stays a line end.
+/// A byte order mark at the start of the text counts as white space. Squeezing a squeezed text
+/// changes nothing.
+///
+/// # Errors
+///
+/// `TooLong` exactly if the text has more than 4294967295 bytes; no memory is taken then.
+/// `OutOfMemory` if there is not enough memory for the result.
 pub fn squeeze(alloc: Global, text: &str, strings: Strings) -> Result<String, FrontError>
-    ensures squeezed { IfOk result (λ out. string_bytes out
-        ≡ encode_utf8_all (squeezed strings (chars text.now))) }
-    // The tokens that are not in gaps stay, and squeezing again changes nothing.
-    ensures keeps { IfOk result (λ out. kept (pieces strings (chars (string_bytes out)))
-        ≡ kept (pieces strings (chars text.now))) }
-    ensures once { IfOk result (λ out. squeezed strings (chars (string_bytes out))
-        ≡ chars (string_bytes out)) }
+    ensures text { IfOk result (λ out. spec.IsSqueezed strings text.now (string_bytes out)) }
+    ensures keeps_tokens { IfOk result (λ out.
+        spec.KeepsTokens strings text.now (string_bytes out)) }
+    ensures idempotent { IfOk result (λ out.
+        spec.IsUnchangedBySqueezing strings (string_bytes out)) }
     ensures no_longer { IfOk result (λ out. length (string_bytes out) ≤ length text.now) }
     ensures too_long { IsErrOf result FrontError.TooLong ↔ (LIMIT < length text.now) }
+    ensures refusals { IfErr result (spec.IsRefusal (LIMIT < length text.now)) }
 {
     if text.len() > LIMIT {
         return Err(FrontError::TooLong);
@@ -89,21 +96,21 @@ pub fn squeeze(alloc: Global, text: &str, strings: Strings) -> Result<String, Fr
     tokens_look_ahead();
     tokens_stay();
     let mut out = String::new(alloc);
-    let mut gap = None;
+    let mut run = None;
     let mut at = 0;
     while at < text.len() {
         let token = cut_at_in(text, at, strings);
         let end = at + token.len as usize;
         let part = &text[at..end];
-        if is_gap(token.kind) {
-            gap = widened(gap, part);
+        if is_trivia(token.kind) {
+            run = extend_run(run, part);
         } else {
-            push_gap(&mut out, gap)?;
-            gap = None;
+            push_separator(&mut out, run)?;
+            run = None;
             out.push_str(part)?;
         }
         at = end;
     }
-    push_gap(&mut out, gap)?;
+    push_separator(&mut out, run)?;
     Ok(out)
 }

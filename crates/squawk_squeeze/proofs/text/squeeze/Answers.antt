@@ -1,10 +1,10 @@
 use Rattle.std.proofs.Common.{◌≡◌, ◌++◌, ◌+◌, ◌-◌, ℕ, List, length, take, drop, None, refl, sym, ap, ◌∙◌, arith}
 use Rattle.std.proofs.lemmas.Str.{IsCharBoundary-start, IsUtf8-string_bytes}
-use Rattle.std.specs.Str.{chars, encode_utf8_all}
+use Rattle.std.specs.Str.{encode_utf8_all}
 use Rattle.std.specs.String.{string_bytes}
-use Rattle.squawk_squeeze.specs.Squeezed.{left, gap_bytes, squeezed, kept, pieces}
-use Rattle.squawk_squeeze.proofs.SqueezeLaws.{LexerLaws, keeps, once}
-use Rattle.squawk_squeeze.proofs.SqueezeBytes.{left_gap, left_kept, answer_chars, gap_bytes_len, gap_len_one, put_kept, put_len, put_last, part_len}
+use Rattle.squawk_squeeze.specs.Squeezed.{squeezed_rest, separator_bytes}
+use Rattle.squawk_squeeze.proofs.SqueezeLaws.{lexer_laws}
+use Rattle.squawk_squeeze.proofs.SqueezeBytes.{rest_after_trivia, rest_after_token, result_keeps_tokens, result_is_unchanged, separator_bytes_len, separator_len_one, put_kept, put_len, put_last, part_len}
 use Rattle.squawk_squeeze.proofs.text.squeeze.Goals as goal
 
 pub loop-at-init : goal.loop-at-init
@@ -20,26 +20,26 @@ loop-at-init c = record {
   within = omega arith;
 }
 
-pub loop-at-preserved-then-is_gap : goal.loop-at-preserved-then-is_gap
-loop-at-preserved-then-is_gap c =
+pub loop-at-preserved-then-is_trivia : goal.loop-at-preserved-then-is_trivia
+loop-at-preserved-then-is_trivia c =
     let t = c.cut_at_in-token.result in
     let out = string_bytes c.loop-at.out in
     let text = c.args.text.now in
     let at = c.loop-at.at in
-    let is_gap = sym c.is_gap.ensures ∙ c.if-is_gap.true in
+    let trivia = sym c.is_trivia.ensures ∙ c.if-is_trivia.true in
     let part_is : c.range-part.result.now ≡ take t.len (drop at text) = c.range-part.ensures.value
     ∙ ap (λ n. take n (drop at text)) (let e : at + t.len - at ≡ t.len = omega arith in e) in
-    let same = left_gap c.tokens_progress.ensures.some c.args.strings text at t
+    let same = rest_after_trivia c.tokens_progress.ensures.some c.args.strings text at t
     c.range-part.result.now c.utf8.text c.loop-at.invariant.boundary c.loop-at-test.true
     c.cut_at_in-token.ensures.ends_between c.cut_at_in-token.ensures.positive
-    c.cut_at_in-token.ensures.token part_is c.range-part.utf8 c.loop-at.gap is_gap in
+    c.cut_at_in-token.ensures.token part_is c.range-part.utf8 c.loop-at.run trivia in
     record {
-      text = ap (λ o. out ++ encode_utf8_all (left c.args.strings o text (at + t.len)))
-          c.widened-gap.ensures ∙ ap (λ w. out ++ encode_utf8_all w) (sym same)
+      text = ap (λ o. out ++ encode_utf8_all (squeezed_rest c.args.strings o text (at + t.len)))
+          c.extend_run-run.ensures ∙ ap (λ w. out ++ encode_utf8_all w) (sym same)
           ∙ c.loop-at.invariant.text;
       short = omega (
         arith,
-        gap_len_one c.widened-gap.result,
+        separator_len_one c.extend_run-run.result,
         c.loop-at.invariant.short,
         c.cut_at_in-token.ensures.positive,
       );
@@ -54,25 +54,26 @@ loop-at-preserved c =
     let text = c.args.text.now in
     let at = c.loop-at.at in
     let part = c.range-part.result.now in
-    let mid = string_bytes c.push_gap.new.out in
+    let mid = string_bytes c.push_separator.new.out in
     let new = string_bytes c.push_str.new.self in
-    let gap = gap_bytes c.loop-at.gap in
-    let is_gap = sym c.is_gap.ensures ∙ c.if-is_gap.false in
+    let sep = separator_bytes c.loop-at.run in
+    let trivia = sym c.is_trivia.ensures ∙ c.if-is_trivia.false in
     let part_is : part ≡ take t.len (drop at text) = c.range-part.ensures.value
     ∙ ap (λ n. take n (drop at text)) (let e : at + t.len - at ≡ t.len = omega arith in e) in
-    let whole = left_kept c.tokens_progress.ensures.some c.args.strings text at t part c.utf8.text
+    let whole = rest_after_token c.tokens_progress.ensures.some c.args.strings text at t part
+    c.utf8.text
     c.loop-at.invariant.boundary c.loop-at-test.true
     c.cut_at_in-token.ensures.ends_between c.cut_at_in-token.ensures.positive
-    c.cut_at_in-token.ensures.token part_is c.range-part.utf8 c.loop-at.gap is_gap in
-    let rest = encode_utf8_all (left c.args.strings None text (at + t.len)) in
+    c.cut_at_in-token.ensures.token part_is c.range-part.utf8 c.loop-at.run trivia in
+    let rest = encode_utf8_all (squeezed_rest c.args.strings None text (at + t.len)) in
     record {
-      text = put_kept new mid out gap part rest _ c.in_ok-push_str.ensures.bytes
-          c.in_ok-push_gap.ensures whole ∙ c.loop-at.invariant.text;
+      text = put_kept new mid out sep part rest _ c.in_ok-push_str.ensures.bytes
+          c.in_ok-push_separator.ensures whole ∙ c.loop-at.invariant.text;
       short = omega (
         arith,
-        put_len new mid out gap part c.in_ok-push_str.ensures.bytes
-            c.in_ok-push_gap.ensures,
-        gap_bytes_len c.loop-at.gap,
+        put_len new mid out sep part c.in_ok-push_str.ensures.bytes
+            c.in_ok-push_separator.ensures,
+        separator_bytes_len c.loop-at.run,
         part_len part text at t.len part_is
             c.cut_at_in-token.ensures.ends_between.0,
         c.loop-at.invariant.short,
@@ -81,48 +82,22 @@ loop-at-preserved c =
       within = c.cut_at_in-token.ensures.ends_between.0;
     }
 
-pub returns-clause-squeezed : goal.returns-clause-squeezed
-returns-clause-squeezed c =
-    put_last c.args.strings c.args.text.now c.loop-at.at c.loop-at.gap _
-    (string_bytes c.loop-at.out) _ c.in_ok-push_gap-2.ensures c.loop-at-test.false
+pub returns-clause-text : goal.returns-clause-text
+returns-clause-text c =
+    put_last c.args.strings c.args.text.now c.loop-at.at c.loop-at.run _
+    (string_bytes c.loop-at.out) _ c.in_ok-push_separator-2.ensures c.loop-at-test.false
     c.loop-at.invariant.text
 
-pub returns-clause-keeps : goal.returns-clause-keeps
-returns-clause-keeps c =
-    let laws : LexerLaws = record {
-      some = c.tokens_progress.ensures.some;
-      within =
-          c.tokens_progress.ensures.within;
-      looks = c.tokens_look_ahead.ensures.lexemes;
-      seen =
-          c.tokens_stay.ensures.seen;
-      stay = c.tokens_stay.ensures.near;
-      stay_before =
-          c.tokens_stay.ensures.before;
-    } in
-    let is = put_last c.args.strings c.args.text.now c.loop-at.at c.loop-at.gap _
-    (string_bytes c.loop-at.out) _ c.in_ok-push_gap-2.ensures c.loop-at-test.false
-    c.loop-at.invariant.text in
-    let same = answer_chars _ _ (IsUtf8-string_bytes c.push_gap-2.new.out) is in
-    ap (λ u. kept (pieces c.args.strings u)) (sym same)
-    ∙ keeps laws c.args.strings (chars c.args.text.now)
+pub returns-clause-keeps_tokens : goal.returns-clause-keeps_tokens
+returns-clause-keeps_tokens c =
+    result_keeps_tokens (lexer_laws c.tokens_progress.ensures.some c.tokens_progress.ensures.within
+    c.tokens_look_ahead.ensures.lexemes c.tokens_stay.ensures.seen c.tokens_stay.ensures.near
+    c.tokens_stay.ensures.before) c.args.strings c.args.text.now _
+    (IsUtf8-string_bytes c.push_separator-2.new.out) (returns-clause-text c)
 
-pub returns-clause-once : goal.returns-clause-once
-returns-clause-once c =
-    let laws : LexerLaws = record {
-      some = c.tokens_progress.ensures.some;
-      within =
-          c.tokens_progress.ensures.within;
-      looks = c.tokens_look_ahead.ensures.lexemes;
-      seen =
-          c.tokens_stay.ensures.seen;
-      stay = c.tokens_stay.ensures.near;
-      stay_before =
-          c.tokens_stay.ensures.before;
-    } in
-    let is = put_last c.args.strings c.args.text.now c.loop-at.at c.loop-at.gap _
-    (string_bytes c.loop-at.out) _ c.in_ok-push_gap-2.ensures c.loop-at-test.false
-    c.loop-at.invariant.text in
-    let same = answer_chars _ _ (IsUtf8-string_bytes c.push_gap-2.new.out) is in
-    ap (squeezed c.args.strings) (sym same) ∙ once laws c.args.strings (chars c.args.text.now)
-    ∙ same
+pub returns-clause-idempotent : goal.returns-clause-idempotent
+returns-clause-idempotent c =
+    result_is_unchanged (lexer_laws c.tokens_progress.ensures.some c.tokens_progress.ensures.within
+    c.tokens_look_ahead.ensures.lexemes c.tokens_stay.ensures.seen c.tokens_stay.ensures.near
+    c.tokens_stay.ensures.before) c.args.strings c.args.text.now _
+    (IsUtf8-string_bytes c.push_separator-2.new.out) (returns-clause-text c)
