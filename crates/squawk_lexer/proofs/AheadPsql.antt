@@ -1,9 +1,9 @@
 -- Psql commands are decided by the characters up to their end, and by what the tests say of the
 -- next.
-use Rattle.std.proofs.Common.{◌≡◌, ℕ, zero, suc, ◌+◌, ◌-◌, ◌≤◌, Bool, true, false, List, [], ◌∷◌, ◌++◌, length, get_or, slice_get, take, drop, Option, None, Some, option_map, unwrap_or, refl, sym, ap, ◌∙◌, ◌&&◌, not, eqb, cond, arith}
+use Rattle.std.proofs.Common.{◌≡◌, ℕ, zero, suc, ◌+◌, ◌-◌, ◌≤◌, Bool, true, false, List, [], ◌∷◌, ◌++◌, length, get_or, take, drop, Option, None, Some, option_map, unwrap_or, refl, sym, ap, ◌∙◌, ◌&&◌, not, eqb, cond, arith}
 use Rattle.std.proofs.lemmas.List.{take-append-le}
 use Rattle.std.proofs.lemmas.Bool.Decides.{nat_tests}
-use Rattle.std.specs.List.{prefix_len}
+use Rattle.std.specs.List.{prefix_len, last_or}
 use Rattle.std.specs.Option.{option_or}
 use Rattle.squawk_lexer.specs.declared.token.TokenKind.TheVariants as kinds
 use Rattle.squawk_lexer.specs.Kind.{Lexeme, lexeme_until}
@@ -157,7 +157,7 @@ inside_same : (xs r s : List ℕ) (o : Option ℕ) (len : ℕ) → unwrap_or o l
     → last_inside (xs ++ s) o ≡ last_inside (xs ++ r) o
 inside_same xs r s None len h = refl
 inside_same xs r s (Some n) len h =
-    ap (λ w. slice_get w (n - 2)) (take-append-le (n - 1) xs s (omega arith)
+    ap (last_or None) (take-append-le (n - 1) xs s (omega arith)
     ∙ sym (take-append-le (n - 1) xs r (omega arith)))
 
 mark_same : {told : (ℕ → Bool) → Type 0} {pairs : (ℕ → Bool) → (ℕ → Bool) → Type 0} → AsksPsql told

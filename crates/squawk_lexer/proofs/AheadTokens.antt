@@ -13,9 +13,9 @@ use Rattle.squawk_lexer.specs.declared.word.StringPrefix.{StringPrefix}
 use Rattle.squawk_lexer.specs.declared.word.StringPrefix.TheVariants.{National, Bit, Byte, Escape, UnicodeString, UnicodeIdent, Plain}
 use Rattle.squawk_lexer.specs.Kind.{Lexeme, lexeme_until}
 use Rattle.squawk_lexer.specs.Text.{utf8_len}
-use Rattle.squawk_lexer.specs.Classes.{is_whitespace, is_ident_cont, is_not_line_end, apostrophe, quotation_mark, byte_order_mark}
+use Rattle.squawk_lexer.specs.Classes.{is_letter, is_whitespace, is_ident_cont, is_not_line_end, apostrophe, quotation_mark, byte_order_mark}
 use Rattle.squawk_lexer.specs.Symbols.{symbol}
-use Rattle.squawk_lexer.specs.Token.{has_escapes, string, quoted_ident, is_letter, token_form, prefix_of, lexeme_of_prefix, lexeme_of_form, lexeme_of, lexeme_at, token_at}
+use Rattle.squawk_lexer.specs.Token.{has_escapes, string, quoted_ident, token_form, prefix_of, lexeme_of_prefix, lexeme_of_form, lexeme_of, lexeme_at, token_at}
 use Rattle.squawk_lexer.specs.LookAhead.{Agrees, LexemesLookAhead, TokensLookAhead}
 use Rattle.squawk_lexer.proofs.TokenLaws.{lexeme_at_some}
 use Rattle.squawk_lexer.proofs.Ahead.{pick, agrees_right, agrees_less, agrees_read, after, Alike, read, take_same, test, pair}

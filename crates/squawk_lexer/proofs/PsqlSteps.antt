@@ -1,6 +1,6 @@
 -- Steps within the arguments of a psql command.
-use Rattle.std.proofs.Common.{◌≡◌, ℕ, zero, suc, ◌+◌, ◌-◌, ◌<◌, ◌≤◌, Bool, true, false, List, [], ◌∷◌, length, take, drop, get_or, slice_get, Option, None, Some, refl, sym, ap, ◌∙◌, inl, inr, ◌⊎◌, ◌&&◌, not, eqb, eq-eqb, arith, unwrap_or, is_some, option_map, cond}
-use Rattle.std.specs.List.{prefix_len}
+use Rattle.std.proofs.Common.{◌≡◌, ℕ, zero, suc, ◌+◌, ◌-◌, ◌<◌, ◌≤◌, Bool, true, false, List, [], ◌∷◌, length, length-drop, take, drop, get_or, slice_get, Option, None, Some, refl, sym, ap, ◌∙◌, inl, inr, ◌⊎◌, ◌&&◌, not, eqb, eq-eqb, arith, unwrap_or, is_some, option_map, cond}
+use Rattle.std.specs.List.{prefix_len, last_or}
 use Rattle.std.proofs.lemmas.Bool.Decides.{nat_tests}
 use Rattle.std.proofs.lemmas.Bool.{cases_lt, cases_eq}
 use Rattle.std.proofs.lemmas.List.{drop-drop}
@@ -123,8 +123,7 @@ closed q u i j e = by (close_len q (drop i u)) e
     by (Some n) e =
         let ends : i + n ≡ j + 1 = cc in
         let inside : n - 1 ≡ j - i = omega arith in
-        let last : n - 2 ≡ j - i - 1 = omega arith in
-        (ends, rw (inside, last) refl)
+        (ends, rw inside refl)
 
 pub unclosed : (q : ℕ) (u : List ℕ) (i j : ℕ) → close_end q u i ≡ None → line_end u i ≡ j
     → (i + quote_len q (drop i u) ≡ j) × (last_inside (drop i u) (close_len q (drop i u)) ≡ None)
@@ -136,11 +135,13 @@ unclosed q u i j e l = by (close_len q (drop i u)) e
     by None e = (l, refl)
     by (Some n) e = absurd (cc)
 
-take_last : (v : List ℕ) (k : ℕ) → slice_get (take (k + 1) v) k ≡ slice_get v k
-take_last [] k = let next : k + 1 ≡ suc k = omega arith in rw next refl
-take_last (x ∷ v) zero = refl
-take_last (x ∷ v) (suc k) = let next : suc k + 1 ≡ suc (k + 1) = omega arith in
-    rw next (take_last v k)
+-- the last of the first k + 1 characters is the one at k
+take_last : (o : Option ℕ) (v : List ℕ) (k : ℕ) → k < length v
+    → last_or o (take (k + 1) v) ≡ slice_get v k
+take_last o [] k h = absurd (omega arith)
+take_last o (x ∷ v) zero h = refl
+take_last o (x ∷ v) (suc k) h = let next : suc k + 1 ≡ suc (k + 1) = omega arith in
+    rw next (take_last (Some x) v k (omega arith))
 
 read_on : (u : List ℕ) (i k : ℕ) → slice_get (drop i u) k ≡ slice_get u (i + k)
 read_on u zero k = let none : 0 + k ≡ k = omega arith in rw none refl
@@ -152,11 +153,11 @@ pub last_one : (u : List ℕ) (i j c : ℕ) → i ≤ j → Some c ≡ slice_get
     → Some c ≡ last_before u i (position_after u j)
 last_one u i j c on s =
     let k : j + 1 - i ≡ j - i + 1 = omega arith in
-    let k' : j - i + 1 - 1 ≡ j - i = omega arith in
     let to : i + (j - i) ≡ j = omega arith in
-    let here : slice_get (take (j - i + 1) (drop i u)) (j - i) ≡ slice_get u (i + (j - i)) =
-    take_last (drop i u) (j - i) ∙ read_on u i (j - i) in
-    rw (behind_some u j c s, k, k') (s ∙ sym (rw to at here))
+    let within : j < length u = within_some u j c s in
+    let here : last_or None (take (j - i + 1) (drop i u)) ≡ slice_get u (i + (j - i)) =
+        take_last None (drop i u) (j - i) (omega (arith, length-drop i u)) ∙ read_on u i (j - i) in
+    rw (behind_some u j c s, k) (s ∙ sym (rw to at here))
 
 pub last_none : (u : List ℕ) (i : ℕ) → None ≡ last_before u i i
 last_none u i = let none : i - i ≡ 0 = omega arith in rw none refl
@@ -332,12 +333,11 @@ last_there u j i n m r within on here start other read = by (cases_lt i j)
     by (inl less) =
         let next : j ≡ j - 1 + 1 = omega arith in
         let k : j - i ≡ j - 1 - i + 1 = omega arith in
-        let last : j - 1 - i + 1 - 1 ≡ j - 1 - i = omega arith in
         let to : i + (j - 1 - i) ≡ j - 1 = omega arith in
-        let there : slice_get (take (j - 1 - i + 1) (drop i u)) (j - 1 - i)
-        ≡ slice_get u (i + (j - 1 - i)) = take_last (drop i u) (j - 1 - i)
-        ∙ read_on u i (j - 1 - i) in
-        rw (k, last) (read (j - 1) next ∙ sym (rw to at there))
+        let there : last_or None (take (j - 1 - i + 1) (drop i u)) ≡ slice_get u (i + (j - 1 - i)) =
+            take_last None (drop i u) (j - 1 - i) (omega (arith, length-drop i u))
+            ∙ read_on u i (j - 1 - i) in
+        rw k (read (j - 1) next ∙ sym (rw to at there))
     by (inr more) = absurd (let same : i ≡ j = omega arith in
         other (here ∙ ap (λ x. utf8_len (take x u)) (sym same) ∙ sym start))
 
