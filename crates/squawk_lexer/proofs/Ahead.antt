@@ -7,17 +7,24 @@ use Rattle.squawk_lexer.specs.LookAhead.{Agrees}
 
 -- ---- what follows a token in two texts
 
+-- a set of tests of one character
+abbrev pub Tests : Type 1
+Tests = (ℕ → Bool) → Type 0
+
+-- a set of pairs of tests, for two characters in a row
+abbrev pub PairTests : Type 1
+PairTests = (ℕ → Bool) → (ℕ → Bool) → Type 0
+
 -- Two texts go on with c and r, and with d and s. The tests that are `told` say the same of c and
 -- d, and those of two characters that are `pairs` say the same of the first two.
-pub record Follows (told : (ℕ → Bool) → Type 0) (pairs : (ℕ → Bool) → (ℕ → Bool)
-    → Type 0) (c d : ℕ) (r s : List ℕ) : Type 0 where
+pub record Follows (told : Tests) (pairs : PairTests) (c d : ℕ) (r s : List ℕ) : Type 0 where
   pub one : (p : ℕ → Bool) → told p → p d ≡ p c
   pub two : (p q : ℕ → Bool) → pairs p q → (p d && q (get_or s 0 0)) ≡ (p c && q (get_or r 0 0))
 
 -- ---- lists that begin alike
 
 -- g is the same of two texts that begin with xs and go on alike, where m measures how far g reads
-abbrev pub Looks : {X : Type 0} → ((ℕ → Bool) → Type 0) → ((ℕ → Bool) → (ℕ → Bool) → Type 0)
+abbrev pub Looks : {X : Type 0} → Tests → PairTests
     → (List ℕ → X) → (List ℕ → ℕ) → Type 0
 Looks told pairs g m =
     (xs : List ℕ) (c d : ℕ) (r s : List ℕ) → Follows told pairs c d r s
@@ -62,25 +69,22 @@ agrees_read n u v j a h = sym (get_or-take n v j 0 h) ∙ ap (λ w. get_or w j 0
 
 -- ---- texts that agree up to the index k at which a token ends, and go on alike
 
-pub record Alike (told : (ℕ → Bool) → Type 0) (pairs : (ℕ → Bool) → (ℕ → Bool)
-    → Type 0) (k : ℕ) (u v : List ℕ) : Type 0 where
+pub record Alike (told : Tests) (pairs : PairTests) (k : ℕ) (u v : List ℕ) : Type 0 where
   pub left : k < length u
   pub right : k < length v
   pub same : take k v ≡ take k u
   pub follows : Follows told pairs (get_or u k 0) (get_or v k 0) (drop (k + 1) u) (drop (k + 1) v)
 
-pub take_same : {told : (ℕ → Bool) → Type 0} {pairs : (ℕ → Bool) → (ℕ → Bool)
-    → Type 0} (k : ℕ) (u v : List ℕ) (n : ℕ) → Alike told pairs k u v → n ≤ k → take n v ≡ take n u
+pub take_same : {told : Tests} {pairs : PairTests} (k : ℕ) (u v : List ℕ) (n : ℕ) → Alike told pairs k u v → n ≤ k → take n v ≡ take n u
 take_same k u v n a h = sym (take-take n k v h) ∙ ap (take n) a.same ∙ take-take n k u h
 
-pub read : {told : (ℕ → Bool) → Type 0} {pairs : (ℕ → Bool) → (ℕ → Bool)
-    → Type 0} (k : ℕ) (u v : List ℕ) (j : ℕ) → Alike told pairs k u v → j < k
+pub read : {told : Tests} {pairs : PairTests} (k : ℕ) (u v : List ℕ) (j : ℕ) → Alike told pairs k u v → j < k
     → get_or v j 0 ≡ get_or u j 0
 read k u v j a h = sym (get_or-take k v j 0 h) ∙ ap (λ w. get_or w j 0) a.same
     ∙ get_or-take k u j 0 h
 
 -- a test of a character up to k
-pub test : {told : (ℕ → Bool) → Type 0} {pairs : (ℕ → Bool) → (ℕ → Bool) → Type 0} (p : ℕ → Bool)
+pub test : {told : Tests} {pairs : PairTests} (p : ℕ → Bool)
     → told p → (k : ℕ) (u v : List ℕ) (j : ℕ) → Alike told pairs k u v → j ≤ k
     → p (get_or v j 0) ≡ p (get_or u j 0)
 test p t k u v j a h = by (cases_lt j k)
@@ -96,7 +100,7 @@ pub after : (k : ℕ) (u : List ℕ) → get_or (drop (k + 1) u) 0 0 ≡ get_or 
 after k u = get_or-drop (k + 1) u 0 0 ∙ ap (λ n. get_or u n 0) (omega arith)
 
 -- a test of two characters, of which the first is at k at most
-pub pair : {told : (ℕ → Bool) → Type 0} {pairs : (ℕ → Bool) → (ℕ → Bool) → Type 0} (p q : ℕ → Bool)
+pub pair : {told : Tests} {pairs : PairTests} (p q : ℕ → Bool)
     → told q → pairs p q → (k : ℕ) (u v : List ℕ) (i j : ℕ) → Alike told pairs k u v → i ≤ k
     → j ≡ i + 1
     → (p (get_or v i 0) && q (get_or v j 0)) ≡ (p (get_or u i 0) && q (get_or u j 0))
@@ -125,8 +129,7 @@ up_to k u i h within =
     ∙ ap (λ n. drop n u) (omega arith) ∙ here))
 
 -- what g says from a place on, where it ends at k at most
-pub seen : {X : Type 0} {told : (ℕ → Bool) → Type 0} {pairs : (ℕ → Bool) → (ℕ → Bool)
-    → Type 0} (g : List ℕ → X) (m : List ℕ → ℕ) → Looks told pairs g m
+pub seen : {X : Type 0} {told : Tests} {pairs : PairTests} (g : List ℕ → X) (m : List ℕ → ℕ) → Looks told pairs g m
     → (k : ℕ) (u v : List ℕ) (i : ℕ)
     → Alike told pairs k u v → i + m (drop i u) ≤ k → g (drop i v) ≡ g (drop i u)
 seen g m looks k u v i a h =

@@ -17,7 +17,7 @@ use Rattle.squawk_lexer.specs.Dollar.{tag_end, is_dollar_quote_start, delimiter,
 use Rattle.squawk_lexer.proofs.TokenLaws.{junk_on}
 use Rattle.squawk_lexer.proofs.DollarLaws as dollars
 use Rattle.squawk_lexer.proofs.Steps.{drop_read, within_read, junk_past}
-use Rattle.squawk_lexer.proofs.Ahead.{Looks, branch, pick, Alike, take_same, test, seen}
+use Rattle.squawk_lexer.proofs.Ahead.{Tests, PairTests, Looks, branch, pick, Alike, take_same, test, seen}
 use Rattle.squawk_lexer.proofs.AheadRuns.{Asks, run_same, parameter_same}
 
 -- ---- ends that are found or not
@@ -68,8 +68,7 @@ quoted_far escapes q c (d ∷ cs) =
     (far (quoted_len escapes q (d ∷ cs)) 1 (length (d ∷ cs)) (length (c ∷ d ∷ cs))
     (omega arith)))
 
-quoted_looks : {told : (ℕ → Bool) → Type 0} {pairs : (ℕ → Bool) → (ℕ → Bool)
-    → Type 0} (escapes : Bool) (q : ℕ) → told (λ c. eqb c q)
+quoted_looks : {told : Tests} {pairs : PairTests} (escapes : Bool) (q : ℕ) → told (λ c. eqb c q)
     → Looks told pairs (quoted_len escapes q) (λ v. unwrap_or (quoted_len escapes q v) (length v))
 quoted_looks escapes q t [] c d r s f h = absurd (omega (arith, quoted_far escapes q c r))
 quoted_looks escapes q t (x ∷ []) c d r s f h =
@@ -173,7 +172,7 @@ comment_looks (suc i) (x ∷ y ∷ xs) c d r s h =
 -- ---- from lists to places
 
 -- what is found from a place on, and where it ends: one that ends before the text does is found
-pub found_same : {told : (ℕ → Bool) → Type 0} {pairs : (ℕ → Bool) → (ℕ → Bool) → Type 0} (g : List ℕ
+pub found_same : {told : Tests} {pairs : PairTests} (g : List ℕ
     → Option ℕ) → Looks told pairs g (λ v. unwrap_or (g v) (length v))
     → (k : ℕ) (u v : List ℕ) (i : ℕ) → Alike told pairs k u v
     → end_or_text_end u i (g (drop i u)) ≤ k
@@ -192,16 +191,14 @@ found_same g looks k u v i a h = by (seen g (λ w. unwrap_or (g w) (length w)) l
         × (end_or_text_end v i (g (drop i v)) ≡ end_or_text_end u i (g (drop i u)))
     by e = (e, ap (end_or_text_end v i) e ∙ end (g (drop i u)) h)
 
-pub quoted_same : {told : (ℕ → Bool) → Type 0} {pairs : (ℕ → Bool) → (ℕ → Bool)
-    → Type 0} (escapes : Bool) (q : ℕ) → told (λ c. eqb c q) → (k : ℕ) (u v : List ℕ) (i : ℕ)
+pub quoted_same : {told : Tests} {pairs : PairTests} (escapes : Bool) (q : ℕ) → told (λ c. eqb c q) → (k : ℕ) (u v : List ℕ) (i : ℕ)
     → Alike told pairs k u v → quoted_end escapes q u i ≤ k
     → (quoted_len escapes q (drop i v) ≡ quoted_len escapes q (drop i u))
     × (quoted_end escapes q v i ≡ quoted_end escapes q u i)
 quoted_same escapes q t k u v i a h =
     found_same (quoted_len escapes q) (quoted_looks escapes q t) k u v i a h
 
-pub comment_same : {told : (ℕ → Bool) → Type 0} {pairs : (ℕ → Bool) → (ℕ → Bool)
-    → Type 0} (inner k : ℕ) (u v : List ℕ) (i : ℕ) → Alike told pairs k u v
+pub comment_same : {told : Tests} {pairs : PairTests} (inner k : ℕ) (u v : List ℕ) (i : ℕ) → Alike told pairs k u v
     → comment_end inner u i ≤ k
     → (comment_len inner (drop i v) ≡ comment_len inner (drop i u))
     × (comment_end inner v i ≡ comment_end inner u i)
@@ -281,7 +278,7 @@ tag_in_junk u = by (is_ident_start (get_or u 1 0)) refl
     by false t = omega (arith, junk_on u (run_end is_digit u 1))
 
 -- what follows the tag is tested there
-tag_same : {told : (ℕ → Bool) → Type 0} {pairs : (ℕ → Bool) → (ℕ → Bool) → Type 0} → Asks told pairs
+tag_same : {told : Tests} {pairs : PairTests} → Asks told pairs
     → (k : ℕ) (u v : List ℕ) → Alike told pairs k u v → 1 ≤ k → tag_end u ≤ k
     → tag_end v ≡ tag_end u
 tag_same w k u v a some h =
@@ -297,8 +294,7 @@ tag_in u = by (is_dollar_quote_start u)
     by true = omega arith
     by false = tag_in_junk u
 
-string_same : {told : (ℕ → Bool) → Type 0} {pairs : (ℕ → Bool) → (ℕ → Bool)
-    → Type 0} (k : ℕ) (u v : List ℕ) → Alike told pairs k u v → tag_end v ≡ tag_end u
+string_same : {told : Tests} {pairs : PairTests} (k : ℕ) (u v : List ℕ) → Alike told pairs k u v → tag_end v ≡ tag_end u
     → (dollar_string u).end ≤ k → dollar_string v ≡ dollar_string u
 string_same k u v a e h =
     let i = tag_end u + 1 in
@@ -317,7 +313,7 @@ string_same k u v a e h =
     (end_or_text_end v (tag_end v + 1) (delimiter_end v))) closes_comment
     ∙ ap (literal_until (DollarQuotedString (is_some (delimiter_end u)))) stops
 
-pub dollar_same : {told : (ℕ → Bool) → Type 0} {pairs : (ℕ → Bool) → (ℕ → Bool) → Type 0}
+pub dollar_same : {told : Tests} {pairs : PairTests}
     → Asks told pairs → (k : ℕ) (u v : List ℕ) → Alike told pairs k u v → 1 ≤ k → (dollar u).end ≤ k
     → dollar v ≡ dollar u
 dollar_same w k u v a some h =

@@ -14,13 +14,13 @@ use Rattle.squawk_lexer.specs.PsqlParts.{is_quote, is_escape_pair, close_len, qu
 use Rattle.squawk_lexer.specs.Psql.{psql, command_word, word_end, options_end, output_start, output_end, command_end}
 use Rattle.squawk_lexer.proofs.TokenLaws.{output_start_on, output_end_on, psql_on}
 use Rattle.squawk_lexer.proofs.PsqlArgumentLaws.{pair_plain, rest_in}
-use Rattle.squawk_lexer.proofs.Ahead.{Follows, Looks, branch, pick, Alike, take_same, test, seen}
+use Rattle.squawk_lexer.proofs.Ahead.{Tests, PairTests, Follows, Looks, branch, pick, Alike, take_same, test, seen}
 use Rattle.squawk_lexer.proofs.AheadRuns.{prefix_looks, run_same}
 use Rattle.squawk_lexer.proofs.AheadClosed.{far, later, shorter, either_far}
 
 -- ---- the tests that commands do on the character after them
 
-pub record AsksPsql (told : (ℕ → Bool) → Type 0) : Type 0 where
+pub record AsksPsql (told : Tests) : Type 0 where
   pub line_end : told is_line_end
   pub not_line_end : told is_not_line_end
   pub blank : told is_blank
@@ -62,7 +62,7 @@ two_on : (q x y : ℕ) (v : List ℕ) → is_line_end x ≡ false → is_escape_
     → prefix_len is_not_line_end (x ∷ y ∷ v) ≡ prefix_len is_not_line_end v + 2
 two_on q x y v t p = rw (t, pair_plain q x y p) (omega arith)
 
-close_looks : {told : (ℕ → Bool) → Type 0} {pairs : (ℕ → Bool) → (ℕ → Bool) → Type 0}
+close_looks : {told : Tests} {pairs : PairTests}
     → AsksPsql told → (q : ℕ) → is_line_end q ≡ false → Looks told pairs (close_len q) (quote_len q)
 close_looks w q plain [] c d r s f h = by (is_line_end c) refl
   where
@@ -98,7 +98,7 @@ close_looks w q plain (x ∷ y ∷ xs) c d r s f h =
     (prefix_len is_not_line_end (y ∷ xs ++ c ∷ r)) total (length (y ∷ xs))
     (one_on x (y ∷ xs ++ c ∷ r) t) (close_looks w q plain (y ∷ xs) c d r s f) (omega arith)))) h
 
-quote_looks : {told : (ℕ → Bool) → Type 0} {pairs : (ℕ → Bool) → (ℕ → Bool) → Type 0}
+quote_looks : {told : Tests} {pairs : PairTests}
     → AsksPsql told → (q : ℕ) → is_line_end q ≡ false → Looks told pairs (quote_len q) (quote_len q)
 quote_looks w q plain xs c d r s f h =
     ap (λ o. unwrap_or o (prefix_len is_not_line_end (xs ++ d ∷ s)))
@@ -112,7 +112,7 @@ quote_looks w q plain xs c d r s f h =
 
 -- ---- parts and arguments
 
-part_looks : {told : (ℕ → Bool) → Type 0} {pairs : (ℕ → Bool) → (ℕ → Bool) → Type 0} → AsksPsql told
+part_looks : {told : Tests} {pairs : PairTests} → AsksPsql told
     → (x : ℕ) → Looks told pairs (part_rest x) (part_rest x)
 part_looks w x xs c d r s f h =
     branch (λ n. n) (is_quote x) (quote_len x (xs ++ c ∷ r)) 0 (quote_len x (xs ++ d ∷ s)) 0
@@ -123,7 +123,7 @@ args_far zero v h = omega arith
 args_far (suc i) [] h = absurd (omega arith)
 args_far (suc i) (c ∷ cs) h = omega (arith, args_far i cs (omega arith))
 
-args_looks : {told : (ℕ → Bool) → Type 0} {pairs : (ℕ → Bool) → (ℕ → Bool) → Type 0} → AsksPsql told
+args_looks : {told : Tests} {pairs : PairTests} → AsksPsql told
     → (inside : ℕ) → Looks told pairs (arguments_len inside) (arguments_len inside)
 args_looks w (suc i) [] c d r s f h = absurd (omega arith)
 args_looks w zero [] c d r s f h =
@@ -145,7 +145,7 @@ args_looks w zero (x ∷ xs) c d r s f h =
 args_looks w (suc i) (x ∷ xs) c d r s f h =
     ap (λ n. 1 + n) (args_looks w i xs c d r s f (omega arith))
 
-pub args_same : {told : (ℕ → Bool) → Type 0} {pairs : (ℕ → Bool) → (ℕ → Bool) → Type 0}
+pub args_same : {told : Tests} {pairs : PairTests}
     → AsksPsql told → (k : ℕ) (u v : List ℕ) (i : ℕ) → Alike told pairs k u v
     → arguments_end u i ≤ k → arguments_end v i ≡ arguments_end u i
 args_same w k u v i a h =
@@ -160,7 +160,7 @@ inside_same xs r s (Some n) len h =
     ap (last_or None) (take-append-le (n - 1) xs s (omega arith)
     ∙ sym (take-append-le (n - 1) xs r (omega arith)))
 
-mark_same : {told : (ℕ → Bool) → Type 0} {pairs : (ℕ → Bool) → (ℕ → Bool) → Type 0} → AsksPsql told
+mark_same : {told : Tests} {pairs : PairTests} → AsksPsql told
     → (mark : Option ℕ) (x : ℕ) (xs : List ℕ) (c d : ℕ) (r s : List ℕ) → Follows told pairs c d r s
     → part_rest x (xs ++ c ∷ r) ≤ length xs
     → mark_after mark x (xs ++ d ∷ s) ≡ mark_after mark x (xs ++ c ∷ r)
@@ -204,7 +204,7 @@ blank_on : (x : ℕ) (v : List ℕ) → ends_arguments x ≡ false → is_blank 
     → arguments_len 0 (x ∷ v) ≡ arguments_len 0 v + 1
 blank_on x v t b = rw (t, blank_plain x b) (omega arith)
 
-marked_looks : {told : (ℕ → Bool) → Type 0} {pairs : (ℕ → Bool) → (ℕ → Bool) → Type 0}
+marked_looks : {told : Tests} {pairs : PairTests}
     → AsksPsql told → (inside : ℕ) (mark : Option ℕ)
     → Looks told pairs (marked_len inside mark) (λ v.
     unwrap_or (marked_len inside mark v) (arguments_len inside v))
@@ -272,7 +272,7 @@ options_far : (u : List ℕ) (i : ℕ) (o : Option ℕ)
 options_far u i None = omega arith
 options_far u i (Some n) = omega arith
 
-options_same : {told : (ℕ → Bool) → Type 0} {pairs : (ℕ → Bool) → (ℕ → Bool) → Type 0}
+options_same : {told : Tests} {pairs : PairTests}
     → AsksPsql told → (k : ℕ) (u v : List ℕ) (i : ℕ) → Alike told pairs k u v
     → options_end u i (marked_len_at u i) ≤ k
     → options_end v i (marked_len_at v i) ≡ options_end u i (marked_len_at u i)
@@ -287,7 +287,7 @@ options_same z k u v i a h =
     by None h = args_same z k u v i a h
     by (Some n) h = run_same is_blank z.blank k u v (i + n) a h
 
-output_start_same : {told : (ℕ → Bool) → Type 0} {pairs : (ℕ → Bool) → (ℕ → Bool) → Type 0}
+output_start_same : {told : Tests} {pairs : PairTests}
     → AsksPsql told → (b : Bool) (k : ℕ) (u v : List ℕ) (i : ℕ) → Alike told pairs k u v
     → output_start b u i ≤ k → output_start b v i ≡ output_start b u i
 output_start_same z b k u v i a h =
@@ -297,7 +297,7 @@ output_start_same z b k u v i a h =
     (ap (λ e. b && e) (test (λ c. eqb c 40) (z.other 40 refl) k u v i a
     (omega (arith, output_start_on b u i)))) (λ t e. options_same z k u v i a e) (λ t e. refl) h
 
-output_end_same : {told : (ℕ → Bool) → Type 0} {pairs : (ℕ → Bool) → (ℕ → Bool) → Type 0}
+output_end_same : {told : Tests} {pairs : PairTests}
     → AsksPsql told → (k : ℕ) (u v : List ℕ) (p : ℕ) → Alike told pairs k u v → output_end u p ≤ k
     → output_end v p ≡ output_end u p
 output_end_same z k u v p a h =
@@ -333,7 +333,7 @@ end_far w i u = by (takes_line w) (is_among pipe_words w)
         )
     by false false = omega arith
 
-output_same : {told : (ℕ → Bool) → Type 0} {pairs : (ℕ → Bool) → (ℕ → Bool) → Type 0}
+output_same : {told : Tests} {pairs : PairTests}
     → AsksPsql told → (w : List ℕ) (k : ℕ) (u v : List ℕ) (i : ℕ) → Alike told pairs k u v
     → output_end u (output_at w i u) ≤ k → output_end v (output_at w i v)
     ≡ output_end u (output_at w i u)
@@ -348,7 +348,7 @@ output_same z w k u v i a h =
     ∙ ap (output_end v) (output_start_same z b k u v blanks a start)
     ∙ output_end_same z k u v p a h
 
-end_same : {told : (ℕ → Bool) → Type 0} {pairs : (ℕ → Bool) → (ℕ → Bool) → Type 0} → AsksPsql told
+end_same : {told : Tests} {pairs : PairTests} → AsksPsql told
     → (w : List ℕ) (k : ℕ) (u v : List ℕ) (i : ℕ) → Alike told pairs k u v → end_at w i u ≤ k
     → end_at w i v ≡ end_at w i u
 end_same z w k u v i a h =
@@ -357,7 +357,7 @@ end_same z w k u v i a h =
     (λ t. branch (λ n. n) (is_among pipe_words w) _ (arguments_end u i) _ (arguments_end v i) k
     (λ s e. output_same z w k u v i a e) (λ s e. args_same z k u v i a e)) h
 
-pub psql_same : {told : (ℕ → Bool) → Type 0} {pairs : (ℕ → Bool) → (ℕ → Bool) → Type 0}
+pub psql_same : {told : Tests} {pairs : PairTests}
     → AsksPsql told → (k : ℕ) (u v : List ℕ) → Alike told pairs k u v → (psql u).end ≤ k
     → psql v ≡ psql u
 psql_same z k u v a h =

@@ -10,12 +10,11 @@ use Rattle.squawk_lexer.specs.Classes.{is_digit, is_hex_digit, is_ident_start, i
 use Rattle.squawk_lexer.specs.Runs.{run_end, digits_len, digits_end, hex_digits_end, junk_end, is_sign, exponent_end, is_exponent_letter, fraction_end}
 use Rattle.squawk_lexer.specs.Numbers.{number, decimal_from, fractional, with_exponent, numeric, int, based_int, parameter}
 use Rattle.squawk_lexer.proofs.TokenLaws.{junk_on, exponent_on, fraction_on, with_exponent_on, decimal_on, number_on}
-use Rattle.squawk_lexer.proofs.Ahead.{Looks, branch, pick, Alike, read, take_same, test, pair, seen}
+use Rattle.squawk_lexer.proofs.Ahead.{Tests, PairTests, Looks, branch, pick, Alike, read, take_same, test, pair, seen}
 
 -- ---- runs
 
-pub prefix_looks : {told : (ℕ → Bool) → Type 0} {pairs : (ℕ → Bool) → (ℕ → Bool)
-    → Type 0} (class : ℕ → Bool) → told class
+pub prefix_looks : {told : Tests} {pairs : PairTests} (class : ℕ → Bool) → told class
     → Looks told pairs (prefix_len class) (prefix_len class)
 prefix_looks class t [] c d r s f h =
     pick (λ n. n) (class c) (class d) (1 + prefix_len class r) 0 (1 + prefix_len class s) 0 0
@@ -25,13 +24,13 @@ prefix_looks class t (x ∷ xs) c d r s f h =
     ∷ s)) 0 (length (x ∷ xs))
     (λ e k. ap (λ n. 1 + n) (prefix_looks class t xs c d r s f (omega arith))) (λ e k. refl) h
 
-pub run_same : {told : (ℕ → Bool) → Type 0} {pairs : (ℕ → Bool) → (ℕ → Bool) → Type 0} (class : ℕ
+pub run_same : {told : Tests} {pairs : PairTests} (class : ℕ
     → Bool) → told class → (k : ℕ) (u v : List ℕ) (i : ℕ) → Alike told pairs k u v
     → run_end class u i ≤ k → run_end class v i ≡ run_end class u i
 run_same class t k u v i a h =
     ap (λ n. i + n) (seen (prefix_len class) (prefix_len class) (prefix_looks class t) k u v i a h)
 
-digits_looks : {told : (ℕ → Bool) → Type 0} {pairs : (ℕ → Bool) → (ℕ → Bool) → Type 0} (digit : ℕ
+digits_looks : {told : Tests} {pairs : PairTests} (digit : ℕ
     → Bool) → told digit → pairs (λ c. eqb c 95) digit
     → Looks told pairs (digits_len digit) (digits_len digit)
 digits_looks digit t p [] c d r s f h =
@@ -51,8 +50,7 @@ digits_looks digit t p (x ∷ y ∷ xs) c d r s f h =
 
 -- ---- the tests that words and numbers do on the character after them, and on the one after that
 
-pub record Asks (told : (ℕ → Bool) → Type 0) (pairs : (ℕ → Bool) → (ℕ → Bool)
-    → Type 0) : Type 0 where
+pub record Asks (told : Tests) (pairs : PairTests) : Type 0 where
   pub id_start : told is_ident_start
   pub id_cont : told is_ident_cont
   pub tag_cont : told is_tag_cont
@@ -70,21 +68,21 @@ pub record Asks (told : (ℕ → Bool) → Type 0) (pairs : (ℕ → Bool) → (
   pub and_string : pairs (λ c. eqb c 38) (λ c. eqb c 39)
   pub and_ident : pairs (λ c. eqb c 38) (λ c. eqb c 34)
 
-pub digits_same : {told : (ℕ → Bool) → Type 0} {pairs : (ℕ → Bool) → (ℕ → Bool) → Type 0}
+pub digits_same : {told : Tests} {pairs : PairTests}
     → Asks told pairs → (k : ℕ) (u v : List ℕ) (i : ℕ) → Alike told pairs k u v → digits_end u i ≤ k
     → digits_end v i ≡ digits_end u i
 digits_same w k u v i a h =
     ap (λ n. i + n) (seen (digits_len is_digit) (digits_len is_digit)
     (digits_looks is_digit w.digit w.low_digit) k u v i a h)
 
-pub hex_same : {told : (ℕ → Bool) → Type 0} {pairs : (ℕ → Bool) → (ℕ → Bool) → Type 0}
+pub hex_same : {told : Tests} {pairs : PairTests}
     → Asks told pairs → (k : ℕ) (u v : List ℕ) (i : ℕ) → Alike told pairs k u v
     → hex_digits_end u i ≤ k → hex_digits_end v i ≡ hex_digits_end u i
 hex_same w k u v i a h =
     ap (λ n. i + n) (seen (digits_len is_hex_digit) (digits_len is_hex_digit)
     (digits_looks is_hex_digit w.hex w.low_hex) k u v i a h)
 
-pub junk_same : {told : (ℕ → Bool) → Type 0} {pairs : (ℕ → Bool) → (ℕ → Bool) → Type 0}
+pub junk_same : {told : Tests} {pairs : PairTests}
     → Asks told pairs → (k : ℕ) (u v : List ℕ) (i : ℕ) → Alike told pairs k u v → junk_end u i ≤ k
     → junk_end v i ≡ junk_end u i
 junk_same w k u v i a h =
@@ -95,7 +93,7 @@ junk_same w k u v i a h =
 
 -- ---- numbers
 
-exponent_same : {told : (ℕ → Bool) → Type 0} {pairs : (ℕ → Bool) → (ℕ → Bool) → Type 0}
+exponent_same : {told : Tests} {pairs : PairTests}
     → Asks told pairs → (k : ℕ) (u v : List ℕ) (i : ℕ) → Alike told pairs k u v
     → exponent_end u i ≤ k → exponent_end v i ≡ exponent_end u i
 exponent_same w k u v i a h =
@@ -107,7 +105,7 @@ exponent_same w k u v i a h =
     (test is_digit w.digit k u v (i + 1) a within) (λ s e.
     digits_same w k u v (i + 1) a e) (λ s e. refl)) h
 
-fraction_same : {told : (ℕ → Bool) → Type 0} {pairs : (ℕ → Bool) → (ℕ → Bool) → Type 0}
+fraction_same : {told : Tests} {pairs : PairTests}
     → Asks told pairs → (k : ℕ) (u v : List ℕ) (i : ℕ) → Alike told pairs k u v
     → fraction_end u i ≤ k → fraction_end v i ≡ fraction_end u i
 fraction_same w k u v i a h =
@@ -116,7 +114,7 @@ fraction_same w k u v i a h =
     (test is_digit w.digit k u v i a (omega (arith, fraction_on u i))) (λ t e.
     digits_same w k u v i a e) (λ t e. refl) h
 
-int_same : {told : (ℕ → Bool) → Type 0} {pairs : (ℕ → Bool) → (ℕ → Bool) → Type 0} → Asks told pairs
+int_same : {told : Tests} {pairs : PairTests} → Asks told pairs
     → (base : Base) (empty : Bool) (k : ℕ) (u v : List ℕ) (n : ℕ) → Alike told pairs k u v
     → (int base empty u n).end ≤ k → int base empty v n ≡ int base empty u n
 int_same w base empty k u v n a h =
@@ -124,7 +122,7 @@ int_same w base empty k u v n a h =
     let end = junk_same w k u v n a h in
     rw (front, end) refl
 
-based_same : {told : (ℕ → Bool) → Type 0} {pairs : (ℕ → Bool) → (ℕ → Bool) → Type 0}
+based_same : {told : Tests} {pairs : PairTests}
     → Asks told pairs → (base : Base) (k : ℕ) (u v : List ℕ) (n m : ℕ) → Alike told pairs k u v
     → (m ≤ k → n ≡ m) → (based_int base u m).end ≤ k → based_int base v n ≡ based_int base u m
 based_same w base k u v n m a same h =
@@ -132,7 +130,7 @@ based_same w base k u v n m a same h =
     ap (based_int base v) e ∙ ap (λ j. int base (eqb m 2 && eqb j m) v m) (junk_same w k u v m a h)
     ∙ int_same w base (eqb m 2 && eqb (junk_end u m) m) k u v m a h
 
-numeric_same : {told : (ℕ → Bool) → Type 0} {pairs : (ℕ → Bool) → (ℕ → Bool) → Type 0}
+numeric_same : {told : Tests} {pairs : PairTests}
     → Asks told pairs → (empty : Option ℕ) (k : ℕ) (u v : List ℕ) (n : ℕ) → Alike told pairs k u v
     → (numeric empty u n).end ≤ k → numeric empty v n ≡ numeric empty u n
 numeric_same w empty k u v n a h =
@@ -140,7 +138,7 @@ numeric_same w empty k u v n a h =
     let end = junk_same w k u v n a h in
     rw (front, end) refl
 
-with_exponent_same : {told : (ℕ → Bool) → Type 0} {pairs : (ℕ → Bool) → (ℕ → Bool) → Type 0}
+with_exponent_same : {told : Tests} {pairs : PairTests}
     → Asks told pairs → (k : ℕ) (u v : List ℕ) (i : ℕ) → Alike told pairs k u v
     → (with_exponent u i).end ≤ k → with_exponent v i ≡ with_exponent u i
 with_exponent_same w k u v i a h =
@@ -158,7 +156,7 @@ fraction_in_number u i = by (is_exponent_letter (get_or u (fraction_end u i) 0))
     by true = with_exponent_on u (fraction_end u i)
     by false = junk_on u (fraction_end u i)
 
-pub fractional_same : {told : (ℕ → Bool) → Type 0} {pairs : (ℕ → Bool) → (ℕ → Bool) → Type 0}
+pub fractional_same : {told : Tests} {pairs : PairTests}
     → Asks told pairs → (k : ℕ) (u v : List ℕ) (i : ℕ) → Alike told pairs k u v
     → (fractional u i).end ≤ k → fractional v i ≡ fractional u i
 fractional_same w k u v i a h =
@@ -172,7 +170,7 @@ fractional_same w k u v i a h =
     (test is_exponent_letter (w.letters 101 69 (omega arith) (omega arith)) k u v n a within)
     (λ t e. with_exponent_same w k u v n a e) (λ t e. numeric_same w None k u v n a e) h)
 
-decimal_same : {told : (ℕ → Bool) → Type 0} {pairs : (ℕ → Bool) → (ℕ → Bool) → Type 0}
+decimal_same : {told : Tests} {pairs : PairTests}
     → Asks told pairs → (k : ℕ) (u v : List ℕ) (i : ℕ) → Alike told pairs k u v
     → (decimal_from u i).end ≤ k → decimal_from v i ≡ decimal_from u i
 decimal_same w k u v i a h =
@@ -185,7 +183,7 @@ decimal_same w k u v i a h =
     (test is_exponent_letter (w.letters 101 69 (omega arith) (omega arith)) k u v i a within)
     (λ s e. with_exponent_same w k u v i a e) (λ s e. int_same w Decimal false k u v i a e)) h
 
-pub number_same : {told : (ℕ → Bool) → Type 0} {pairs : (ℕ → Bool) → (ℕ → Bool) → Type 0}
+pub number_same : {told : Tests} {pairs : PairTests}
     → Asks told pairs → (k : ℕ) (u v : List ℕ) → Alike told pairs k u v → (number u).end ≤ k
     → number v ≡ number u
 number_same w k u v a h =
@@ -220,7 +218,7 @@ number_same w k u v a h =
     le_trans : (x y z : ℕ) → x ≤ y → y ≤ z → x ≤ z
     le_trans x y z p q = omega arith
 
-pub parameter_same : {told : (ℕ → Bool) → Type 0} {pairs : (ℕ → Bool) → (ℕ → Bool) → Type 0}
+pub parameter_same : {told : Tests} {pairs : PairTests}
     → Asks told pairs → (k : ℕ) (u v : List ℕ) → Alike told pairs k u v → (parameter u).end ≤ k
     → parameter v ≡ parameter u
 parameter_same w k u v a h =

@@ -18,14 +18,14 @@ use Rattle.squawk_lexer.specs.Symbols.{symbol}
 use Rattle.squawk_lexer.specs.Token.{has_escapes, string, quoted_ident, token_form, prefix_of, lexeme_of_prefix, lexeme_of_form, lexeme_of, lexeme_at, token_at}
 use Rattle.squawk_lexer.specs.LookAhead.{Agrees, LexemesLookAhead, TokensLookAhead}
 use Rattle.squawk_lexer.proofs.TokenLaws.{lexeme_at_some}
-use Rattle.squawk_lexer.proofs.Ahead.{pick, agrees_right, agrees_less, agrees_read, after, Alike, read, take_same, test, pair}
+use Rattle.squawk_lexer.proofs.Ahead.{Tests, PairTests, pick, agrees_right, agrees_less, agrees_read, after, Alike, read, take_same, test, pair}
 use Rattle.squawk_lexer.proofs.AheadRuns.{Asks, run_same, number_same, fractional_same}
 use Rattle.squawk_lexer.proofs.AheadClosed.{quoted_same, comment_same, dollar_same}
 use Rattle.squawk_lexer.proofs.AheadPsql.{AsksPsql, psql_same}
 
 -- ---- words
 
-string_same : {told : (ℕ → Bool) → Type 0} {pairs : (ℕ → Bool) → (ℕ → Bool) → Type 0}
+string_same : {told : Tests} {pairs : PairTests}
     → Asks told pairs → (kind : Bool → LiteralKind) (escapes : Bool) (k : ℕ) (u v : List ℕ) (i : ℕ)
     → Alike told pairs k u v → (string kind escapes u i).end ≤ k
     → string kind escapes v i ≡ string kind escapes u i
@@ -33,7 +33,7 @@ string_same w kind escapes k u v i a h =
     let (found, ends) = quoted_same escapes apostrophe w.apostrophe k u v i a h in
     rw (ends, found) refl
 
-quoted_ident_same : {told : (ℕ → Bool) → Type 0} {pairs : (ℕ → Bool) → (ℕ → Bool) → Type 0}
+quoted_ident_same : {told : Tests} {pairs : PairTests}
     → Asks told pairs → (uescape : Bool) (k : ℕ) (u v : List ℕ) (i : ℕ) → Alike told pairs k u v
     → (quoted_ident uescape u i).end ≤ k → quoted_ident uescape v i ≡ quoted_ident uescape u i
 quoted_ident_same w uescape k u v i a h =
@@ -61,7 +61,7 @@ opening_is c d e =
           (eqb e 34),
     ) refl
 
-opening_same : {told : (ℕ → Bool) → Type 0} {pairs : (ℕ → Bool) → (ℕ → Bool) → Type 0}
+opening_same : {told : Tests} {pairs : PairTests}
     → Asks told pairs → (k : ℕ) (u v : List ℕ) → Alike told pairs k u v → 1 ≤ k
     → prefix_of (get_or v 0 0) (get_or v 1 0) (get_or v 2 0)
     ≡ prefix_of (get_or u 0 0) (get_or u 1 0) (get_or u 2 0)
@@ -83,7 +83,7 @@ opening_same w k u v a some =
     && eqb (get_or u 2 0) 39)) ident
     ∙ sym (opening_is (get_or u 0 0) (get_or u 1 0) (get_or u 2 0))
 
-opened_same : {told : (ℕ → Bool) → Type 0} {pairs : (ℕ → Bool) → (ℕ → Bool) → Type 0}
+opened_same : {told : Tests} {pairs : PairTests}
     → Asks told pairs → (s : StringPrefix) (k : ℕ) (u v : List ℕ) → Alike told pairs k u v
     → (lexeme_of_prefix s u).end ≤ k → lexeme_of_prefix s v ≡ lexeme_of_prefix s u
 opened_same w National k u v a h = string_same w NationalStr false k u v 2 a h
@@ -98,7 +98,7 @@ opened_same w Plain k u v a h =
 -- ---- every row
 
 -- the tests that a row does on what follows its token
-abbrev pub AsksOf : ((ℕ → Bool) → Type 0) → ((ℕ → Bool) → (ℕ → Bool) → Type 0) → TokenForm → Type 0
+abbrev pub AsksOf : Tests → PairTests → TokenForm → Type 0
 AsksOf told pairs Whitespace = told is_whitespace
 AsksOf told pairs LineComment = told is_not_line_end
 AsksOf told pairs BlockComment = ⊤
@@ -107,8 +107,7 @@ AsksOf told pairs DotDot = ⊤
 AsksOf told pairs Symbol = ⊤
 AsksOf told pairs _ = Asks told pairs
 
-pub begun_same : {told : (ℕ → Bool) → Type 0} {pairs : (ℕ → Bool) → (ℕ → Bool)
-    → Type 0} (strings : Strings) (s : TokenForm) → AsksOf told pairs s → (k : ℕ) (u v : List ℕ)
+pub begun_same : {told : Tests} {pairs : PairTests} (strings : Strings) (s : TokenForm) → AsksOf told pairs s → (k : ℕ) (u v : List ℕ)
     → Alike told pairs k u v → 1 ≤ k → (lexeme_of_form strings s u).end ≤ k
     → lexeme_of_form strings s v ≡ lexeme_of_form strings s u
 begun_same strings Whitespace w k u v a some h =
@@ -136,8 +135,7 @@ abbrev pub row : List ℕ → TokenForm
 row u = token_form (get_or u 0 0) (get_or u 1 0)
 
 -- a token is the same in texts that are alike up to its end
-pub lexeme_same : {told : (ℕ → Bool) → Type 0} {pairs : (ℕ → Bool) → (ℕ → Bool)
-    → Type 0} (strings : Strings) (s : Bool) (k : ℕ) (u v : List ℕ) → Alike told pairs k u v
+pub lexeme_same : {told : Tests} {pairs : PairTests} (strings : Strings) (s : Bool) (k : ℕ) (u v : List ℕ) → Alike told pairs k u v
     → row v ≡ row u → AsksOf told pairs (row u) → (lexeme_at strings s u).end ≡ k
     → lexeme_at strings s v ≡ lexeme_at strings s u
 lexeme_same strings s k u v a rows w e =
@@ -160,8 +158,7 @@ abbrev pub token_from : Lexeme → List ℕ → Token
 token_from x u = record { kind = x.kind; len = utf8_len (take x.end u) }
 
 -- and its bytes are the same
-pub token_of : {told : (ℕ → Bool) → Type 0} {pairs : (ℕ → Bool) → (ℕ → Bool)
-    → Type 0} (strings : Strings) (s : Bool) (k : ℕ) (u v : List ℕ) → Alike told pairs k u v
+pub token_of : {told : Tests} {pairs : PairTests} (strings : Strings) (s : Bool) (k : ℕ) (u v : List ℕ) → Alike told pairs k u v
     → (lexeme_at strings s u).end ≡ k → lexeme_at strings s v ≡ lexeme_at strings s u
     → token_at strings s v ≡ token_at strings s u
 token_of strings s k u v a e same = ap (λ x. token_from x v) same

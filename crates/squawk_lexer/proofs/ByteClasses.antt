@@ -14,7 +14,7 @@ use Rattle.squawk_lexer.proofs.ByteRuns.{Flat}
 -- ---- the table
 
 -- the two tests agree below n
-agree_below : (ℕ → Bool) → (ℕ → Bool) → ℕ → Bool
+unfoldable pub agree_below : (ℕ → Bool) → (ℕ → Bool) → ℕ → Bool
 agree_below f g zero = true
 agree_below f g (suc n) = beq (f n) (g n) && agree_below f g n
 
@@ -24,7 +24,7 @@ both_of true false rest h = cc
 both_of false true rest h = cc
 both_of false false rest h = (refl, h)
 
-agree_at : (f g : ℕ → Bool) (n : ℕ) → agree_below f g n ≡ true → (b : ℕ) → b < n → f b ≡ g b
+pub agree_at : (f g : ℕ → Bool) (n : ℕ) → agree_below f g n ≡ true → (b : ℕ) → b < n → f b ≡ g b
 unfolding agree_below
 agree_at f g zero h b lt = absurd (omega arith)
 agree_at f g (suc n) h b lt =

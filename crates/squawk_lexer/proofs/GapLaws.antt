@@ -22,7 +22,7 @@ use Rattle.squawk_lexer.specs.Token.{token_form, prefix_of, lexeme_of_form, lexe
 use Rattle.squawk_lexer.specs.Cut.{is_trivia}
 use Rattle.squawk_lexer.specs.LookAhead.{Agrees}
 use Rattle.squawk_lexer.specs.Gaps.{begins_gap, GapsAreSeen, IsGap, TokensStay, TokensStayBefore}
-use Rattle.squawk_lexer.proofs.TokenLaws.{lexeme_at_some, command_plain, opened_other, dollar_other, number_other, fractional_other}
+use Rattle.squawk_lexer.proofs.TokenLaws.{lexeme_at_some, command_plain, either_kind, opened_other, dollar_other, number_other, fractional_other}
 use Rattle.squawk_lexer.proofs.StartSteps.{row_fits}
 use Rattle.squawk_lexer.proofs.Steps.{within_read}
 use Rattle.squawk_lexer.proofs.Ahead.{agrees_less, agrees_read, Alike, after}
@@ -514,16 +514,11 @@ symbol_plain : (c : ℕ) → is_trivia (symbol c) ≡ false
 unfolding symbol
 symbol_plain c = grind (arith, nat_tests)
 
-either_plain : (b : Bool) (x y : Lexeme) → is_trivia x.kind ≡ false → is_trivia y.kind ≡ false
-    → is_trivia (cond b x y).kind ≡ false
-either_plain true x y p q = p
-either_plain false x y p q = q
-
 psql_plain : (u : List ℕ) → is_trivia (psql u).kind ≡ false
 psql_plain u =
-    either_plain (eqb (get_or u 1 0) 92) (lexeme_until (kinds.PsqlCommand false) 2) _ refl
-    (either_plain (eqb (get_or u 1 0) 59) (lexeme_until kinds.Semi 2) _ refl
-    (either_plain (eqb (get_or u 1 0) 58) (lexeme_until kinds.Colon 2)
+    either_kind is_trivia (eqb (get_or u 1 0) 92) (lexeme_until (kinds.PsqlCommand false) 2) _ refl
+    (either_kind is_trivia (eqb (get_or u 1 0) 59) (lexeme_until kinds.Semi 2) _ refl
+    (either_kind is_trivia (eqb (get_or u 1 0) 58) (lexeme_until kinds.Colon 2)
     (lexeme_until (kinds.PsqlCommand (is_among query_ending_words (command_word u)))
     (command_end u)) refl (command_plain (is_among query_ending_words (command_word u)))))
 

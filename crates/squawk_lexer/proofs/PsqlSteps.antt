@@ -156,7 +156,7 @@ last_one u i j c on s =
     let to : i + (j - i) ≡ j = omega arith in
     let within : j < length u = within_some u j c s in
     let here : last_or None (take (j - i + 1) (drop i u)) ≡ slice_get u (i + (j - i)) =
-        take_last None (drop i u) (j - i) (omega (arith, length-drop i u)) ∙ read_on u i (j - i) in
+    take_last None (drop i u) (j - i) (omega (arith, length-drop i u)) ∙ read_on u i (j - i) in
     rw (behind_some u j c s, k) (s ∙ sym (rw to at here))
 
 pub last_none : (u : List ℕ) (i : ℕ) → None ≡ last_before u i i
@@ -335,8 +335,8 @@ last_there u j i n m r within on here start other read = by (cases_lt i j)
         let k : j - i ≡ j - 1 - i + 1 = omega arith in
         let to : i + (j - 1 - i) ≡ j - 1 = omega arith in
         let there : last_or None (take (j - 1 - i + 1) (drop i u)) ≡ slice_get u (i + (j - 1 - i)) =
-            take_last None (drop i u) (j - 1 - i) (omega (arith, length-drop i u))
-            ∙ read_on u i (j - 1 - i) in
+        take_last None (drop i u) (j - 1 - i) (omega (arith, length-drop i u))
+        ∙ read_on u i (j - 1 - i) in
         rw k (read (j - 1) next ∙ sym (rw to at there))
     by (inr more) = absurd (let same : i ≡ j = omega arith in
         other (here ∙ ap (λ x. utf8_len (take x u)) (sym same) ∙ sym start))

@@ -54,15 +54,15 @@ psql_semi u e =
     other : eqb (get_or u 1 0) 59 ≡ false → IsOther (psql u)
     other t =
         either_other (eqb (get_or u 1 0) 92) (lexeme_until (kinds.PsqlCommand false) 2) _
-        (record { real = refl; other = refl; plain = refl })
+        (record { real = refl; other = refl; plain = refl; known = refl })
         (rw t (either_other (eqb (get_or u 1 0) 58) (lexeme_until kinds.Colon 2)
         (lexeme_until (kinds.PsqlCommand (is_among query_ending_words (command_word u)))
-        (command_end u)) (record { real = refl; other = refl; plain = refl }) (record {
-          real =
-              refl;
+        (command_end u)) (record { real = refl; other = refl; plain = refl; known = refl })
+        (record {
+          real = refl;
           other = refl;
-          plain =
-              command_plain (is_among query_ending_words (command_word u));
+          plain = command_plain (is_among query_ending_words (command_word u));
+          known = refl;
         })))
 
 begun_semi : (strings : Strings) (s : TokenForm) (u : List ℕ)

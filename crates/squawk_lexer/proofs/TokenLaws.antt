@@ -26,6 +26,7 @@ use Rattle.squawk_lexer.specs.declared.token.LiteralKind.{LiteralKind}
 use Rattle.squawk_lexer.specs.declared.token.TokenKind.{TokenKind}
 use Rattle.squawk_lexer.specs.declared.token.TokenKind.TheVariants as kinds
 use Rattle.squawk_lexer.specs.Cut.{is_trivia}
+use Rattle.squawk_lexer.specs.Laws.{is_unknown}
 use Rattle.squawk_lexer.proofs.Steps.{drop_read}
 use Rattle.squawk_lexer.proofs.StartSteps.{start_white}
 
@@ -179,20 +180,27 @@ abbrev pub is_semi : TokenKind → Bool
 is_semi kinds.Semi = true
 is_semi _ = false
 
--- neither `Eof`
+-- not `Eof`
 record IsReal (x : Lexeme) : Type 0 where
   real : is_eof x.kind ≡ false
 
--- nor `Semi`, nor a gap
+-- neither `Eof` nor `Semi`, nor trivia, nor `Unknown`
 pub record IsOther (x : Lexeme) : Type 0 where
   pub real : is_eof x.kind ≡ false
   pub other : is_semi x.kind ≡ false
   pub plain : is_trivia x.kind ≡ false
+  pub known : is_unknown x.kind ≡ false
 
 -- a command is no gap
 pub command_plain : (b : Bool) → is_trivia (kinds.PsqlCommand b) ≡ false
 command_plain true = refl
 command_plain false = refl
+
+-- a test that two kinds fail is failed by either
+pub either_kind : (p : TokenKind → Bool) (b : Bool) (x y : Lexeme) → p x.kind ≡ false
+    → p y.kind ≡ false → p (cond b x y).kind ≡ false
+either_kind p true x y f g = f
+either_kind p false x y f g = g
 
 either_real : (b : Bool) (x y : Lexeme) → IsReal x → IsReal y → IsReal (cond b x y)
 either_real true x y p q = p
@@ -211,7 +219,7 @@ unfolding symbol
 symbol_other c e = grind (arith, nat_tests)
 
 literal_other : (k : LiteralKind) (n : ℕ) → IsOther (literal_until k n)
-literal_other k n = record { real = refl; other = refl; plain = refl }
+literal_other k n = record { real = refl; other = refl; plain = refl; known = refl }
 
 pub fractional_other : (u : List ℕ) (i : ℕ) → IsOther (fractional u i)
 fractional_other u i =
@@ -238,13 +246,13 @@ opened_other Bit u = literal_other _ _
 opened_other Byte u = literal_other _ _
 opened_other Escape u = literal_other _ _
 opened_other UnicodeString u = literal_other _ _
-opened_other UnicodeIdent u = record { real = refl; other = refl; plain = refl }
-opened_other Plain u = record { real = refl; other = refl; plain = refl }
+opened_other UnicodeIdent u = record { real = refl; other = refl; plain = refl; known = refl }
+opened_other Plain u = record { real = refl; other = refl; plain = refl; known = refl }
 
 pub dollar_other : (u : List ℕ) → IsOther (dollar u)
 dollar_other u =
     either_other (is_dollar_quote_start u) (dollar_string u) (parameter u) (literal_other _ _)
-    (record { real = refl; other = refl; plain = refl })
+    (record { real = refl; other = refl; plain = refl; known = refl })
 
 psql_real : (u : List ℕ) → IsReal (psql u)
 psql_real u =

@@ -10,7 +10,6 @@ pub mod QuotedLaws
 pub mod PsqlArguments
 pub mod Gaps
 pub mod Flags
-
 -- The forms of tokens, which `Token` rests on.
 pub mod Runs
 pub mod Quoted
@@ -21,7 +20,6 @@ pub mod Dollar
 pub mod PsqlWords
 pub mod PsqlParts
 pub mod Psql
-
 -- Definitions for private functions.
 pub mod Bytes
 pub mod Position
