@@ -14,6 +14,7 @@ use Rattle.squawk_lexer.specs.PsqlParts.{is_quote, is_escape_pair, close_len, qu
 use Rattle.squawk_lexer.specs.Psql.{psql, command_word, word_end, options_end, output_start, output_end, command_end}
 use Rattle.squawk_lexer.proofs.TokenLaws.{output_start_on, output_end_on, psql_on}
 use Rattle.squawk_lexer.proofs.PsqlArgumentLaws.{pair_plain, rest_in}
+use Rattle.squawk_lexer.proofs.PsqlSteps.{blank_is_plain}
 use Rattle.squawk_lexer.proofs.Ahead.{Tests, PairTests, Follows, Looks, branch, pick, Alike, take_same, test, seen}
 use Rattle.squawk_lexer.proofs.AheadRuns.{prefix_looks, run_same}
 use Rattle.squawk_lexer.proofs.AheadClosed.{far, later, shorter, either_far}
@@ -193,16 +194,13 @@ marked_far (suc i) mark (c ∷ cs) h = by (marked_len i mark cs) (marked_far i m
     by None h = omega arith
     by (Some m) h = omega arith
 
-blank_plain : (c : ℕ) → is_blank c ≡ true → is_quote c ≡ false
-blank_plain c t = grind (arith, nat_tests)
-
 part_on : (x : ℕ) (v : List ℕ) → ends_arguments x ≡ false
     → arguments_len 0 (x ∷ v) ≡ arguments_len (part_rest x v) v + 1
 part_on x v t = rw t (omega arith)
 
 blank_on : (x : ℕ) (v : List ℕ) → ends_arguments x ≡ false → is_blank x ≡ true
     → arguments_len 0 (x ∷ v) ≡ arguments_len 0 v + 1
-blank_on x v t b = rw (t, blank_plain x b) (omega arith)
+blank_on x v t b = rw (t, blank_is_plain x b) (omega arith)
 
 marked_looks : {told : Tests} {pairs : PairTests}
     → AsksPsql told → (inside : ℕ) (mark : Option ℕ)

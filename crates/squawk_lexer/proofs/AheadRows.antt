@@ -54,6 +54,6 @@ unfolding token_form prefix_of symbol
 command = refl
 
 -- behind a `;`, U+FEFF is a letter
-mark_behind : length (tokens Standard (codes ";" ++ byte_order_mark ∷ codes "x")) ≡ 2
+mark_after_semicolon : length (tokens Standard (codes ";" ++ byte_order_mark ∷ codes "x")) ≡ 2
 unfolding token_form prefix_of symbol
-mark_behind = refl
+mark_after_semicolon = refl

@@ -42,8 +42,8 @@ quoted_ident_same w uescape k u v i a h =
 
 -- what the first three characters open, by two tests of the second one and two of the second and
 -- the third
-abbrev opening_by : ℕ → Bool → Bool → Bool → StringPrefix
-opening_by c quote string ident =
+abbrev prefix_from : ℕ → Bool → Bool → Bool → StringPrefix
+prefix_from c quote string ident =
     cond (is_letter 110 c && quote) National
     (cond (is_letter 98 c && quote) Bit
     (cond (is_letter 120 c && quote) Byte
@@ -51,48 +51,48 @@ opening_by c quote string ident =
     (cond (is_letter 117 c && string) UnicodeString
     (cond (is_letter 117 c && ident) UnicodeIdent Plain)))))
 
-opening_is : (c d e : ℕ) → prefix_of c d e
-    ≡ opening_by c (eqb d 39) (eqb d 38 && eqb e 39) (eqb d 38 && eqb e 34)
+prefix_is : (c d e : ℕ) → prefix_of c d e
+    ≡ prefix_from c (eqb d 39) (eqb d 38 && eqb e 39) (eqb d 38 && eqb e 34)
 unfolding prefix_of
-opening_is c d e =
+prefix_is c d e =
     rw (
       and_assoc (is_letter 117 c) (eqb d 38) (eqb e 39),
       and_assoc (is_letter 117 c) (eqb d 38)
           (eqb e 34),
     ) refl
 
-opening_same : {told : Tests} {pairs : PairTests}
+prefix_same : {told : Tests} {pairs : PairTests}
     → Asks told pairs → (k : ℕ) (u v : List ℕ) → Alike told pairs k u v → 1 ≤ k
     → prefix_of (get_or v 0 0) (get_or v 1 0) (get_or v 2 0)
     ≡ prefix_of (get_or u 0 0) (get_or u 1 0) (get_or u 2 0)
-opening_same w k u v a some =
+prefix_same w k u v a some =
     let first : get_or v 0 0 ≡ get_or u 0 0 = read k u v 0 a (omega arith) in
     let quote = test (λ c. eqb c 39) w.apostrophe k u v 1 a some in
     let string = pair (λ c. eqb c 38) (λ c.
     eqb c 39) w.apostrophe w.and_string k u v 1 2 a some refl in
     let ident = pair (λ c. eqb c 38) (λ c. eqb c 34) w.quotation w.and_ident k u v 1 2 a some refl
     in
-    opening_is (get_or v 0 0) (get_or v 1 0) (get_or v 2 0)
-    ∙ ap (λ c. opening_by c (eqb (get_or v 1 0) 39) (eqb (get_or v 1 0) 38
+    prefix_is (get_or v 0 0) (get_or v 1 0) (get_or v 2 0)
+    ∙ ap (λ c. prefix_from c (eqb (get_or v 1 0) 39) (eqb (get_or v 1 0) 38
     && eqb (get_or v 2 0) 39) (eqb (get_or v 1 0) 38 && eqb (get_or v 2 0) 34)) first
-    ∙ ap (λ b. opening_by (get_or u 0 0) b (eqb (get_or v 1 0) 38
+    ∙ ap (λ b. prefix_from (get_or u 0 0) b (eqb (get_or v 1 0) 38
     && eqb (get_or v 2 0) 39) (eqb (get_or v 1 0) 38 && eqb (get_or v 2 0) 34)) quote
-    ∙ ap (λ b. opening_by (get_or u 0 0) (eqb (get_or u 1 0) 39) b (eqb (get_or v 1 0) 38
+    ∙ ap (λ b. prefix_from (get_or u 0 0) (eqb (get_or u 1 0) 39) b (eqb (get_or v 1 0) 38
     && eqb (get_or v 2 0) 34)) string
-    ∙ ap (opening_by (get_or u 0 0) (eqb (get_or u 1 0) 39) (eqb (get_or u 1 0) 38
+    ∙ ap (prefix_from (get_or u 0 0) (eqb (get_or u 1 0) 39) (eqb (get_or u 1 0) 38
     && eqb (get_or u 2 0) 39)) ident
-    ∙ sym (opening_is (get_or u 0 0) (get_or u 1 0) (get_or u 2 0))
+    ∙ sym (prefix_is (get_or u 0 0) (get_or u 1 0) (get_or u 2 0))
 
-opened_same : {told : Tests} {pairs : PairTests}
+prefixed_same : {told : Tests} {pairs : PairTests}
     → Asks told pairs → (s : StringPrefix) (k : ℕ) (u v : List ℕ) → Alike told pairs k u v
     → (lexeme_of_prefix s u).end ≤ k → lexeme_of_prefix s v ≡ lexeme_of_prefix s u
-opened_same w National k u v a h = string_same w NationalStr false k u v 2 a h
-opened_same w Bit k u v a h = string_same w BitStr false k u v 2 a h
-opened_same w Byte k u v a h = string_same w ByteStr false k u v 2 a h
-opened_same w Escape k u v a h = string_same w EscStr true k u v 2 a h
-opened_same w UnicodeString k u v a h = string_same w UnicodeEscStr false k u v 3 a h
-opened_same w UnicodeIdent k u v a h = quoted_ident_same w true k u v 3 a h
-opened_same w Plain k u v a h =
+prefixed_same w National k u v a h = string_same w NationalStr false k u v 2 a h
+prefixed_same w Bit k u v a h = string_same w BitStr false k u v 2 a h
+prefixed_same w Byte k u v a h = string_same w ByteStr false k u v 2 a h
+prefixed_same w Escape k u v a h = string_same w EscStr true k u v 2 a h
+prefixed_same w UnicodeString k u v a h = string_same w UnicodeEscStr false k u v 3 a h
+prefixed_same w UnicodeIdent k u v a h = quoted_ident_same w true k u v 3 a h
+prefixed_same w Plain k u v a h =
     ap (lexeme_until kinds.Ident) (run_same is_ident_cont w.id_cont k u v 1 a h)
 
 -- ---- every row
@@ -107,43 +107,43 @@ AsksOf told pairs DotDot = ⊤
 AsksOf told pairs Symbol = ⊤
 AsksOf told pairs _ = Asks told pairs
 
-pub begun_same : {told : Tests} {pairs : PairTests} (strings : Strings) (s : TokenForm) → AsksOf told pairs s → (k : ℕ) (u v : List ℕ)
+pub form_same : {told : Tests} {pairs : PairTests} (strings : Strings) (s : TokenForm) → AsksOf told pairs s → (k : ℕ) (u v : List ℕ)
     → Alike told pairs k u v → 1 ≤ k → (lexeme_of_form strings s u).end ≤ k
     → lexeme_of_form strings s v ≡ lexeme_of_form strings s u
-begun_same strings Whitespace w k u v a some h =
+form_same strings Whitespace w k u v a some h =
     ap (lexeme_until kinds.Whitespace) (run_same is_whitespace w k u v 0 a h)
-begun_same strings LineComment w k u v a some h =
+form_same strings LineComment w k u v a some h =
     ap (lexeme_until kinds.LineComment) (run_same is_not_line_end w k u v 2 a h)
-begun_same strings BlockComment w k u v a some h =
+form_same strings BlockComment w k u v a some h =
     let (found, ends) = comment_same 0 k u v 2 a h in
     rw (ends, found) refl
-begun_same strings String w k u v a some h = string_same w Str (has_escapes strings) k u v 1 a h
-begun_same strings QuotedIdent w k u v a some h = quoted_ident_same w false k u v 1 a h
-begun_same strings Word w k u v a some h =
-    ap (λ s. lexeme_of_prefix s v) (opening_same w k u v a some)
-    ∙ opened_same w (prefix_of (get_or u 0 0) (get_or u 1 0) (get_or u 2 0)) k u v a h
-begun_same strings Dollar w k u v a some h = dollar_same w k u v a some h
-begun_same strings Number w k u v a some h = number_same w k u v a h
-begun_same strings DotDot w k u v a some h = refl
-begun_same strings Fraction w k u v a some h = fractional_same w k u v 1 a h
-begun_same strings Psql w k u v a some h = psql_same w k u v a h
-begun_same strings Symbol w k u v a some h =
+form_same strings String w k u v a some h = string_same w Str (has_escapes strings) k u v 1 a h
+form_same strings QuotedIdent w k u v a some h = quoted_ident_same w false k u v 1 a h
+form_same strings Word w k u v a some h =
+    ap (λ s. lexeme_of_prefix s v) (prefix_same w k u v a some)
+    ∙ prefixed_same w (prefix_of (get_or u 0 0) (get_or u 1 0) (get_or u 2 0)) k u v a h
+form_same strings Dollar w k u v a some h = dollar_same w k u v a some h
+form_same strings Number w k u v a some h = number_same w k u v a h
+form_same strings DotDot w k u v a some h = refl
+form_same strings Fraction w k u v a some h = fractional_same w k u v 1 a h
+form_same strings Psql w k u v a some h = psql_same w k u v a h
+form_same strings Symbol w k u v a some h =
     ap (λ c. lexeme_until (symbol c) 1) (read k u v 0 a (omega arith))
 
 -- the row that a text begins with
-abbrev pub row : List ℕ → TokenForm
-row u = token_form (get_or u 0 0) (get_or u 1 0)
+abbrev pub first_form : List ℕ → TokenForm
+first_form u = token_form (get_or u 0 0) (get_or u 1 0)
 
 -- a token is the same in texts that are alike up to its end
 pub lexeme_same : {told : Tests} {pairs : PairTests} (strings : Strings) (s : Bool) (k : ℕ) (u v : List ℕ) → Alike told pairs k u v
-    → row v ≡ row u → AsksOf told pairs (row u) → (lexeme_at strings s u).end ≡ k
+    → first_form v ≡ first_form u → AsksOf told pairs (first_form u) → (lexeme_at strings s u).end ≡ k
     → lexeme_at strings s v ≡ lexeme_at strings s u
 lexeme_same strings s k u v a rows w e =
     pick (λ (x : Lexeme). x.end) _ _ (lexeme_until kinds.Whitespace 1) (lexeme_of strings u)
     (lexeme_until kinds.Whitespace 1) (lexeme_of strings v) k
     (ap (λ c. s && eqb c byte_order_mark) first) (λ t h. refl)
     (λ t h. ap (λ x. lexeme_of_form strings x v) rows
-    ∙ begun_same strings (row u) w k u v a some h) (omega (arith, e))
+    ∙ form_same strings (first_form u) w k u v a some h) (omega (arith, e))
   where
     within : k < length u
     within = a.left
@@ -249,10 +249,10 @@ pub lexeme_next : (strings : Strings) (s : Bool) (k : ℕ) (u v : List ℕ) → 
 lexeme_next strings s k u v a more e =
     let within : k + 1 ≤ length u = a.within in
     let some : 1 ≤ k = omega (arith, lexeme_at_some strings s u (omega arith), e) in
-    let rows : row v ≡ row u =
+    let rows : first_form v ≡ first_form u =
     ap (λ c. token_form c (get_or v 1 0)) (agrees_read (k + 1) u v 0 a (omega arith))
     ∙ ap (token_form (get_or u 0 0)) (agrees_read (k + 1) u v 1 a (omega arith)) in
-    lexeme_same strings s k u v (alike_next k u v a more) rows (asks_any (row u)) e
+    lexeme_same strings s k u v (alike_next k u v a more) rows (asks_any (first_form u)) e
 
 -- ---- the laws
 

@@ -40,9 +40,9 @@ from_table : (table : List ℕ) (b : ℕ) → b < 256
     → not (eqb (get_or table b 0) 44) ≡ is_ident_cont b
 from_table table b lt h = agree_at _ _ 256 h b lt
 
-pub HasIdCont-ID_CONT : HasIdentCont ID_CONT
+pub ident_cont_table : HasIdentCont ID_CONT
 unfolding agree_below
-HasIdCont-ID_CONT = record { len = refl; each = λ b lt. from_table ID_CONT b lt refl }
+ident_cont_table = record { len = refl; each = λ b lt. from_table ID_CONT b lt refl }
 
 -- ---- flat classes
 

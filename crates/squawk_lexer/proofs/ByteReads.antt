@@ -58,13 +58,13 @@ read_byte token rest n r ascii =
 apart : (c q : ℕ) → 128 ≤ c → q < 128 → eqb c q ≡ false
 apart c q big small = grind (arith, nat_tests)
 
-start_high : (c d : ℕ) → 128 ≤ c → token_form c d ≡ Word
+form_high : (c d : ℕ) → 128 ≤ c → token_form c d ≡ Word
 unfolding token_form
-start_high c d big = grind (arith, nat_tests)
+form_high c d big = grind (arith, nat_tests)
 
-start_second : (c d e : ℕ) → 128 ≤ d → 128 ≤ e → token_form c d ≡ token_form c e
+form_second : (c d e : ℕ) → 128 ≤ d → 128 ≤ e → token_form c d ≡ token_form c e
 unfolding token_form
-start_second c d e p q =
+form_second c d e p q =
     rw (
       apart d 45 p (omega arith),
       apart d 42 p (omega arith),
@@ -80,29 +80,29 @@ start_second c d e p q =
     no_digit : (x : ℕ) → 128 ≤ x → is_digit x ≡ false
     no_digit x big = grind (arith, nat_tests)
 
-pub start_lead : (c d b e : ℕ) → b ≡ first_byte c → (c < 128 → e ≡ first_byte d)
+pub form_lead : (c d b e : ℕ) → b ≡ first_byte c → (c < 128 → e ≡ first_byte d)
     → token_form b e ≡ token_form c d
-start_lead c d b e first second = by (cases_lt c 128) (cases_lt d 128)
+form_lead c d b e first second = by (cases_lt c 128) (cases_lt d 128)
   where
     by : (c < 128) ⊎ (128 ≤ c) → (d < 128) ⊎ (128 ≤ d) → token_form b e ≡ token_form c d
     by (inl small) (inl low) = rw (first ∙ lead_ascii c small, second small ∙ lead_ascii d low) refl
     by (inl small) (inr big) =
-        rw (first ∙ lead_ascii c small) (start_second c e d (subst (λ x.
+        rw (first ∙ lead_ascii c small) (form_second c e d (subst (λ x.
         128 ≤ x) (sym (second small)) (lead_high d big)) big)
-    by (inr big) other = start_high b e (subst (λ x. 128 ≤ x) (sym first) (lead_high c big))
-        ∙ sym (start_high c d big)
+    by (inr big) other = form_high b e (subst (λ x. 128 ≤ x) (sym first) (lead_high c big))
+        ∙ sym (form_high c d big)
 
-opening_high : (c d e : ℕ) → 128 ≤ c → prefix_of c d e ≡ Plain
+prefix_high : (c d e : ℕ) → 128 ≤ c → prefix_of c d e ≡ Plain
 unfolding prefix_of
-opening_high c d e big = grind (arith, nat_tests)
+prefix_high c d e big = grind (arith, nat_tests)
 
-opening_plain : (c d e : ℕ) → 128 ≤ d → prefix_of c d e ≡ Plain
+prefix_plain : (c d e : ℕ) → 128 ≤ d → prefix_of c d e ≡ Plain
 unfolding prefix_of
-opening_plain c d e big = grind (arith, nat_tests)
+prefix_plain c d e big = grind (arith, nat_tests)
 
-opening_third : (c d e f : ℕ) → 128 ≤ e → 128 ≤ f → prefix_of c d e ≡ prefix_of c d f
+prefix_third : (c d e f : ℕ) → 128 ≤ e → 128 ≤ f → prefix_of c d e ≡ prefix_of c d f
 unfolding prefix_of
-opening_third c d e f p q =
+prefix_third c d e f p q =
     rw (
       apart e 39 p (omega arith),
       apart e 34 p (omega arith),
@@ -111,9 +111,9 @@ opening_third c d e f p q =
           34 q (omega arith),
     ) refl
 
-pub opening_lead : (c d x b e f : ℕ) → b ≡ first_byte c → (c < 128 → e ≡ first_byte d)
+pub prefix_lead : (c d x b e f : ℕ) → b ≡ first_byte c → (c < 128 → e ≡ first_byte d)
     → (c < 128 → d < 128 → f ≡ first_byte x) → prefix_of b e f ≡ prefix_of c d x
-opening_lead c d x b e f first second third = by (cases_lt c 128) (cases_lt d 128) (cases_lt x 128)
+prefix_lead c d x b e f first second third = by (cases_lt c 128) (cases_lt d 128) (cases_lt x 128)
   where
     by : (c < 128) ⊎ (128 ≤ c) → (d < 128) ⊎ (128 ≤ d) → (x < 128) ⊎ (128 ≤ x)
         → prefix_of b e f ≡ prefix_of c d x
@@ -127,13 +127,13 @@ opening_lead c d x b e f first second third = by (cases_lt c 128) (cases_lt d 12
       first ∙ lead_ascii c small,
       second small
           ∙ lead_ascii d low,
-    ) (opening_third c d f x (subst (λ y.
+    ) (prefix_third c d f x (subst (λ y.
         128 ≤ y) (sym (third small low)) (lead_high x big)) big)
     by (inl small) (inr big) other =
-        opening_plain b e f (subst (λ y. 128 ≤ y) (sym (second small)) (lead_high d big))
-        ∙ sym (opening_plain c d x big)
-    by (inr big) other more = opening_high b e f (subst (λ y.
-        128 ≤ y) (sym first) (lead_high c big)) ∙ sym (opening_high c d x big)
+        prefix_plain b e f (subst (λ y. 128 ≤ y) (sym (second small)) (lead_high d big))
+        ∙ sym (prefix_plain c d x big)
+    by (inr big) other more = prefix_high b e f (subst (λ y.
+        128 ≤ y) (sym first) (lead_high c big)) ∙ sym (prefix_high c d x big)
 
 symbol_high : (c : ℕ) → 128 ≤ c → symbol c ≡ Unknown
 unfolding symbol
@@ -175,19 +175,19 @@ third_read : (u : List ℕ) (i b : ℕ) → i ≡ 0 → (IsAsciiRun u i 2
 third_read u i b none read small low = read (ascii_two u i (rw none small) (rw none low))
     ∙ rw none refl
 
-pub begun_by : (u : List ℕ) (i b e : ℕ) → i ≡ 0
+pub form_by : (u : List ℕ) (i b e : ℕ) → i ≡ 0
     → (IsAsciiRun u i 0 → b ≡ first_byte (get_or u (i + 0) 0))
     → (IsAsciiRun u i 1 → e ≡ first_byte (get_or u (i + 1) 0))
     → token_form b e ≡ token_form (get_or u 0 0) (get_or u 1 0)
-begun_by u i b e none first second =
-    start_lead (get_or u 0 0) (get_or u 1 0) b e (first_read u i b none first)
+form_by u i b e none first second =
+    form_lead (get_or u 0 0) (get_or u 1 0) b e (first_read u i b none first)
     (second_read u i e none second)
 
-pub opened_by : (u : List ℕ) (i b e f : ℕ) → i ≡ 0
+pub prefix_by : (u : List ℕ) (i b e f : ℕ) → i ≡ 0
     → (IsAsciiRun u i 0 → b ≡ first_byte (get_or u (i + 0) 0))
     → (IsAsciiRun u i 1 → e ≡ first_byte (get_or u (i + 1) 0))
     → (IsAsciiRun u i 2 → f ≡ first_byte (get_or u (i + 2) 0))
     → prefix_of b e f ≡ prefix_of (get_or u 0 0) (get_or u 1 0) (get_or u 2 0)
-opened_by u i b e f none first second third =
-    opening_lead (get_or u 0 0) (get_or u 1 0) (get_or u 2 0) b e f (first_read u i b none first)
+prefix_by u i b e f none first second third =
+    prefix_lead (get_or u 0 0) (get_or u 1 0) (get_or u 2 0) b e f (first_read u i b none first)
     (second_read u i e none second) (third_read u i f none third)

@@ -11,7 +11,8 @@ use Rattle.squawk_lexer.specs.declared.token.Strings.{Strings}
 use Rattle.squawk_lexer.specs.Text.{utf8_len}
 use Rattle.squawk_lexer.specs.Token.{lexeme_at, token_at}
 use Rattle.squawk_lexer.specs.Cut.{tokens_from, Tiles}
-use Rattle.squawk_lexer.proofs.Chars.{length-encodes, length-bytes, bytes_none}
+use Rattle.squawk_lexer.proofs.CursorRest.{length_encodes, length_bytes, bytes_none}
+use Rattle.squawk_lexer.proofs.ByteRuns.{scalars_drop}
 use Rattle.squawk_lexer.proofs.TokenLaws.{lexeme_at_some, token_positive, token_never_eof}
 
 tokens_inside : (strings : Strings) (n : ℕ) (u : List ℕ)
@@ -52,29 +53,19 @@ tokens_few strings (suc n) s (c ∷ cs) = omega (arith, tokens_few strings n s c
 
 -- ---- the tokens of a text tile it
 
-second : (a b : Bool) → (a && b) ≡ true → b ≡ true
-second true b e = e
-second false b e = absurd (false≢true e)
-
-scalars_drop : (n : ℕ) (cs : List ℕ) → scalars cs ≡ true → scalars (drop n cs) ≡ true
-scalars_drop zero [] e = e
-scalars_drop (suc n) [] e = e
-scalars_drop zero (c ∷ cs) e = e
-scalars_drop (suc n) (c ∷ cs) e = scalars_drop n cs (second (scalar c) (scalars cs) e)
-
 -- a text, cut behind its first n characters
 pub record IsCut (bs : List ℕ) (n : ℕ) : Type 0 where
   pub utf8 : IsUtf8 (drop (utf8_len (take n (chars bs))) bs)
   pub rest : chars (drop (utf8_len (take n (chars bs))) bs) ≡ drop n (chars bs)
   pub boundary : IsCharBoundary bs (utf8_len (take n (chars bs)))
 
-pub cut_behind : (bs : List ℕ) (n : ℕ) → IsUtf8 bs → IsCut bs n
-cut_behind bs n utf8 =
+pub cut_after : (bs : List ℕ) (n : ℕ) → IsUtf8 bs → IsCut bs n
+cut_after bs n utf8 =
     let front = take n (chars bs) in
     let back = drop n (chars bs) in
     let both : bs ≡ encode_utf8_all front ++ encode_utf8_all back = sym (encodes-chars bs utf8)
     ∙ ap encode_utf8_all (sym (take-append-drop n (chars bs))) ∙ encodes-append front back in
-    let len : length (encode_utf8_all front) ≡ utf8_len front = length-encodes front in
+    let len : length (encode_utf8_all front) ≡ utf8_len front = length_encodes front in
     let back_utf8 : IsUtf8 (encode_utf8_all back) =
     (back, (scalars_drop n (chars bs) (scalars-chars bs utf8), refl)) in
     let same : drop (utf8_len front) bs ≡ encode_utf8_all back =
@@ -94,15 +85,15 @@ pub token_boundary : (strings : Strings) (s : Bool) (text : List ℕ) (at : ℕ)
     → IsCharBoundary text (at + (token_at strings s (chars (drop at text))).len)
 token_boundary strings s text at within utf8 =
     IsCharBoundary-from_rest text at _ within
-    (cut_behind (drop at text) (lexeme_at strings s (chars (drop at text))).end utf8).boundary
+    (cut_after (drop at text) (lexeme_at strings s (chars (drop at text))).end utf8).boundary
 
 -- what is behind it
-behind_token : (strings : Strings) (s : Bool) (text : List ℕ) (at : ℕ) → IsUtf8 (drop at text)
+after_token : (strings : Strings) (s : Bool) (text : List ℕ) (at : ℕ) → IsUtf8 (drop at text)
     → chars (drop (at + (token_at strings s (chars (drop at text))).len) text)
     ≡ drop (lexeme_at strings s (chars (drop at text))).end (chars (drop at text))
-behind_token strings s text at utf8 =
+after_token strings s text at utf8 =
     ap chars (sym (drop-drop (token_at strings s (chars (drop at text))).len at text))
-    ∙ (cut_behind (drop at text) (lexeme_at strings s (chars (drop at text))).end utf8).rest
+    ∙ (cut_after (drop at text) (lexeme_at strings s (chars (drop at text))).end utf8).rest
 
 -- the tokens from a place on are the one that begins there, and those from its end on
 pub token_then : (strings : Strings) (s : Bool) (text : List ℕ) (at : ℕ) → IsUtf8 (drop at text)
@@ -112,7 +103,7 @@ pub token_then : (strings : Strings) (s : Bool) (text : List ℕ) (at : ℕ) →
     ∷ tokens_from strings 0 false
     (chars (drop (at + (token_at strings s (chars (drop at text))).len) text))
 token_then strings s text at utf8 some =
-    rw (behind_token strings s text at utf8) (tokens_first strings s (chars (drop at text)) some)
+    rw (after_token strings s text at utf8) (tokens_first strings s (chars (drop at text)) some)
 
 tiles_end : (strings : Strings) (s : Bool) (text : List ℕ) (at : ℕ) → at ≤ length text
     → IsUtf8 (drop at text)
@@ -120,7 +111,7 @@ tiles_end : (strings : Strings) (s : Bool) (text : List ℕ) (at : ℕ) → at �
     → Tiles text at (tokens_from strings 0 s (chars (drop at text)))
 tiles_end strings s text at within utf8 none =
     let bytes_none : utf8_len (chars (drop at text)) ≡ 0 = bytes_none (chars (drop at text)) none in
-    let len = length-bytes (drop at text) (is_utf8-from_IsUtf8 (drop at text) utf8) in
+    let len = length_bytes (drop at text) (is_utf8-from_IsUtf8 (drop at text) utf8) in
     rw (tokens_none strings s (chars (drop at text)) none)
     (omega (arith, len, length-drop at text, within))
 
@@ -142,14 +133,14 @@ tiles (suc n) strings text at s within utf8 h =
     boundary = token_boundary strings s text at within utf8
 
     -- the rest is a text
-    utf8_behind : IsUtf8 (drop (at + token.len) text)
-    utf8_behind =
+    utf8_after : IsUtf8 (drop (at + token.len) text)
+    utf8_after =
         subst IsUtf8 (drop-drop token.len at text)
-        (cut_behind (drop at text) (lexeme_at strings s (chars (drop at text))).end utf8).utf8
+        (cut_after (drop at text) (lexeme_at strings s (chars (drop at text))).end utf8).utf8
 
     rest : chars (drop (at + token.len) text)
         ≡ drop (lexeme_at strings s (chars (drop at text))).end (chars (drop at text))
-    rest = behind_token strings s text at utf8
+    rest = after_token strings s text at utf8
 
     by : ((next : ℕ) → Tiled n strings text next false) → (0 < length (chars (drop at text)))
         ⊎ (length (chars (drop at text)) ≤ 0)
@@ -165,7 +156,7 @@ tiles (suc n) strings text at s within utf8 h =
           lexeme_at_some strings s (chars (drop at text)) some,
           h,
         ) in
-        let more = behind (at + token.len) boundary.0 utf8_behind less in
+        let more = behind (at + token.len) boundary.0 utf8_after less in
         rw (tokens_first strings s (chars (drop at text)) some) (
           token_positive strings s (chars (drop at text)) some,
           token_never_eof strings s

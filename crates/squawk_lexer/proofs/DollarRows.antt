@@ -34,11 +34,11 @@ longer_tag : dollar (codes "$a$ $ab$ $a $a$ x") ≡ string true 15
 unfolding string
 longer_tag = refl
 
-digit_behind : dollar (codes "$1$") ≡ lexeme_until (PositionalParam 2) 2
-digit_behind = refl
+digit_after : dollar (codes "$1$") ≡ lexeme_until (PositionalParam 2) 2
+digit_after = refl
 
-junk_behind : dollar (codes "$x;") ≡ lexeme_until (PositionalParam 1) 2
-junk_behind = refl
+junk_after : dollar (codes "$x;") ≡ lexeme_until (PositionalParam 1) 2
+junk_after = refl
 
 lone : dollar (codes "$") ≡ lexeme_until (PositionalParam 1) 1
 lone = refl

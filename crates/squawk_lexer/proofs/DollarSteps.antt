@@ -10,7 +10,7 @@ use Rattle.squawk_lexer.specs.Dollar.{tag_end, is_dollar_quote_start, dollar, do
 use Rattle.squawk_lexer.specs.Numbers.{parameter}
 use Rattle.squawk_lexer.specs.Kind.{lexeme_until}
 use Rattle.squawk_lexer.specs.declared.token.TokenKind.TheVariants.{PositionalParam}
-use Rattle.squawk_lexer.proofs.Steps.{drop_some, drop_none, drop_read, drop_past, within_some, within_read, behind_some, behind_none, behind_within, behind_on, mapped, ne-eqb, behind_read}
+use Rattle.squawk_lexer.proofs.Steps.{drop_some, drop_none, drop_read, drop_past, within_some, within_read, after_some, after_none, after_within, after_on, mapped, ne_eqb, after_read}
 
 -- ---- the delimiter that opens a string
 
@@ -38,7 +38,7 @@ tag_is_run (c ∷ v) n = by (cases_eq c 36) (λ k. tag_is_run v k)
         → prefix_len is_ident_cont v ≡ prefix_len is_tag_cont v)
         → prefix_len is_ident_cont (c ∷ v) ≡ prefix_len is_tag_cont (c ∷ v)
     by (inl e) more = absurd ((rw e at n) refl)
-    by (inr ne) more = each (is_ident_cont c) (is_not_dollar c) (rw (ne-eqb c 36 ne) refl) n
+    by (inr ne) more = each (is_ident_cont c) (is_not_dollar c) (rw (ne_eqb c 36 ne) refl) n
       where
         each : (b t : Bool) → t ≡ true
             → (get_or (c ∷ v) (cond (b && t) (1 + prefix_len is_tag_cont v) 0) 0 ≡ 36 → ⊥)
@@ -60,7 +60,7 @@ opens u i e here = let test : is_dollar_quote_start u ≡ true = rw (← e) (eq-
     (test, rw test refl)
 
 opens_not : (u : List ℕ) (i : ℕ) → i ≡ tag_end u → (get_or u i 0 ≡ 36 → ⊥) → dollar u ≡ parameter u
-opens_not u i e other = let test : is_dollar_quote_start u ≡ false = rw (← e) (ne-eqb _ 36 other) in
+opens_not u i e other = let test : is_dollar_quote_start u ≡ false = rw (← e) (ne_eqb _ 36 other) in
     rw test refl
 
 pub no_tag : (u : List ℕ) (i : ℕ) → is_ident_start (get_or u 1 0) ≡ false → i ≡ tag_end u
@@ -88,4 +88,4 @@ junk_tag (c ∷ x ∷ v) i first tag e other =
     ∙ rw (one, end) refl in
     sym (opens_not u i e other ∙ param_is)
 
-pub ruleset dollar_steps = (opens, no_tag, junk_tag, behind_read, nat_tests)
+pub ruleset dollar_steps = (opens, no_tag, junk_tag, after_read, nat_tests)

@@ -130,63 +130,63 @@ dollar_flags u h = either_flags u (is_dollar_quote_start u) (dollar_string u) (p
 
 -- ---- kinds without places
 
-abbrev has_places : TokenKind → Bool
-has_places (kinds.Literal kind) = true
-has_places (kinds.PositionalParam place) = true
-has_places _ = false
+abbrev has_offsets : TokenKind → Bool
+has_offsets (kinds.Literal kind) = true
+has_offsets (kinds.PositionalParam place) = true
+has_offsets _ = false
 
-symbol_places : (c : ℕ) → has_places (symbol c) ≡ false
+symbol_offsets : (c : ℕ) → has_offsets (symbol c) ≡ false
 unfolding symbol
-symbol_places c = grind (arith, nat_tests)
+symbol_offsets c = grind (arith, nat_tests)
 
-no_places : (kind : TokenKind) (n : ℕ) → has_places kind ≡ false → FlagsWithin kind n
-no_places (kinds.Literal kind) n e = absurd (false≢true (sym e))
-no_places (kinds.PositionalParam place) n e = absurd (false≢true (sym e))
-no_places (kinds.PsqlCommand ends) n e = tt
-no_places (kinds.BlockComment terminated) n e = tt
-no_places (kinds.QuotedIdent terminated uescape) n e = tt
-no_places kinds.Unknown n e = tt
-no_places kinds.Whitespace n e = tt
-no_places kinds.Ident n e = tt
-no_places kinds.Semi n e = tt
-no_places kinds.Eof n e = tt
-no_places kinds.Slash n e = tt
-no_places kinds.LineComment n e = tt
-no_places kinds.Minus n e = tt
-no_places kinds.Colon n e = tt
-no_places kinds.Dot n e = tt
-no_places kinds.DotDot n e = tt
-no_places kinds.Eq n e = tt
-no_places kinds.Gt n e = tt
-no_places kinds.And n e = tt
-no_places kinds.Lt n e = tt
-no_places kinds.Bang n e = tt
-no_places kinds.Plus n e = tt
-no_places kinds.Tilde n e = tt
-no_places kinds.Pound n e = tt
-no_places kinds.Question n e = tt
-no_places kinds.Or n e = tt
-no_places kinds.Percent n e = tt
-no_places kinds.Caret n e = tt
-no_places kinds.Star n e = tt
-no_places kinds.Backtick n e = tt
-no_places kinds.At n e = tt
-no_places kinds.CloseBracket n e = tt
-no_places kinds.OpenBracket n e = tt
-no_places kinds.CloseCurly n e = tt
-no_places kinds.OpenCurly n e = tt
-no_places kinds.CloseParen n e = tt
-no_places kinds.OpenParen n e = tt
-no_places kinds.Comma n e = tt
+no_offsets : (kind : TokenKind) (n : ℕ) → has_offsets kind ≡ false → FlagsWithin kind n
+no_offsets (kinds.Literal kind) n e = absurd (false≢true (sym e))
+no_offsets (kinds.PositionalParam place) n e = absurd (false≢true (sym e))
+no_offsets (kinds.PsqlCommand ends) n e = tt
+no_offsets (kinds.BlockComment terminated) n e = tt
+no_offsets (kinds.QuotedIdent terminated uescape) n e = tt
+no_offsets kinds.Unknown n e = tt
+no_offsets kinds.Whitespace n e = tt
+no_offsets kinds.Ident n e = tt
+no_offsets kinds.Semi n e = tt
+no_offsets kinds.Eof n e = tt
+no_offsets kinds.Slash n e = tt
+no_offsets kinds.LineComment n e = tt
+no_offsets kinds.Minus n e = tt
+no_offsets kinds.Colon n e = tt
+no_offsets kinds.Dot n e = tt
+no_offsets kinds.DotDot n e = tt
+no_offsets kinds.Eq n e = tt
+no_offsets kinds.Gt n e = tt
+no_offsets kinds.And n e = tt
+no_offsets kinds.Lt n e = tt
+no_offsets kinds.Bang n e = tt
+no_offsets kinds.Plus n e = tt
+no_offsets kinds.Tilde n e = tt
+no_offsets kinds.Pound n e = tt
+no_offsets kinds.Question n e = tt
+no_offsets kinds.Or n e = tt
+no_offsets kinds.Percent n e = tt
+no_offsets kinds.Caret n e = tt
+no_offsets kinds.Star n e = tt
+no_offsets kinds.Backtick n e = tt
+no_offsets kinds.At n e = tt
+no_offsets kinds.CloseBracket n e = tt
+no_offsets kinds.OpenBracket n e = tt
+no_offsets kinds.CloseCurly n e = tt
+no_offsets kinds.OpenCurly n e = tt
+no_offsets kinds.CloseParen n e = tt
+no_offsets kinds.OpenParen n e = tt
+no_offsets kinds.Comma n e = tt
 
-opened_flags : (s : StringPrefix) (u : List ℕ) → Flagged u (lexeme_of_prefix s u)
-opened_flags National u = tt
-opened_flags Bit u = tt
-opened_flags Byte u = tt
-opened_flags Escape u = tt
-opened_flags UnicodeString u = tt
-opened_flags UnicodeIdent u = tt
-opened_flags Plain u = tt
+prefix_flags : (s : StringPrefix) (u : List ℕ) → Flagged u (lexeme_of_prefix s u)
+prefix_flags National u = tt
+prefix_flags Bit u = tt
+prefix_flags Byte u = tt
+prefix_flags Escape u = tt
+prefix_flags UnicodeString u = tt
+prefix_flags UnicodeIdent u = tt
+prefix_flags Plain u = tt
 
 psql_flags : (u : List ℕ) → Flagged u (psql u)
 psql_flags u =
@@ -198,28 +198,28 @@ psql_flags u =
 
 -- ---- every row
 
-begun_flags : (strings : Strings) (s : TokenForm) (u : List ℕ) → 1 ≤ length u
+form_flags : (strings : Strings) (s : TokenForm) (u : List ℕ) → 1 ≤ length u
     → Flagged u (lexeme_of_form strings s u)
-begun_flags strings Whitespace u h = tt
-begun_flags strings LineComment u h = tt
-begun_flags strings BlockComment u h = tt
-begun_flags strings String u h = tt
-begun_flags strings QuotedIdent u h = tt
-begun_flags strings Word u h =
-    opened_flags (prefix_of (get_or u 0 0) (get_or u 1 0) (get_or u 2 0)) u
-begun_flags strings Dollar u h = dollar_flags u h
-begun_flags strings Number u h = number_flags u h
-begun_flags strings DotDot u h = tt
-begun_flags strings Fraction u h = fractional_flags u 1 h (omega arith)
-begun_flags strings Psql u h = psql_flags u
-begun_flags strings Symbol u h = no_places (symbol (get_or u 0 0)) _ (symbol_places (get_or u 0 0))
+form_flags strings Whitespace u h = tt
+form_flags strings LineComment u h = tt
+form_flags strings BlockComment u h = tt
+form_flags strings String u h = tt
+form_flags strings QuotedIdent u h = tt
+form_flags strings Word u h =
+    prefix_flags (prefix_of (get_or u 0 0) (get_or u 1 0) (get_or u 2 0)) u
+form_flags strings Dollar u h = dollar_flags u h
+form_flags strings Number u h = number_flags u h
+form_flags strings DotDot u h = tt
+form_flags strings Fraction u h = fractional_flags u 1 h (omega arith)
+form_flags strings Psql u h = psql_flags u
+form_flags strings Symbol u h = no_offsets (symbol (get_or u 0 0)) _ (symbol_offsets (get_or u 0 0))
 
 pub flags_lie_within : FlagsLieWithin
 flags_lie_within strings s u h = (
   token_positive strings s u h,
   either_flags u (s && eqb (get_or u 0 0) byte_order_mark) (lexeme_until kinds.Whitespace 1)
       (lexeme_of strings u)
-      (λ t. tt) (begun_flags strings (token_form (get_or u 0 0) (get_or u 1 0)) u h),
+      (λ t. tt) (form_flags strings (token_form (get_or u 0 0) (get_or u 1 0)) u h),
 )
 
 -- ---- each token of a text is the first of the text that begins with it

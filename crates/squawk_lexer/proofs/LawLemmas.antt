@@ -86,11 +86,11 @@ pub tokens_restart : TokensRestart
 tokens_restart strings at_start zero u some = absurd (omega arith)
 tokens_restart strings at_start (suc n) u some = restart strings at_start n u (restart_on strings n)
 
-pub places_add_up : LengthsAddUp
-places_add_up strings at_start zero [] = refl
-places_add_up strings at_start zero (c ∷ cs) = refl
-places_add_up strings at_start (suc n) [] = refl
-places_add_up strings at_start (suc n) (c ∷ cs) =
+pub lengths_add_up : LengthsAddUp
+lengths_add_up strings at_start zero [] = refl
+lengths_add_up strings at_start zero (c ∷ cs) = refl
+lengths_add_up strings at_start (suc n) [] = refl
+lengths_add_up strings at_start (suc n) (c ∷ cs) =
     let u = c ∷ cs in
     let e = (lexeme_at strings at_start u).end in
     let rest = tokens_from strings 0 false (drop e u) in
@@ -100,7 +100,7 @@ places_add_up strings at_start (suc n) (c ∷ cs) =
     ap utf8_len (take-add e (chars_of_tokens strings false n (drop e u)) u)
     ∙ sum_by-append len_utf8 (take e u) _ in
     first
-    ∙ ap (λ m. utf8_len (take e u) + m) (places_add_up strings false n (drop e u))
+    ∙ ap (λ m. utf8_len (take e u) + m) (lengths_add_up strings false n (drop e u))
     ∙ sym (ap (λ ts. sum_by (λ (t : Token). t.len) (take (suc n) ts))
     (tokens_first strings at_start u (omega arith))
     ∙ sum_by-cons (λ (t : Token). t.len) (token_at strings at_start u) (take n rest))

@@ -11,10 +11,11 @@ use Rattle.squawk_lexer.specs.Classes.{is_line_end, is_not_line_end, is_blank}
 use Rattle.squawk_lexer.specs.PsqlQuotes.{close_end, last_before, piece_stop}
 use Rattle.squawk_lexer.specs.Stops.{is_neither, is_neither_on_line, stop_on_line}
 use Rattle.squawk_lexer.specs.Text.{utf8_len}
-use Rattle.squawk_lexer.proofs.StopSteps.{run_kept, other_not, inside_on}
-use Rattle.squawk_lexer.proofs.NeedleSteps.{fewer_bytes}
+use Rattle.squawk_lexer.proofs.PsqlArgumentLaws.{rest_in}
+use Rattle.squawk_lexer.proofs.StopSteps.{some_read, run_kept, other_not, inside_on}
+use Rattle.squawk_lexer.proofs.DelimiterSearch.{fewer_bytes}
 use Rattle.squawk_lexer.specs.PsqlParts.{is_quote, is_escape_pair, close_len, quote_len, last_inside, ends_arguments, part_rest, arguments_len, arguments_end, mark_after, is_parenthesis, marked_len, marked_len_at}
-use Rattle.squawk_lexer.proofs.Steps.{drop_some, drop_none, drop_read, drop_past, within_some, within_read, behind_some, behind_none, behind_within, behind_past, behind_on, ne-eqb, run_more, run_stop, run_at_end}
+use Rattle.squawk_lexer.proofs.Steps.{drop_some, drop_none, drop_read, drop_past, within_some, within_read, after_some, after_none, after_within, after_past, after_on, ne_eqb, run_more, run_stop, run_at_end}
 
 -- ---- a quote, whose opening stands before the place
 
@@ -34,20 +35,15 @@ quote_plain q u i c s plain other no_pair = (
 )
   where
     b : position_after u i ≡ i + 1
-    b = behind_some u i c s
+    b = after_some u i c s
 
     by : (i + 1 < length u) ⊎ (length u ≤ i + 1)
         → close_end q u i ≡ close_end q u (position_after u i)
     by (inl h) =
         let single : is_escape_pair q c (get_or u (i + 1) 0) ≡ false = rw b at no_pair in
-        rw (b, drop_some u i c s, drop_read u (i + 1) h, plain, ne-eqb c q other, single)
+        rw (b, drop_some u i c s, drop_read u (i + 1) h, plain, ne_eqb c q other, single)
         (further (close_len q (get_or u (i + 1) 0 ∷ drop (i + 1 + 1) u)) i 1)
-    by (inr h) = rw (b, drop_some u i c s, drop_past u (i + 1) h, ne-eqb c q other) refl
-
-slice_some : (u : List ℕ) (i : ℕ) → i < length u → Some (get_or u i 0) ≡ slice_get u i
-slice_some [] i h = absurd (omega arith)
-slice_some (x ∷ u) zero h = refl
-slice_some (x ∷ u) (suc i) h = slice_some u i (omega arith)
+    by (inr h) = rw (b, drop_some u i c s, drop_past u (i + 1) h, ne_eqb c q other) refl
 
 pub quote_pair : (q : ℕ) (u : List ℕ) (i c : ℕ) → Some c ≡ slice_get u i → is_line_end c ≡ false
     → (c ≡ q → ⊥) → is_escape_pair q c (get_or u (position_after u i) 0) ≡ true
@@ -56,7 +52,7 @@ pub quote_pair : (q : ℕ) (u : List ℕ) (i c : ℕ) → Some c ≡ slice_get u
 quote_pair q u i c s plain other pair = by (cases_lt (i + 1) (length u))
   where
     b : position_after u i ≡ i + 1
-    b = behind_some u i c s
+    b = after_some u i c s
 
     d : ℕ
     d = get_or u (i + 1) 0
@@ -76,19 +72,19 @@ quote_pair q u i c s plain other pair = by (cases_lt (i + 1) (length u))
     by (inl h) =
         let two : i + 1 + 1 ≡ i + 2 = omega arith in
         let more : line_end u (i + 1 + 1) ≡ line_end u (i + 1) =
-        run_more is_not_line_end u (i + 1) (get_or u (i + 1) 0) (slice_some u (i + 1) h)
+        run_more is_not_line_end u (i + 1) (get_or u (i + 1) 0) (some_read u (i + 1) h)
         (next_plain (get_or u (i + 1) 0) both) in
-        rw (b, behind_within u (i + 1) h) (
-          (rw (drop_some u i c s, drop_read u (i + 1) h, plain, ne-eqb c q other, both, two)
+        rw (b, after_within u (i + 1) h) (
+          (rw (drop_some u i c s, drop_read u (i + 1) h, plain, ne_eqb c q other, both, two)
               (further (close_len q (drop (i + 2) u)) i 2)),
           sym on ∙ sym more,
         )
-    by (inr h) = rw (b, behind_past u (i + 1) h)
-        ((rw (drop_some u i c s, drop_past u (i + 1) h, ne-eqb c q other) refl), sym on)
+    by (inr h) = rw (b, after_past u (i + 1) h)
+        ((rw (drop_some u i c s, drop_past u (i + 1) h, ne_eqb c q other) refl), sym on)
 
 pub quote_close : (q : ℕ) (u : List ℕ) (i c : ℕ) → Some c ≡ slice_get u i → is_line_end c ≡ false
     → c ≡ q → close_end q u i ≡ Some (position_after u i)
-quote_close q u i c s plain same = rw (behind_some u i c s, drop_some u i c s) (at (drop (i + 1) u))
+quote_close q u i c s plain same = rw (after_some u i c s, drop_some u i c s) (at (drop (i + 1) u))
   where
     at : (r : List ℕ) → option_map (λ n. i + n) (close_len q (c ∷ r)) ≡ Some (i + 1)
     at [] = rw (eq-eqb c q same) refl
@@ -149,16 +145,6 @@ read_on [] (suc i) k = refl
 read_on (x ∷ u) (suc i) k = let next : suc i + k ≡ suc (i + k) = omega arith in
     rw next (read_on u i k)
 
-pub last_one : (u : List ℕ) (i j c : ℕ) → i ≤ j → Some c ≡ slice_get u j
-    → Some c ≡ last_before u i (position_after u j)
-last_one u i j c on s =
-    let k : j + 1 - i ≡ j - i + 1 = omega arith in
-    let to : i + (j - i) ≡ j = omega arith in
-    let within : j < length u = within_some u j c s in
-    let here : last_or None (take (j - i + 1) (drop i u)) ≡ slice_get u (i + (j - i)) =
-    take_last None (drop i u) (j - i) (omega (arith, length-drop i u)) ∙ read_on u i (j - i) in
-    rw (behind_some u j c s, k) (s ∙ sym (rw to at here))
-
 pub last_none : (u : List ℕ) (i : ℕ) → None ≡ last_before u i i
 last_none u i = let none : i - i ≡ 0 = omega arith in rw none refl
 
@@ -169,67 +155,11 @@ pub quote_closed : (q : ℕ) (u : List ℕ) (i : ℕ) (v : List ℕ) (j c : ℕ)
     → (position_after v j ≡ i + quote_len q (drop i u))
     × (last_before u i j ≡ last_inside (drop i u) (close_len q (drop i u)))
 quote_closed q u i v j c same inv s plain is_q =
-    let b : position_after v j ≡ j + 1 = behind_some v j c s in
+    let b : position_after v j ≡ j + 1 = after_some v j c s in
     let e : close_end q u i ≡ Some (j + 1) = sym inv ∙ quote_close q v j c s plain is_q ∙ ap Some b
     in
     let k = closed q u i j e in
     (b ∙ sym k.0, sym k.1)
-
-last_read : (u : List ℕ) (i j : ℕ) (r : Option ℕ) → i ≤ j → r ≡ slice_get u j
-    → position_after u j < length u → r ≡ last_before u i (position_after u j)
-last_read u i j None on s within = absurd (let past = past_none u j s in let b = behind_none u j s
-    in omega arith)
-  where
-    past_none : (u : List ℕ) (j : ℕ) → None ≡ slice_get u j → length u ≤ j
-    past_none [] j s = omega arith
-    past_none (x ∷ u) zero s = absurd (cc)
-    past_none (x ∷ u) (suc j) s = omega (arith, past_none u j s)
-last_read u i j (Some c) on s within = last_one u i j c on s
-
--- behind a piece, at the place k
-pub record IsTurn (q : ℕ) (u : List ℕ) (i : ℕ) (v : List ℕ) (k : ℕ) : Type 0 where
-  pub on : i ≤ k
-  pub close : close_end q v k ≡ close_end q u i
-  pub line : line_end v k ≡ line_end u i
-
-pub one_piece : (q : ℕ) (u : List ℕ) (i : ℕ) (v : List ℕ) (j c : ℕ) → v ≡ u → IsTurn q u i v j
-    → Some c ≡ slice_get v j → is_line_end c ≡ false → (c ≡ q → ⊥)
-    → is_escape_pair q c (get_or v (position_after v j) 0) ≡ false
-    → IsTurn q u i v (position_after v j) × (Some c ≡ last_before u i (position_after v j))
-    × (length v - position_after v j < length v - j)
-one_piece q u i v j c same t s plain other no_pair =
-    let p = quote_plain q v j c s plain other no_pair in
-    let b : position_after v j ≡ j + 1 = behind_some v j c s in
-    let within : j < length v = within_some v j c s in
-    let on : i ≤ j = t.on in
-    let last : Some c ≡ last_before v i (position_after v j) = last_one v i j c on s in (
-      record { on = omega arith; close = sym p.0 ∙ t.close; line = sym p.1 ∙ t.line },
-      last
-          ∙ ap (λ x. last_before x i (position_after v j)) same,
-      omega arith,
-    )
-
-pub two_pieces : (q : ℕ) (u : List ℕ) (i : ℕ) (v : List ℕ) (j c : ℕ) (r : Option ℕ) → v ≡ u
-    → IsTurn q u i v j → Some c ≡ slice_get v j → is_line_end c ≡ false → (c ≡ q → ⊥)
-    → is_escape_pair q c (get_or v (position_after v j) 0) ≡ true
-    → r ≡ slice_get v (position_after v j)
-    → IsTurn q u i v (position_after v (position_after v j))
-    × (position_after v (position_after v j) < length v
-    → r ≡ last_before u i (position_after v (position_after v j)))
-    × (length v - position_after v (position_after v j) < length v - j)
-two_pieces q u i v j c r same t s plain other pair read =
-    let p = quote_pair q v j c s plain other pair in
-    let b : position_after v j ≡ j + 1 = behind_some v j c s in
-    let more : position_after v j ≤ position_after v (position_after v j) =
-    (behind_on v (position_after v j)).1 in
-    let within : j < length v = within_some v j c s in
-    let on : i ≤ j = t.on in
-    let on' : i ≤ position_after v j = omega arith in (
-      record { on = omega arith; close = sym p.0 ∙ t.close; line = sym p.1 ∙ t.line },
-      (λ h. last_read v i (position_after v j) r on' read h
-          ∙ ap (λ x. last_before x i (position_after v (position_after v j))) same),
-      omega arith,
-    )
 
 -- ---- the search for the next piece that matters
 
@@ -255,19 +185,19 @@ no_pair q c d t = by (cases_eq q 39)
     by : (q ≡ 39) ⊎ (q ≡ 39 → ⊥) → (is_line_end c ≡ false) × (c ≡ q → ⊥)
         × (is_escape_pair q c d ≡ false)
     by (inl e) = let n = other_not q (cond (eqb q 39) 92 q) c others in
-        (plain, n.0, rw (ne-eqb c 92 (λ x. n.1 (x ∙ rw (eq-eqb q 39 e) refl))) (none (eqb q 39)))
+        (plain, n.0, rw (ne_eqb c 92 (λ x. n.1 (x ∙ rw (eq-eqb q 39 e) refl))) (none (eqb q 39)))
       where
         none : (a : Bool) → ((a && false) && not (is_line_end d)) ≡ false
         none true = refl
         none false = refl
-    by (inr n) = (plain, (other_not q (cond (eqb q 39) 92 q) c others).0, rw (ne-eqb q 39 n) refl)
+    by (inr n) = (plain, (other_not q (cond (eqb q 39) 92 q) c others).0, rw (ne_eqb q 39 n) refl)
 
 passed_one : (q : ℕ) (u : List ℕ) (i c : ℕ) → Some c ≡ slice_get u i
     → is_neither_on_line q (cond (eqb q 39) 92 q) c ≡ true
     → (close_end q u i ≡ close_end q u (i + 1)) × (line_end u i ≡ line_end u (i + 1))
 passed_one q u i c s t =
     let (plain, other, single) = no_pair q c (get_or u (position_after u i) 0) t in
-    rw (← behind_some u i c s) (quote_plain q u i c s plain other single)
+    rw (← after_some u i c s) (quote_plain q u i c s plain other single)
 
 pub quote_passed : (q : ℕ) (u : List ℕ) (i : ℕ)
     → (close_end q u i ≡ close_end q u (piece_stop q u i))
@@ -306,14 +236,14 @@ pub piece_two : (q : ℕ) (u : List ℕ) (i : ℕ) → i < length u → is_line_
     ≡ true
     → close_end q u (position_after u (position_after u i)) ≡ close_end q u i
 piece_two q u i h plain other pair =
-    sym (quote_pair q u i (get_or u i 0) (slice_some u i h) plain other pair).0
+    sym (quote_pair q u i (get_or u i 0) (some_read u i h) plain other pair).0
 
 pub piece_one : (q : ℕ) (u : List ℕ) (i : ℕ) → i < length u → is_line_end (get_or u i 0) ≡ false
     → (get_or u i 0 ≡ q → ⊥) → is_escape_pair q (get_or u i 0) (get_or u (position_after u i) 0)
     ≡ false
     → close_end q u (position_after u i) ≡ close_end q u i
 piece_one q u i h plain other single =
-    sym (quote_plain q u i (get_or u i 0) (slice_some u i h) plain other single).0
+    sym (quote_plain q u i (get_or u i 0) (some_read u i h) plain other single).0
 
 -- the last character since a place, with the premises that the code has
 pub last_here : (u : List ℕ) (j i n m : ℕ) → j ≤ length u → i ≤ j → n ≡ utf8_len (take j u)
@@ -345,38 +275,6 @@ pub ruleset quote_steps = (quote_stop, quote_none, unclosed, last_none)
 
 -- ---- the arguments
 
-close_within : (q : ℕ) (cs : List ℕ) → unwrap_or (close_len q cs) 0 ≤ length cs
-close_within q [] = omega arith
-close_within q (c ∷ []) = elim (eqb c q) as (λ b.
-    unwrap_or (cond b (Some 1) None) 0 ≤ 1) [ true ↦ omega arith | false ↦ omega arith ]
-close_within q (c ∷ d ∷ cs) =
-    each (is_line_end c) (eqb c q) (is_escape_pair q c d) (close_len q cs) (close_len q (d ∷ cs))
-    (close_within q cs) (close_within q (d ∷ cs))
-  where
-    each : (b1 b2 b3 : Bool) (x y : Option ℕ) → unwrap_or x 0 ≤ length cs
-        → unwrap_or y 0 ≤ length (d ∷ cs)
-        → unwrap_or (cond b1 None (cond b2 (Some 1)
-        (cond b3 (option_map (λ n. n + 2) x) (option_map (λ n. n + 1) y)))) 0
-        ≤ length (c ∷ d ∷ cs)
-    each true b2 b3 x y p q = omega arith
-    each false true b3 x y p q = omega arith
-    each false false true None y p q = omega arith
-    each false false true (Some n) y p q = omega arith
-    each false false false x None p q = omega arith
-    each false false false x (Some n) p q = omega arith
-
-quote_within : (q : ℕ) (cs : List ℕ) → quote_len q cs ≤ length cs
-quote_within q cs = by (close_len q cs) (close_within q cs)
-  where
-    by : (o : Option ℕ) → unwrap_or o 0 ≤ length cs
-        → unwrap_or o (prefix_len is_not_line_end cs) ≤ length cs
-    by None h = prefix_len-le-length is_not_line_end cs
-    by (Some n) h = h
-
-rest_within : (c : ℕ) (cs : List ℕ) → part_rest c cs ≤ length cs
-rest_within c cs = elim (is_quote c) as (λ b.
-    cond b (quote_len c cs) 0 ≤ length cs) [ true ↦ quote_within c cs | false ↦ omega arith ]
-
 args_inside : (k : ℕ) (cs : List ℕ) → k ≤ length cs
     → arguments_len k cs ≡ k + arguments_len 0 (drop k cs)
 args_inside zero cs h = omega arith
@@ -388,7 +286,7 @@ pub args_part : (u : List ℕ) (i c : ℕ) → Some c ≡ slice_get u i → ends
 args_part u i c s more =
     let p = part_rest c (drop (i + 1) u) in
     let inside : arguments_len p (drop (i + 1) u) ≡ p + arguments_len 0 (drop p (drop (i + 1) u)) =
-    args_inside p (drop (i + 1) u) (rest_within c (drop (i + 1) u)) in
+    args_inside p (drop (i + 1) u) (rest_in c (drop (i + 1) u)) in
     let there : drop p (drop (i + 1) u) ≡ drop (i + 1 + p) u = drop-drop p (i + 1) u in
     let rest = rw there at inside in
     rw (drop_some u i c s, more) (omega arith)
@@ -404,9 +302,9 @@ args_none u i s = rw (drop_none u i s) (omega arith)
 pub part_quote : (u : List ℕ) (i c : ℕ) (v : List ℕ) (j k : ℕ) → Some c ≡ slice_get u i
     → is_quote c ≡ true → v ≡ u → j ≡ position_after u i → k ≡ j + quote_len c (drop j v)
     → k ≡ i + 1 + part_rest c (drop (i + 1) u)
-part_quote u i c v j k s quote same to past = rw (quote, ← behind_some u i c s, ← to, ← same) past
+part_quote u i c v j k s quote same to past = rw (quote, ← after_some u i c s, ← to, ← same) past
 
-pub ruleset part_steps = (behind_some, behind_on, nat_tests)
+pub ruleset part_steps = (after_some, after_on, nat_tests)
 
 pub ruleset args_steps = (args_part, args_stop, args_none, within_some)
 
@@ -444,14 +342,14 @@ pub marked_part : (mark : Option ℕ) (u : List ℕ) (i c : ℕ) → Some c ≡ 
 marked_part mark u i c s more no_blank =
     let p = part_rest c (drop (i + 1) u) in
     let m = mark_after mark c (drop (i + 1) u) in
-    let inside = marked_inside p m (drop (i + 1) u) (rest_within c (drop (i + 1) u)) in
+    let inside = marked_inside p m (drop (i + 1) u) (rest_in c (drop (i + 1) u)) in
     let there : drop p (drop (i + 1) u) ≡ drop (i + 1 + p) u = drop-drop p (i + 1) u in
     let rest = rw there at inside in
     rw (drop_some u i c s, more, no_blank) (ap (λ o.
     option_map (λ n. i + n) (option_map (λ n. n + 1) o)) rest
     ∙ map_past (marked_len 0 m (drop (i + 1 + p) u)) i p)
 
-blank_is_plain : (c : ℕ) → is_blank c ≡ true → is_quote c ≡ false
+pub blank_is_plain : (c : ℕ) → is_blank c ≡ true → is_quote c ≡ false
 blank_is_plain c e = grind (arith, nat_tests)
 
 pub marked_blank : (mark : Option ℕ) (u : List ℕ) (i c : ℕ) → Some c ≡ slice_get u i
@@ -459,11 +357,11 @@ pub marked_blank : (mark : Option ℕ) (u : List ℕ) (i c : ℕ) → Some c ≡
     → (marked_end mark u i ≡ marked_end None u (position_after u i))
     × (arguments_end u i ≡ arguments_end u (position_after u i))
 marked_blank mark u i c s more blank other = (
-  (rw (behind_some u i c s, drop_some u i c s, more, blank, other)
+  (rw (after_some u i c s, drop_some u i c s, more, blank, other)
       (past (marked_len 0 None (drop (i + 1) u)))),
   (args_part u i c s more
       ∙ ap (λ b. arguments_end u (i + 1 + cond b (quote_len c (drop (i + 1) u)) 0))
-      (blank_is_plain c blank) ∙ ap (arguments_end u) (omega arith ∙ sym (behind_some u i c s))),
+      (blank_is_plain c blank) ∙ ap (arguments_end u) (omega arith ∙ sym (after_some u i c s))),
 )
   where
     past : (o : Option ℕ) → option_map (λ n. i + n) (option_map (λ n. n + 1) o)
@@ -532,4 +430,4 @@ marked_returns mark u i v j ends marks e = let m =
     marked_last mark u i j (sym marks ∙ e.0) (sym ends ∙ e.1) in (sym m.0, sym m.1)
 
 pub ruleset marked_steps =
-    (marked_part, marked_blank, marked_found, args_part, within_some, behind_some, behind_on)
+    (marked_part, marked_blank, marked_found, args_part, within_some, after_some, after_on)

@@ -100,28 +100,28 @@ here e q (c ∷ d ∷ cs) h n = let same : c ≡ q = some_eq c q h in let t : eq
 plus : (o : Option ℕ) (k m n : ℕ) → o ≡ Some m → m + k ≡ n → option_map (λ i. i + k) o ≡ Some n
 plus o k m n e s = ap (option_map (λ i. i + k)) e ∙ ap Some s
 
-behind_two : (c d : ℕ) (rest : List ℕ) (i k : ℕ) → i ≡ suc (suc k)
+after_two : (c d : ℕ) (rest : List ℕ) (i k : ℕ) → i ≡ suc (suc k)
     → slice_get (c ∷ d ∷ rest) i ≡ slice_get rest k
-behind_two c d rest i k e = ap (slice_get (c ∷ d ∷ rest)) e
+after_two c d rest i k e = ap (slice_get (c ∷ d ∷ rest)) e
 
-behind_one : (c : ℕ) (rest : List ℕ) (i k : ℕ) → i ≡ suc k
+after_one : (c : ℕ) (rest : List ℕ) (i k : ℕ) → i ≡ suc k
     → slice_get (c ∷ rest) i ≡ slice_get rest k
-behind_one c rest i k e = ap (slice_get (c ∷ rest)) e
+after_one c rest i k e = ap (slice_get (c ∷ rest)) e
 
 pub quoted_ends_once : QuotedEndIsUnique
 quoted_ends_once e q cs m (NoItem rest) h n = here e q rest h n
 quoted_ends_once e q cs m (TwoQuotes c d rest k t s items) h n =
-    let more = quoted_ends_once e q rest k items (sym (behind_two c d rest (2 + k) k (omega arith))
-    ∙ h) (λ g. n (behind_two c d rest (2 + k + 1) (k + 1) (omega arith) ∙ g)) in
+    let more = quoted_ends_once e q rest k items (sym (after_two c d rest (2 + k) k (omega arith))
+    ∙ h) (λ g. n (after_two c d rest (2 + k + 1) (k + 1) (omega arith) ∙ g)) in
     rw (t, s) (plus (quoted_len e q rest) 2 (k + 1) (2 + k + 1) more (omega arith))
 quoted_ends_once e q cs m (Escaped c d rest k t s items) h n =
-    let more = quoted_ends_once e q rest k items (sym (behind_two c d rest (2 + k) k (omega arith))
-    ∙ h) (λ g. n (behind_two c d rest (2 + k + 1) (k + 1) (omega arith) ∙ g)) in
+    let more = quoted_ends_once e q rest k items (sym (after_two c d rest (2 + k) k (omega arith))
+    ∙ h) (λ g. n (after_two c d rest (2 + k + 1) (k + 1) (omega arith) ∙ g)) in
     rw (t, s) (plus (quoted_len e q rest) 2 (k + 1) (2 + k + 1) more (omega arith))
 quoted_ends_once e q cs m (OneItem c [] k t s items) h n = let none : None ≡ Some q =
-    sym (behind_one c [] (1 + k) k (omega arith)) ∙ h in cc
+    sym (after_one c [] (1 + k) k (omega arith)) ∙ h in cc
 quoted_ends_once e q cs m (OneItem c (d ∷ rest) k t s items) h n =
     let more = quoted_ends_once e q (d ∷ rest) k items
-    (sym (behind_one c (d ∷ rest) (1 + k) k (omega arith)) ∙ h) (λ g.
-    n (behind_one c (d ∷ rest) (1 + k + 1) (k + 1) (omega arith) ∙ g)) in
+    (sym (after_one c (d ∷ rest) (1 + k) k (omega arith)) ∙ h) (λ g.
+    n (after_one c (d ∷ rest) (1 + k + 1) (k + 1) (omega arith) ∙ g)) in
     rw (t, s) (plus (quoted_len e q (d ∷ rest)) 1 (k + 1) (1 + k + 1) more (omega arith))

@@ -4,8 +4,8 @@ use Rattle.std.proofs.lemmas.Bool.{cases_lt}
 use Rattle.squawk_lexer.specs.Position.{position_after}
 use Rattle.squawk_lexer.specs.Quoted.{quoted_end, quoted_len, is_terminated}
 use Rattle.squawk_lexer.specs.Stops.{is_neither, stop_at}
-use Rattle.squawk_lexer.proofs.StopSteps.{run_kept, other_not, stop_is, stop_behind}
-use Rattle.squawk_lexer.proofs.Steps.{ne-eqb, get_some, mapped, drop_some, drop_none, drop_read, drop_past, within_read, within_some, behind_some, behind_none, behind_within, behind_past, behind_on}
+use Rattle.squawk_lexer.proofs.StopSteps.{run_kept, other_not, stop_is, stop_after}
+use Rattle.squawk_lexer.proofs.Steps.{ne_eqb, get_some, mapped, drop_some, drop_none, drop_read, drop_past, within_read, within_some, after_some, after_none, after_within, after_past, after_on}
 
 -- what quoted text from i on is said by, where v is what is left of the text there
 abbrev Same : Bool → ℕ → List ℕ → ℕ → List ℕ → ℕ → Type 0
@@ -61,9 +61,9 @@ quoted_escaped q u i c s other back = by (cases_lt (i + 1) (length u))
         × (is_terminated true q u (position_after u (i + 1)) ≡ is_terminated true q u i)
     by (inl h) =
         let two : i + 1 + 1 ≡ i + 2 = omega arith in
-        rw (behind_within u (i + 1) h, drop_some u i c s, drop_read u (i + 1) h, two)
+        rw (after_within u (i + 1) h, drop_some u i c s, drop_read u (i + 1) h, two)
         (escaped_at q c _ (drop (i + 2) u) i other back)
-    by (inr h) = rw (behind_past u (i + 1) h, drop_some u i c s, drop_past u (i + 1) h, other)
+    by (inr h) = rw (after_past u (i + 1) h, drop_some u i c s, drop_past u (i + 1) h, other)
         (omega arith, refl)
 
 -- at a lone quote
@@ -89,8 +89,8 @@ quoted_at_end e q u i s = rw (drop_none u i s) (omega arith, refl)
 
 plain_not : (e : Bool) (q c : ℕ) → is_neither q (cond e 92 q) c ≡ true → (eqb c q ≡ false)
     × ((e && eqb c 92) ≡ false)
-plain_not true q c t = let n = other_not q 92 c t in (ne-eqb c q n.0, ne-eqb c 92 n.1)
-plain_not false q c t = let n = other_not q q c t in (ne-eqb c q n.0, refl)
+plain_not true q c t = let n = other_not q 92 c t in (ne_eqb c q n.0, ne_eqb c 92 n.1)
+plain_not false q c t = let n = other_not q q c t in (ne_eqb c q n.0, refl)
 
 quoted_passed : (e : Bool) (q : ℕ) (u : List ℕ) (i : ℕ)
     → (quoted_end e q u i ≡ quoted_end e q u (stop_at q (cond e 92 q) u i))
@@ -114,13 +114,13 @@ pub quoted_step_pair : (e : Bool) (q o : ℕ) (u : List ℕ) (i c : ℕ) → o �
     ≡ is_terminated e q u (position_after u (position_after u (stop_at q o u i))))
 quoted_step_pair e q o u i c which s same some next =
     let j = stop_at q o u i in
-    let b = behind_some u j c s in
+    let b = after_some u j c s in
     let next_is : get_or u (j + 1) 0 ≡ q = rw b at next in
     let k : j + 1 < length u = within_read u (j + 1) (omega arith) in
     let two : j + 1 + 1 ≡ j + 2 = omega arith in
     let first = quoted_passed e q u i in
     let p = quoted_pair e q u j some (get_some u j c s ∙ same) next_is in
-    rw (b, behind_within u (j + 1) k, two) (
+    rw (b, after_within u (j + 1) k, two) (
       rw (← which) at (first.0)
           ∙ sym p.0,
       rw (← which) at (first.1) ∙ sym p.1,
@@ -138,8 +138,8 @@ quoted_step_escaped true q o u i c which s other =
     let j = stop_at q o u i in
     let first = quoted_passed true q u i in
     let back : c ≡ 92 = stop_is q o u i c s other ∙ which in
-    let p = quoted_escaped q u j c s (ne-eqb c q other) (eq-eqb c 92 back) in
-    rw (behind_some u j c s) (
+    let p = quoted_escaped q u j c s (ne_eqb c q other) (eq-eqb c 92 back) in
+    rw (after_some u j c s) (
       rw (← which) at (first.0) ∙ sym p.0,
       rw (← which) at (first.1)
           ∙ sym p.1,
@@ -151,9 +151,9 @@ pub quoted_step_stop : (e : Bool) (q o : ℕ) (u : List ℕ) (i c : ℕ) → o �
     → (quoted_end e q u i ≡ position_after u (stop_at q o u i)) × (is_terminated e q u i ≡ true)
 quoted_step_stop e q o u i c which s same some next =
     let j = stop_at q o u i in
-    let b = behind_some u j c s in
+    let b = after_some u j c s in
     let first = quoted_passed e q u i in
-    let p = quoted_stop e q u j some (get_some u j c s ∙ same) (ne-eqb _ q (rw b at next)) in
+    let p = quoted_stop e q u j some (get_some u j c s ∙ same) (ne_eqb _ q (rw b at next)) in
     rw b (rw (← which) at (first.0) ∙ p.0, rw (← which) at (first.1) ∙ p.1)
 
 pub quoted_step_end : (e : Bool) (q o : ℕ) (u : List ℕ) (i : ℕ) → o ≡ cond e 92 q
@@ -162,7 +162,7 @@ pub quoted_step_end : (e : Bool) (q o : ℕ) (u : List ℕ) (i : ℕ) → o ≡ 
 quoted_step_end e q o u i which s =
     let first = quoted_passed e q u i in
     let p = quoted_at_end e q u (stop_at q o u i) s in
-    rw (behind_none u (stop_at q o u i) s) (
+    rw (after_none u (stop_at q o u i) s) (
       rw (← which) at (first.0)
           ∙ p.0,
       rw (← which) at (first.1) ∙ p.1,
@@ -173,6 +173,6 @@ pub ruleset quoted_steps = (
   quoted_step_escaped,
   quoted_step_stop,
   quoted_step_end,
-  stop_behind,
-  behind_on,
+  stop_after,
+  after_on,
 )

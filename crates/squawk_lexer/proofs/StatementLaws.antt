@@ -16,14 +16,14 @@ use Rattle.squawk_lexer.specs.Dollar.{dollar}
 use Rattle.squawk_lexer.specs.PsqlWords.{is_among, query_ending_words}
 use Rattle.squawk_lexer.specs.Psql.{psql, command_word as command_word, command_end}
 use Rattle.squawk_lexer.specs.Symbols.{symbol}
-use Rattle.squawk_lexer.specs.Token.{token_form as row, prefix_of, lexeme_of_form, lexeme_of, lexeme_at, token_at}
+use Rattle.squawk_lexer.specs.Token.{token_form, prefix_of, lexeme_of_form, lexeme_of, lexeme_at, token_at}
 use Rattle.squawk_lexer.specs.Cut.{tokens_from}
 use Rattle.squawk_lexer.specs.LookAhead.{Agrees, EndsWithSemi, StatementsStandAlone}
-use Rattle.squawk_lexer.proofs.TokenLaws.{lexeme_at_some, command_plain, is_semi, IsOther, either_other, symbol_other, fractional_other, number_other, opened_other, dollar_other}
+use Rattle.squawk_lexer.proofs.TokenLaws.{lexeme_at_some, command_plain, is_semi, IsOther, either_other, symbol_other, fractional_other, number_other, prefix_other, dollar_other}
 use Rattle.squawk_lexer.proofs.WithinLaws.{tokens_within}
 use Rattle.squawk_lexer.proofs.CutLaws.{tokens_first, tokens_none}
 use Rattle.squawk_lexer.proofs.Steps.{within_read, and_false}
-use Rattle.squawk_lexer.proofs.StartSteps.{begin_psql}
+use Rattle.squawk_lexer.proofs.FormSteps.{begin_psql}
 use Rattle.squawk_lexer.proofs.AheadTokens.{token_from, lexeme_next}
 
 -- ---- what a token that is a `;` begins with: `;` (59), or a backslash (92) and `;`
@@ -65,23 +65,23 @@ psql_semi u e =
           known = refl;
         })))
 
-begun_semi : (strings : Strings) (s : TokenForm) (u : List ℕ)
-    → row (get_or u 0 0) (get_or u 1 0) ≡ s → (lexeme_of_form strings s u).kind ≡ kinds.Semi
+form_semi : (strings : Strings) (s : TokenForm) (u : List ℕ)
+    → token_form (get_or u 0 0) (get_or u 1 0) ≡ s → (lexeme_of_form strings s u).kind ≡ kinds.Semi
     → BeginsSemi u
-begun_semi strings Whitespace u r e = absurd (cc)
-begun_semi strings LineComment u r e = absurd (cc)
-begun_semi strings BlockComment u r e = absurd (cc)
-begun_semi strings String u r e = absurd (cc)
-begun_semi strings QuotedIdent u r e = absurd (cc)
-begun_semi strings Word u r e =
-    unlike (lexeme_of_form strings Word u) _ (opened_other
+form_semi strings Whitespace u r e = absurd (cc)
+form_semi strings LineComment u r e = absurd (cc)
+form_semi strings BlockComment u r e = absurd (cc)
+form_semi strings String u r e = absurd (cc)
+form_semi strings QuotedIdent u r e = absurd (cc)
+form_semi strings Word u r e =
+    unlike (lexeme_of_form strings Word u) _ (prefix_other
     (prefix_of (get_or u 0 0) (get_or u 1 0) (get_or u 2 0)) u) e
-begun_semi strings Dollar u r e = unlike (dollar u) _ (dollar_other u) e
-begun_semi strings Number u r e = unlike (number u) _ (number_other u) e
-begun_semi strings DotDot u r e = absurd (cc)
-begun_semi strings Fraction u r e = unlike (fractional u 1) _ (fractional_other u 1) e
-begun_semi strings Psql u r e = inr (begin_psql u (sym r), psql_semi u e)
-begun_semi strings Symbol u r e = inl (symbol_semi (get_or u 0 0) e)
+form_semi strings Dollar u r e = unlike (dollar u) _ (dollar_other u) e
+form_semi strings Number u r e = unlike (number u) _ (number_other u) e
+form_semi strings DotDot u r e = absurd (cc)
+form_semi strings Fraction u r e = unlike (fractional u 1) _ (fractional_other u 1) e
+form_semi strings Psql u r e = inr (begin_psql u (sym r), psql_semi u e)
+form_semi strings Symbol u r e = inl (symbol_semi (get_or u 0 0) e)
 
 lexeme_semi : (strings : Strings) (s : Bool) (u : List ℕ)
     → (lexeme_at strings s u).kind ≡ kinds.Semi → BeginsSemi u
@@ -90,17 +90,17 @@ lexeme_semi strings s u e = by (s && eqb (get_or u 0 0) byte_order_mark) e
     by : (b : Bool) → (cond b (lexeme_until kinds.Whitespace 1) (lexeme_of strings u)).kind
         ≡ kinds.Semi → BeginsSemi u
     by true e = absurd (cc)
-    by false e = begun_semi strings (row (get_or u 0 0) (get_or u 1 0)) u refl e
+    by false e = form_semi strings (token_form (get_or u 0 0) (get_or u 1 0)) u refl e
 
 -- and what such a text begins with
 semi_one : (strings : Strings) (s : Bool) (u : List ℕ) → get_or u 0 0 ≡ 59
     → lexeme_at strings s u ≡ lexeme_until kinds.Semi 1
-unfolding row symbol
+unfolding token_form symbol
 semi_one strings s u e = rw (e, and_false s) (ap (λ c. lexeme_until (symbol c) 1) e)
 
 semi_two : (strings : Strings) (s : Bool) (u : List ℕ) → get_or u 0 0 ≡ 92 → get_or u 1 0 ≡ 59
     → lexeme_at strings s u ≡ lexeme_until kinds.Semi 2
-unfolding row
+unfolding token_form
 semi_two strings s u e f = rw (e, f, and_false s) refl
 
 -- so what follows changes nothing

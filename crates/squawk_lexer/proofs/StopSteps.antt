@@ -11,12 +11,12 @@ use Rattle.squawk_lexer.specs.Runs.{run_end}
 use Rattle.squawk_lexer.specs.Stops.{is_neither, stop_at, is_neither_on_line, stop_on_line}
 use Rattle.squawk_lexer.specs.Classes.{is_line_end}
 use Rattle.squawk_lexer.proofs.ByteRuns.{Flat}
-use Rattle.squawk_lexer.proofs.Steps.{drop_some, drop_read, drop_past, behind_some, within_some, get_some}
+use Rattle.squawk_lexer.proofs.Steps.{drop_some, drop_read, drop_past, after_some, within_some, get_some}
 
 pub flat_other : (a b : ℕ) → a < 128 → b < 128 → Flat (is_neither a b)
 flat_other a b p q x y h k = grind (arith, nat_tests)
 
-some_read : (u : List ℕ) (i : ℕ) → i < length u → Some (get_or u i 0) ≡ slice_get u i
+pub some_read : (u : List ℕ) (i : ℕ) → i < length u → Some (get_or u i 0) ≡ slice_get u i
 some_read [] i h = absurd (omega arith)
 some_read (x ∷ u) zero h = refl
 some_read (x ∷ u) (suc i) h = some_read u i (omega arith)
@@ -61,10 +61,10 @@ pub other_not : (a b c : ℕ) → is_neither a b c ≡ true → (c ≡ a → ⊥
 other_not a b c t = (λ e. absurd (grind (arith, nat_tests)), λ e. absurd (grind (arith, nat_tests)))
 
 -- a step behind the stop
-pub stop_behind : (a b : ℕ) (u : List ℕ) (i c : ℕ) → Some c ≡ slice_get u (stop_at a b u i)
+pub stop_after : (a b : ℕ) (u : List ℕ) (i c : ℕ) → Some c ≡ slice_get u (stop_at a b u i)
     → (position_after u (stop_at a b u i) ≡ stop_at a b u i + 1) × (i ≤ stop_at a b u i)
     × (stop_at a b u i < length u)
-stop_behind a b u i c s = (behind_some u _ c s, on, within_some u _ c s)
+stop_after a b u i c s = (after_some u _ c s, on, within_some u _ c s)
   where
     on : i ≤ stop_at a b u i
     on = stop_on a b u i
@@ -75,7 +75,7 @@ pub stop_smaller : (a b : ℕ) (u : List ℕ) (i c : ℕ) (v : List ℕ) (j k : 
     → j ≤ k
     → length v - k < length u - i
 stop_smaller a b u i c v j k s same at on =
-    let (next, first, within) = stop_behind a b u i c s in
+    let (next, first, within) = stop_after a b u i c s in
     rw same (omega arith)
 
 -- a stop is one of the two
@@ -107,13 +107,6 @@ pub other_one : (a b c : ℕ) → a ≡ b → is_neither a b c ≡ not (eqb c a)
 other_one a b c e = rw (← e) (ap not (or_same (eqb c a)))
 
 -- ---- within a line
-
-first_stops : (p : ℕ → Bool) (c : ℕ) (v : List ℕ) → prefix_len p (c ∷ v) ≡ 0 → p c ≡ false
-first_stops p c v e = by (cases_Bool (p c))
-  where
-    by : (p c ≡ true) ⊎ (p c ≡ false) → p c ≡ false
-    by (inl t) = absurd (let e' = rw t at e in omega arith)
-    by (inr f) = f
 
 pub flat_inside : (a b : ℕ) → a < 128 → b < 128 → Flat (is_neither_on_line a b)
 flat_inside a b p q x y h k = grind (arith, nat_tests)
@@ -156,46 +149,6 @@ inside_run a b bs cs n m first part second =
     && not (eqb x 13)) (is_neither_on_line a b) (λ x.
     line_tests (eqb x a) (eqb x b) (eqb x 10) (eqb x 13)) bs)
 
--- a run from where a run ends is empty
-run_again : (p : ℕ → Bool) (u : List ℕ) (i : ℕ) → i ≤ length u
-    → run_end p u (run_end p u i) ≡ run_end p u i
-run_again p u i h = ap (λ n. run_end p u i + n) (by (cases_lt (run_end p u i) (length u)))
-    ∙ add-zero _
-  where
-    by : (run_end p u i < length u) ⊎ (length u ≤ run_end p u i)
-        → prefix_len p (drop (run_end p u i) u) ≡ 0
-    by (inl within) =
-        let left : length (drop i u) ≡ length u - i = length-drop i u in
-        let stops : p (get_or (drop i u) (prefix_len p (drop i u)) 0) ≡ false =
-        prefix_len_stops p (drop i u) 0 (omega arith) in
-        let here : get_or (drop i u) (prefix_len p (drop i u)) 0 ≡ get_or u (run_end p u i) 0 =
-        get_or-drop i u _ 0 in
-        prefix_len-drop_no p u (run_end p u i) 0 within (ap p (sym here) ∙ stops)
-    by (inr past) = rw (drop_past u (run_end p u i) past) refl
-
-pub stop_again : (a b : ℕ) (u : List ℕ) (i : ℕ) → i ≤ length u
-    → stop_on_line a b u (stop_on_line a b u i) ≡ stop_on_line a b u i
-unfolding stop_on_line
-stop_again a b u i h = run_again (is_neither_on_line a b) u i h
-
 pub inside_on : (a b : ℕ) (u : List ℕ) (i : ℕ) → i ≤ stop_on_line a b u i
 unfolding stop_on_line
 inside_on a b u i = omega arith
-
--- where the run stops within a line stands one of the two
-pub inside_is : (a b : ℕ) (u : List ℕ) (i c : ℕ) → stop_on_line a b u i ≡ i → Some c ≡ slice_get u i
-    → is_line_end c ≡ false → (c ≡ a → ⊥) → c ≡ b
-unfolding stop_on_line
-inside_is a b u i c stop s plain other = by stops (cases_eq c b)
-  where
-    stops : is_neither_on_line a b c ≡ false
-    stops =
-        let within : i < length u = within_some u _ c s in
-        let none : prefix_len (is_neither_on_line a b) (drop i u) ≡ 0 = omega arith in
-        let first : drop i u ≡ c ∷ drop (i + 1) u = drop_some u i c s in
-        first_stops (is_neither_on_line a b) c (drop (i + 1) u)
-        (ap (prefix_len (is_neither_on_line a b)) (sym first) ∙ none)
-
-    by : is_neither_on_line a b c ≡ false → (c ≡ b) ⊎ (c ≡ b → ⊥) → c ≡ b
-    by t (inl e) = e
-    by t (inr n) = absurd (grind (arith, nat_tests))

@@ -28,7 +28,7 @@ use Rattle.squawk_lexer.specs.declared.token.TokenKind.TheVariants as kinds
 use Rattle.squawk_lexer.specs.Cut.{is_trivia}
 use Rattle.squawk_lexer.specs.Laws.{is_unknown}
 use Rattle.squawk_lexer.proofs.Steps.{drop_read}
-use Rattle.squawk_lexer.proofs.StartSteps.{start_white}
+use Rattle.squawk_lexer.proofs.FormSteps.{form_white}
 
 pub junk_on : (u : List ℕ) (i : ℕ) → i ≤ junk_end u i
 junk_on u i = by (is_ident_start (get_or u i 0)) refl
@@ -88,14 +88,14 @@ number_on u =
     (le_on 1 (hex_digits_end u 2) _ (omega arith) (junk_on u (hex_digits_end u 2)))
     (le_on 1 (digits_end u 1) _ (omega arith) (decimal_on u (digits_end u 1)))))
 
-pub opened_on : (s : StringPrefix) (u : List ℕ) → 1 ≤ (lexeme_of_prefix s u).end
-opened_on National u = omega arith
-opened_on Bit u = omega arith
-opened_on Byte u = omega arith
-opened_on Escape u = omega arith
-opened_on UnicodeString u = omega arith
-opened_on UnicodeIdent u = omega arith
-opened_on Plain u = omega arith
+pub prefix_on : (s : StringPrefix) (u : List ℕ) → 1 ≤ (lexeme_of_prefix s u).end
+prefix_on National u = omega arith
+prefix_on Bit u = omega arith
+prefix_on Byte u = omega arith
+prefix_on Escape u = omega arith
+prefix_on UnicodeString u = omega arith
+prefix_on UnicodeIdent u = omega arith
+prefix_on Plain u = omega arith
 
 -- of two ends, either is behind n
 later : (b : Bool) (x y n : ℕ) → n ≤ x → n ≤ y → n ≤ cond b x y
@@ -132,23 +132,23 @@ psql_on u =
     (lexeme_until (kinds.PsqlCommand (is_among query_ending_words (command_word u)))
     (command_end u)) 1 (omega arith) (command_on u)))
 
-begun_on : (strings : Strings) (s : TokenForm) (u : List ℕ) → 0 < length u
+form_on : (strings : Strings) (s : TokenForm) (u : List ℕ) → 0 < length u
     → s ≡ token_form (get_or u 0 0) (get_or u 1 0) → 1 ≤ (lexeme_of_form strings s u).end
-begun_on strings Whitespace u h e =
-    rw (drop_read u 0 h, start_white (get_or u 0 0) (get_or u 1 0) e) (omega arith)
-begun_on strings LineComment u h e = omega arith
-begun_on strings BlockComment u h e = omega arith
-begun_on strings String u h e = omega arith
-begun_on strings QuotedIdent u h e = omega arith
-begun_on strings Word u h e = opened_on (prefix_of (get_or u 0 0) (get_or u 1 0) (get_or u 2 0)) u
-begun_on strings Dollar u h e =
+form_on strings Whitespace u h e =
+    rw (drop_read u 0 h, form_white (get_or u 0 0) (get_or u 1 0) e) (omega arith)
+form_on strings LineComment u h e = omega arith
+form_on strings BlockComment u h e = omega arith
+form_on strings String u h e = omega arith
+form_on strings QuotedIdent u h e = omega arith
+form_on strings Word u h e = prefix_on (prefix_of (get_or u 0 0) (get_or u 1 0) (get_or u 2 0)) u
+form_on strings Dollar u h e =
     either_on (is_dollar_quote_start u) (dollar_string u) (parameter u) 1 (omega arith)
     (omega (arith, junk_on u (run_end is_digit u 1)))
-begun_on strings Number u h e = number_on u
-begun_on strings DotDot u h e = omega arith
-begun_on strings Fraction u h e = fractional_on u 1
-begun_on strings Psql u h e = psql_on u
-begun_on strings Symbol u h e = omega arith
+form_on strings Number u h e = number_on u
+form_on strings DotDot u h e = omega arith
+form_on strings Fraction u h e = fractional_on u 1
+form_on strings Psql u h e = psql_on u
+form_on strings Symbol u h e = omega arith
 
 -- a token has a character
 pub lexeme_at_some : (strings : Strings) (s : Bool) (u : List ℕ) → 0 < length u
@@ -158,7 +158,7 @@ lexeme_at_some strings s u h = by (s && eqb (get_or u 0 0) byte_order_mark) refl
     by : (b : Bool) → (s && eqb (get_or u 0 0) byte_order_mark) ≡ b
         → 0 < (lexeme_at strings s u).end
     by true e = rw e (omega arith)
-    by false e = rw e (begun_on strings (token_form (get_or u 0 0) (get_or u 1 0)) u h refl)
+    by false e = rw e (form_on strings (token_form (get_or u 0 0) (get_or u 1 0)) u h refl)
 
 -- and a byte
 pub token_positive : (strings : Strings) (s : Bool) (u : List ℕ) → 0 < length u
@@ -240,14 +240,14 @@ number_other u =
     (either_other _ (based_int Hexadecimal u (hex_digits_end u 2)) (decimal_from u (digits_end u 1))
     (literal_other _ _) (decimal_other u (digits_end u 1))))
 
-pub opened_other : (s : StringPrefix) (u : List ℕ) → IsOther (lexeme_of_prefix s u)
-opened_other National u = literal_other _ _
-opened_other Bit u = literal_other _ _
-opened_other Byte u = literal_other _ _
-opened_other Escape u = literal_other _ _
-opened_other UnicodeString u = literal_other _ _
-opened_other UnicodeIdent u = record { real = refl; other = refl; plain = refl; known = refl }
-opened_other Plain u = record { real = refl; other = refl; plain = refl; known = refl }
+pub prefix_other : (s : StringPrefix) (u : List ℕ) → IsOther (lexeme_of_prefix s u)
+prefix_other National u = literal_other _ _
+prefix_other Bit u = literal_other _ _
+prefix_other Byte u = literal_other _ _
+prefix_other Escape u = literal_other _ _
+prefix_other UnicodeString u = literal_other _ _
+prefix_other UnicodeIdent u = record { real = refl; other = refl; plain = refl; known = refl }
+prefix_other Plain u = record { real = refl; other = refl; plain = refl; known = refl }
 
 pub dollar_other : (u : List ℕ) → IsOther (dollar u)
 dollar_other u =
@@ -263,22 +263,22 @@ psql_real u =
     (lexeme_until (kinds.PsqlCommand (is_among query_ending_words (command_word u)))
     (command_end u)) (record { real = refl }) (record { real = refl })))
 
-begun_real : (strings : Strings) (s : TokenForm) (u : List ℕ) → IsReal (lexeme_of_form strings s u)
-begun_real strings Whitespace u = record { real = refl }
-begun_real strings LineComment u = record { real = refl }
-begun_real strings BlockComment u = record { real = refl }
-begun_real strings String u = record { real = refl }
-begun_real strings QuotedIdent u = record { real = refl }
-begun_real strings Word u = record {
+form_real : (strings : Strings) (s : TokenForm) (u : List ℕ) → IsReal (lexeme_of_form strings s u)
+form_real strings Whitespace u = record { real = refl }
+form_real strings LineComment u = record { real = refl }
+form_real strings BlockComment u = record { real = refl }
+form_real strings String u = record { real = refl }
+form_real strings QuotedIdent u = record { real = refl }
+form_real strings Word u = record {
   real =
-      (opened_other (prefix_of (get_or u 0 0) (get_or u 1 0) (get_or u 2 0)) u).real;
+      (prefix_other (prefix_of (get_or u 0 0) (get_or u 1 0) (get_or u 2 0)) u).real;
 }
-begun_real strings Dollar u = record { real = (dollar_other u).real }
-begun_real strings Number u = record { real = (number_other u).real }
-begun_real strings DotDot u = record { real = refl }
-begun_real strings Fraction u = record { real = (fractional_other u 1).real }
-begun_real strings Psql u = psql_real u
-begun_real strings Symbol u = record { real = symbol_real (get_or u 0 0) }
+form_real strings Dollar u = record { real = (dollar_other u).real }
+form_real strings Number u = record { real = (number_other u).real }
+form_real strings DotDot u = record { real = refl }
+form_real strings Fraction u = record { real = (fractional_other u 1).real }
+form_real strings Psql u = psql_real u
+form_real strings Symbol u = record { real = symbol_real (get_or u 0 0) }
 
 pub token_never_eof : (strings : Strings) (s : Bool) (u : List ℕ)
     → (token_at strings s u).kind ≡ kinds.Eof → ⊥
@@ -286,5 +286,5 @@ token_never_eof strings s u e =
     let is_real : IsReal (lexeme_at strings s u) =
     either_real (s && eqb (get_or u 0 0) byte_order_mark) (lexeme_until kinds.Whitespace 1)
     (lexeme_of strings u) (record { real = refl })
-    (begun_real strings (token_form (get_or u 0 0) (get_or u 1 0)) u) in
+    (form_real strings (token_form (get_or u 0 0) (get_or u 1 0)) u) in
     false≢true (sym is_real.real ∙ ap is_eof e)

@@ -14,8 +14,8 @@ use Rattle.squawk_lexer.specs.Symbols.{symbol}
 use Rattle.squawk_lexer.specs.Token.{token_form, prefix_of, lexeme_of_form, lexeme_of, lexeme_at}
 use Rattle.squawk_lexer.specs.Laws.{is_unknown, UnknownIsControl, UnknownIsOneCharacter}
 use Rattle.squawk_lexer.proofs.ByteClasses.{agree_below, agree_at}
-use Rattle.squawk_lexer.proofs.StartSteps.{row_fits}
-use Rattle.squawk_lexer.proofs.TokenLaws.{either_kind, opened_other, dollar_other, number_other, fractional_other}
+use Rattle.squawk_lexer.proofs.FormSteps.{form_fits}
+use Rattle.squawk_lexer.proofs.TokenLaws.{either_kind, prefix_other, dollar_other, number_other, fractional_other}
 
 -- whether c alone decides a form other than a symbol
 abbrev begins_form : ℕ → Bool
@@ -93,7 +93,7 @@ form_known strings BlockComment u = inl refl
 form_known strings String u = inl refl
 form_known strings QuotedIdent u = inl refl
 form_known strings Word u =
-    inl (opened_other (prefix_of (get_or u 0 0) (get_or u 1 0) (get_or u 2 0)) u).known
+    inl (prefix_other (prefix_of (get_or u 0 0) (get_or u 1 0) (get_or u 2 0)) u).known
 form_known strings Dollar u = inl (dollar_other u).known
 form_known strings Number u = inl (number_other u).known
 form_known strings DotDot u = inl refl
@@ -104,20 +104,20 @@ form_known strings Symbol u = inr refl
 -- no form but a symbol begins with a control character, unless with white space
 form_control : (s : TokenForm) (c d : ℕ) → s ≡ token_form c d
     → (is_plain_control c ≡ false) ⊎ (s ≡ Symbol)
-form_control Whitespace c d e = let t = row_fits Whitespace c d e in inl (grind (arith, nat_tests))
+form_control Whitespace c d e = let t = form_fits Whitespace c d e in inl (grind (arith, nat_tests))
 form_control LineComment c d e =
-    let t = row_fits LineComment c d e in inl (grind (arith, nat_tests))
+    let t = form_fits LineComment c d e in inl (grind (arith, nat_tests))
 form_control BlockComment c d e =
-    let t = row_fits BlockComment c d e in inl (grind (arith, nat_tests))
-form_control String c d e = let t = row_fits String c d e in inl (grind (arith, nat_tests))
+    let t = form_fits BlockComment c d e in inl (grind (arith, nat_tests))
+form_control String c d e = let t = form_fits String c d e in inl (grind (arith, nat_tests))
 form_control QuotedIdent c d e =
-    let t = row_fits QuotedIdent c d e in inl (grind (arith, nat_tests))
-form_control Word c d e = let t = row_fits Word c d e in inl (grind (arith, nat_tests))
-form_control Dollar c d e = let t = row_fits Dollar c d e in inl (grind (arith, nat_tests))
-form_control Number c d e = let t = row_fits Number c d e in inl (grind (arith, nat_tests))
-form_control DotDot c d e = let t = row_fits DotDot c d e in inl (grind (arith, nat_tests))
-form_control Fraction c d e = let t = row_fits Fraction c d e in inl (grind (arith, nat_tests))
-form_control Psql c d e = let t = row_fits Psql c d e in inl (grind (arith, nat_tests))
+    let t = form_fits QuotedIdent c d e in inl (grind (arith, nat_tests))
+form_control Word c d e = let t = form_fits Word c d e in inl (grind (arith, nat_tests))
+form_control Dollar c d e = let t = form_fits Dollar c d e in inl (grind (arith, nat_tests))
+form_control Number c d e = let t = form_fits Number c d e in inl (grind (arith, nat_tests))
+form_control DotDot c d e = let t = form_fits DotDot c d e in inl (grind (arith, nat_tests))
+form_control Fraction c d e = let t = form_fits Fraction c d e in inl (grind (arith, nat_tests))
+form_control Psql c d e = let t = form_fits Psql c d e in inl (grind (arith, nat_tests))
 form_control Symbol c d e = inr refl
 
 -- ---- every token

@@ -22,11 +22,11 @@ use Rattle.squawk_lexer.specs.Dollar.{find_end, tag_end, delimiter, delimiter_en
 use Rattle.squawk_lexer.specs.PsqlWords.{is_among, query_ending_words, pipe_words, option_words, takes_line}
 use Rattle.squawk_lexer.specs.PsqlParts.{arguments_len, arguments_end, part_rest, mark_after, is_parenthesis, ends_arguments, marked_len, marked_len_at}
 use Rattle.squawk_lexer.specs.Psql.{psql, command_word, word_end, options_end, output_start, output_end, command_end}
-use Rattle.squawk_lexer.specs.Token.{token_form as row, prefix_of, lexeme_of_form, lexeme_of_prefix, lexeme_of, lexeme_at}
+use Rattle.squawk_lexer.specs.Token.{token_form, prefix_of, lexeme_of_form, lexeme_of_prefix, lexeme_of, lexeme_at}
 use Rattle.squawk_lexer.specs.Laws.{TokensWithin, LengthsWithin}
 use Rattle.squawk_lexer.proofs.Steps.{within_read, letter_within}
 use Rattle.squawk_lexer.proofs.WordSteps.{opens_national, opens_bit, opens_byte, opens_escape, opens_string, opens_ident}
-use Rattle.squawk_lexer.proofs.StartSteps.{begin_line, begin_block, begin_dots}
+use Rattle.squawk_lexer.proofs.FormSteps.{begin_line, begin_block, begin_dots}
 use Rattle.squawk_lexer.proofs.LawLemmas.{runs_are_longest}
 
 -- ---- of two ends, either is within n
@@ -51,8 +51,8 @@ on : (o : Option ℕ) (k len total : ℕ) → total ≡ len + k → unwrap_or o 
 on None k len total e h = omega arith
 on (Some m) k len total e h = omega arith
 
-behind_in : (u : List ℕ) (i n : ℕ) → i ≤ length u → position_after u i ≡ n → n ≤ length u
-behind_in u i n h e = let le : position_after u i ≤ length u = grind (arith, nat_tests) in
+after_in : (u : List ℕ) (i n : ℕ) → i ≤ length u → position_after u i ≡ n → n ≤ length u
+after_in u i n h e = let le : position_after u i ≤ length u = grind (arith, nat_tests) in
     omega arith
 
 -- a character that is read there is there
@@ -199,24 +199,24 @@ dollar_in u h =
 -- both characters that begin a token are there
 pair_in : (u : List ℕ) → 1 ≤ length u → (position_after u 0 ≡ 1)
     × (position_after u (position_after u 0) ≡ 2) → 2 ≤ length u
-pair_in u h (one, two) = behind_in u (position_after u 0) 2 (behind_in u 0 _ (omega arith) refl) two
+pair_in u h (one, two) = after_in u (position_after u 0) 2 (after_in u 0 _ (omega arith) refl) two
 
-opened_in : (s : StringPrefix) (u : List ℕ) → s
+prefix_in : (s : StringPrefix) (u : List ℕ) → s
     ≡ prefix_of (get_or u 0 0) (get_or u 1 0) (get_or u 2 0) → 1 ≤ length u
     → (lexeme_of_prefix s u).end ≤ length u
-opened_in National u e h = quoted_in false apostrophe u 2 (pair_in u h (opens_national u 0 refl e))
-opened_in Bit u e h = quoted_in false apostrophe u 2 (pair_in u h (opens_bit u 0 refl e))
-opened_in Byte u e h = quoted_in false apostrophe u 2 (pair_in u h (opens_byte u 0 refl e))
-opened_in Escape u e h = quoted_in true apostrophe u 2 (pair_in u h (opens_escape u 0 refl e))
-opened_in UnicodeString u e h =
+prefix_in National u e h = quoted_in false apostrophe u 2 (pair_in u h (opens_national u 0 refl e))
+prefix_in Bit u e h = quoted_in false apostrophe u 2 (pair_in u h (opens_bit u 0 refl e))
+prefix_in Byte u e h = quoted_in false apostrophe u 2 (pair_in u h (opens_byte u 0 refl e))
+prefix_in Escape u e h = quoted_in true apostrophe u 2 (pair_in u h (opens_escape u 0 refl e))
+prefix_in UnicodeString u e h =
     let (one, two, three) = opens_string u 0 refl e in
-    quoted_in false apostrophe u 3 (behind_in u (position_after u (position_after u 0)) 3
-    (behind_in u (position_after u 0) _ (behind_in u 0 _ (omega arith) refl) refl) three)
-opened_in UnicodeIdent u e h =
+    quoted_in false apostrophe u 3 (after_in u (position_after u (position_after u 0)) 3
+    (after_in u (position_after u 0) _ (after_in u 0 _ (omega arith) refl) refl) three)
+prefix_in UnicodeIdent u e h =
     let (one, two, three) = opens_ident u 0 refl e in
-    quoted_in false quotation_mark u 3 (behind_in u (position_after u (position_after u 0)) 3
-    (behind_in u (position_after u 0) _ (behind_in u 0 _ (omega arith) refl) refl) three)
-opened_in Plain u e h = run_in is_ident_cont u 1 h
+    quoted_in false quotation_mark u 3 (after_in u (position_after u (position_after u 0)) 3
+    (after_in u (position_after u 0) _ (after_in u 0 _ (omega arith) refl) refl) three)
+prefix_in Plain u e h = run_in is_ident_cont u 1 h
 
 -- ---- psql commands
 
@@ -285,40 +285,40 @@ psql_in u h =
 
 -- ---- every token
 
-begun_in : (strings : Strings) (s : TokenForm) (u : List ℕ) → s ≡ row (get_or u 0 0) (get_or u 1 0)
+form_in : (strings : Strings) (s : TokenForm) (u : List ℕ) → s ≡ token_form (get_or u 0 0) (get_or u 1 0)
     → 1 ≤ length u → (lexeme_of_form strings s u).end ≤ length u
-begun_in strings Whitespace u e h = run_in is_whitespace u 0 (omega arith)
-begun_in strings LineComment u e h =
+form_in strings Whitespace u e h = run_in is_whitespace u 0 (omega arith)
+form_in strings LineComment u e h =
     run_in is_not_line_end u 2 (pair_in u h (begin_line u 0 refl h e))
-begun_in strings BlockComment u e h =
+form_in strings BlockComment u e h =
     end_in u 2 (comment_len 0 (drop 2 u)) (pair_in u h (begin_block u 0 refl h e))
     (comment_in 0 (drop 2 u))
-begun_in strings String u e h = quoted_in _ apostrophe u 1 h
-begun_in strings QuotedIdent u e h = quoted_in false quotation_mark u 1 h
-begun_in strings Word u e h =
-    opened_in (prefix_of (get_or u 0 0) (get_or u 1 0) (get_or u 2 0)) u refl h
-begun_in strings Dollar u e h = dollar_in u h
-begun_in strings Number u e h = number_in u h
-begun_in strings DotDot u e h = pair_in u h (begin_dots u 0 refl h e)
-begun_in strings Fraction u e h = fractional_in u 1 h
-begun_in strings Psql u e h = psql_in u h
-begun_in strings Symbol u e h = h
+form_in strings String u e h = quoted_in _ apostrophe u 1 h
+form_in strings QuotedIdent u e h = quoted_in false quotation_mark u 1 h
+form_in strings Word u e h =
+    prefix_in (prefix_of (get_or u 0 0) (get_or u 1 0) (get_or u 2 0)) u refl h
+form_in strings Dollar u e h = dollar_in u h
+form_in strings Number u e h = number_in u h
+form_in strings DotDot u e h = pair_in u h (begin_dots u 0 refl h e)
+form_in strings Fraction u e h = fractional_in u 1 h
+form_in strings Psql u e h = psql_in u h
+form_in strings Symbol u e h = h
 
 pub tokens_within : TokensWithin
 tokens_within strings at_start u h =
     either (at_start && eqb (get_or u 0 0) byte_order_mark) (lexeme_until kinds.Whitespace 1)
     (lexeme_of strings u) _ (λ t. h)
-    (begun_in strings (row (get_or u 0 0) (get_or u 1 0)) u refl h)
+    (form_in strings (token_form (get_or u 0 0) (get_or u 1 0)) u refl h)
 
-pub places_within : LengthsWithin
-places_within strings at_start zero u = omega arith
-places_within strings at_start (suc n) [] = omega arith
-places_within strings at_start (suc n) (c ∷ cs) =
+pub lengths_within : LengthsWithin
+lengths_within strings at_start zero u = omega arith
+lengths_within strings at_start (suc n) [] = omega arith
+lengths_within strings at_start (suc n) (c ∷ cs) =
     let u = c ∷ cs in
     let e = (lexeme_at strings at_start u).end in
     omega (
       arith,
-      places_within strings false n (drop e u),
+      lengths_within strings false n (drop e u),
       length-drop e u,
       tokens_within strings
           at_start u (omega arith),

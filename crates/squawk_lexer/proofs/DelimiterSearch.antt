@@ -15,7 +15,7 @@ use Rattle.memchr.specs.Find.{OccursAt, FindsNeedle}
 use Rattle.squawk_lexer.specs.Text.{utf8_len}
 use Rattle.squawk_lexer.specs.Dollar.{find_end}
 use Rattle.squawk_lexer.specs.Laws.{IsFirstOccurrence}
-use Rattle.squawk_lexer.proofs.Chars.{length-encodes, length-bytes}
+use Rattle.squawk_lexer.proofs.CursorRest.{length_encodes, length_bytes}
 use Rattle.squawk_lexer.specs.CursorModel.{IsRest, chars_before}
 use Rattle.squawk_lexer.proofs.ByteRuns.{some_bytes, IsSkip, skip}
 
@@ -44,7 +44,7 @@ occurs d v k e =
     let front = encode_utf8_all (take k v) in
     let back = encode_utf8_all d ++ encode_utf8_all (drop (length d) (drop k v)) in
     let seam : encode_utf8_all v ≡ front ++ back = parted d v k e in
-    let n : length front ≡ utf8_len (take k v) = length-encodes (take k v) in
+    let n : length front ≡ utf8_len (take k v) = length_encodes (take k v) in
     let all : length (encode_utf8_all v) ≡ length front + length back = ap length seam
     ∙ length-append front back in
     let rest : length back ≡ length (encode_utf8_all d)
@@ -60,10 +60,10 @@ occurs d v k e =
 
 -- ---- from bytes to characters
 
-front_chars : (d v bs : List ℕ) → encode_utf8_all v ≡ encode_utf8_all d ++ bs
+prefix_chars : (d v bs : List ℕ) → encode_utf8_all v ≡ encode_utf8_all d ++ bs
     → starts_with nat_eq v d ≡ true
-front_chars [] v bs e = refl
-front_chars (c ∷ d) [] bs e = absurd (none)
+prefix_chars [] v bs e = refl
+prefix_chars (c ∷ d) [] bs e = absurd (none)
   where
     none : ⊥
     none =
@@ -74,10 +74,10 @@ front_chars (c ∷ d) [] bs e = absurd (none)
         ≡ length (encode_utf8 c) + length (encode_utf8_all d) =
         length-append (encode_utf8 c) (encode_utf8_all d) in
         omega arith
-front_chars (c ∷ d) (x ∷ v) bs e =
+prefix_chars (c ∷ d) (x ∷ v) bs e =
     let both = encode_same x c (encode_utf8_all v) (encode_utf8_all d ++ bs) (e
     ∙ append_assoc (encode_utf8 c) (encode_utf8_all d) bs) in
-    rw (eq-eqb c x (sym both.0)) (front_chars d v bs both.1)
+    rw (eq-eqb c x (sym both.0)) (prefix_chars d v bs both.1)
 
 -- d stands behind the first k characters of v, which take b bytes
 pub record IsThere (d v : List ℕ) (b k : ℕ) : Type 0 where
@@ -113,7 +113,7 @@ there t (c ∷ cs) b o = by (cases_eq b 0) (cases_lt b (length (encode_utf8 c)))
         (encode_utf8_all (c ∷ cs)) =
         at_from_reads 0 (encode_utf8_all (c ∷ cs)) (encode_utf8_all (36 ∷ t)) 0 (rw e at o.fits)
         (rw e at o.reads) in
-        (0, record { is = e; within = omega arith; stands = front_chars (36 ∷ t) (c ∷ cs) _ front })
+        (0, record { is = e; within = omega arith; stands = prefix_chars (36 ∷ t) (c ∷ cs) _ front })
     by (inr n) (inl inside) more = absurd (
         let some = some_needle t in
         let read = o.reads 0 some in
@@ -196,7 +196,7 @@ bytes_within v k =
     ap length (ap encode_utf8_all (sym (take-append-drop k v))
     ∙ encodes-append (take k v) (drop k v))
     ∙ length-append (encode_utf8_all (take k v)) (encode_utf8_all (drop k v)) in
-    omega (arith, all, length-encodes (take k v))
+    omega (arith, all, length_encodes (take k v))
 
 not_there : (d v : List ℕ) (k : ℕ)
     → (OccursAt (encode_utf8_all v) (encode_utf8_all d) (utf8_len (take k v)) → ⊥)
@@ -240,14 +240,14 @@ needle_some t v b (first, here) =
     ∙ take_at (take k v ++ d) rest (k + length d) front in
     let sum : utf8_len (take (k + length d) v) ≡ utf8_len (take k v) + utf8_len d =
     ap utf8_len taken ∙ sum_by-append len_utf8 (take k v) d in
-    (k + length d, found, omega arith, omega (arith, sum, r.is, length-encodes d))
+    (k + length d, found, omega arith, omega (arith, sum, r.is, length_encodes d))
 
 -- ---- the same with the premises that the code has
 
 -- behind the place b of the needle, n characters of the text are passed
 pub record IsThrough (token rest needle : List ℕ) (b n : ℕ) : Type 0 where
   pub found : find_end (chars needle) (drop (chars_before token rest) (chars token)) ≡ Some n
-  pub behind : IsSkip token rest (b + length needle) (chars_before token rest + n)
+  pub after : IsSkip token rest (b + length needle) (chars_before token rest + n)
 
 needle_is : (needle : List ℕ) → IsUtf8 needle → get_or (chars needle) 0 0 ≡ 36 → (t : List ℕ)
     × (chars needle ≡ 36 ∷ t) × (needle ≡ encode_utf8_all (36 ∷ t))
@@ -274,7 +274,7 @@ through_some token rest needle hay pin b r utf8 first same alike finds =
     let len : utf8_len (take n (chars rest)) ≡ b + length needle = behind
     ∙ ap (λ x. b + length x) (sym bytes_are) in
     let s = skip token rest n r within in
-    (n, record { found = rw (is, ← r.is) found; behind = rw (← len) s })
+    (n, record { found = rw (is, ← r.is) found; after = rw (← len) s })
 
 pub through_none : (token rest needle hay pin : List ℕ) → IsRest token rest → IsUtf8 needle
     → get_or (chars needle) 0 0 ≡ 36 → hay ≡ rest → pin ≡ needle
@@ -296,7 +296,7 @@ pub skip_all : (token rest : List ℕ) → IsRest token rest
 skip_all token rest r =
     let utf8 = IsUtf8-from_is_utf8 rest r.rest_utf8 in
     let all : utf8_len (take (length (chars rest)) (chars rest)) ≡ length rest =
-    ap utf8_len (take_all (chars rest)) ∙ sym (length-bytes rest r.rest_utf8) in
+    ap utf8_len (take_all (chars rest)) ∙ sym (length_bytes rest r.rest_utf8) in
     let s = skip token rest (length (chars rest)) r (omega arith) in
     rw (← all, ← r.is) s
   where

@@ -9,7 +9,7 @@ use Rattle.std.specs.Str.{chars, encode_utf8_all, IsCharBoundary}
 use Rattle.std.specs.Char.{encode_utf8}
 use Rattle.std.specs.declared.str.Chars.{Chars}
 use Rattle.squawk_lexer.specs.Bytes.{first_byte}
-use Rattle.squawk_lexer.proofs.Chars.{none_left}
+use Rattle.squawk_lexer.proofs.CursorRest.{none_left}
 use Rattle.squawk_lexer.proofs.ByteRuns.{some_bytes}
 use Rattle.squawk_lexer.proofs.ByteReads.{lead_first}
 

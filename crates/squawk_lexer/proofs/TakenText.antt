@@ -44,12 +44,12 @@ taken token rest r =
     let cut_lengths : length (chars token) ≡ length (chars front) + length (chars rest) =
     ap length cut ∙ length-append (chars front) (chars rest) in
     let chars_at : length (chars front) ≡ k = omega arith in
-    let front_chars : take k (chars token) ≡ chars front = ap (take k) cut
+    let prefix_chars : take k (chars token) ≡ chars front = ap (take k) cut
     ∙ take_at (chars front) (chars rest) k chars_at in
     let from_0 : before token rest - 0 ≡ before token rest = omega arith in
     record {
       within = omega arith;
       boundary = boundary;
-      is = rw from_0 (ap chars front_is ∙ sym front_chars);
+      is = rw from_0 (ap chars front_is ∙ sym prefix_chars);
       utf8 = rw from_0 (is_utf8-from_IsUtf8 _ utf8);
     }
