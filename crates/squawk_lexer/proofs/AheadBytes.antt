@@ -1,4 +1,4 @@
--- Look-ahead, restart and the law of statements, of texts in bytes.
+-- Look-ahead, restart and the law of statements, for texts as bytes.
 use Rattle.std.proofs.Common.{◌≡◌, ℕ, zero, suc, ◌+◌, ◌≤◌, Bool, true, false, List, [], ◌∷◌, ◌++◌, length, take, drop, length-append, append_assoc, refl, sym, ap, ◌∙◌, arith, IsUtf8}
 use Rattle.std.proofs.lemmas.List.{take-append-le, take-append-drop}
 use Rattle.std.proofs.lemmas.List.Sums.{sum_by-cons}
@@ -23,7 +23,7 @@ use Rattle.squawk_lexer.proofs.StatementLaws.{statements_stand_alone}
 
 -- ---- look-ahead
 
--- as many bytes are as many characters
+-- Prefixes of a text with the same number of bytes have the same number of characters.
 same_count : (u : List ℕ) (m n : ℕ) → m ≤ length u → n ≤ length u
     → utf8_len (take m u) ≡ utf8_len (take n u) → m ≡ n
 same_count [] m n h k e = omega arith
@@ -36,8 +36,8 @@ same_count (c ∷ cs) (suc m) (suc n) h k e =
     ap suc (same_count cs m n (omega arith) (omega arith)
     (omega (arith, e, sum_by-cons len_utf8 c (take m cs), sum_by-cons len_utf8 c (take n cs))))
 
--- where the first token has the bytes of `front`, and two characters follow, any other text with
--- these has it too
+-- Where the first token has the bytes of `front` and the two characters of `two` follow, any other
+-- text with these has it too.
 of_parts : (strings : Strings) (at_start : Bool) (front two rest other : List ℕ)
     → (token_at strings at_start (chars (front ++ (two ++ rest)))).len ≡ length front
     → IsUtf8 front → IsUtf8 two → 2 ≤ length (chars two)
@@ -89,6 +89,7 @@ of_parts strings at_start front two rest other len utf8 utf8_two some =
               ∙ sym (ap (take n) (split rest) ∙ take-append-le n known (chars rest) less);
         }
 
+-- The first token is decided by its bytes and the two characters after it.
 pub texts_look_ahead : TextsLookAhead
 texts_look_ahead strings at_start text front two rest other e len utf8 utf8_two some =
     let same = ap (λ w. token_at strings at_start (chars w)) e in
@@ -97,6 +98,7 @@ texts_look_ahead strings at_start text front two rest other e len utf8 utf8_two 
 
 -- ---- progress
 
+-- The first token has at least one byte and ends at a character boundary.
 pub texts_progress : TextsProgress
 texts_progress strings at_start text utf8 some = (
   token_positive strings at_start (chars text) (some_chars text utf8 some),
@@ -105,6 +107,7 @@ texts_progress strings at_start text utf8 some = (
 
 -- ---- restart
 
+-- The tokens of a text are the first one and those of the rest.
 pub texts_restart : TextsRestart
 texts_restart strings at_start text utf8 some =
     let n = (lexeme_at strings at_start (chars text)).end in
@@ -112,6 +115,7 @@ texts_restart strings at_start text utf8 some =
     ∙ ap (λ w. token_at strings at_start (chars text)
     ∷ tokens_from strings 0 false w) (sym (cut_after text n utf8).rest)
 
+-- The same after n tokens, by the offset at which they end.
 pub restarts_at : (strings : Strings) (text : List ℕ) (at : ℕ) → IsUtf8 text
     → RestartsAt strings text at
 restarts_at strings text at utf8 n some e =
@@ -124,6 +128,7 @@ restarts_at strings text at utf8 n some e =
 
 -- ---- statements
 
+-- A text may be split after a semicolon.
 pub splits_at : (strings : Strings) (text : List ℕ) (at : ℕ) → IsUtf8 text → IsCharBoundary text at
     → SplitsAt strings text at
 splits_at strings text at utf8 boundary e =

@@ -1,5 +1,4 @@
--- Psql commands are decided by the characters up to their end, and by what the tests say of the
--- next.
+-- Psql commands are decided by the characters up to their end, and by tests of the next.
 use Rattle.std.proofs.Common.{◌≡◌, ℕ, zero, suc, ◌+◌, ◌-◌, ◌≤◌, Bool, true, false, List, [], ◌∷◌, ◌++◌, length, get_or, take, drop, Option, None, Some, option_map, unwrap_or, refl, sym, ap, ◌∙◌, ◌&&◌, not, eqb, cond, arith}
 use Rattle.std.proofs.lemmas.List.{take-append-le}
 use Rattle.std.proofs.lemmas.Bool.Decides.{nat_tests}
@@ -19,8 +18,9 @@ use Rattle.squawk_lexer.proofs.Ahead.{Tests, PairTests, Follows, Looks, branch, 
 use Rattle.squawk_lexer.proofs.AheadRuns.{prefix_looks, run_same}
 use Rattle.squawk_lexer.proofs.AheadClosed.{far, later, shorter, either_far}
 
--- ---- the tests that commands do on the character after them
+-- ---- the tests of psql commands
 
+-- The tests of the character after a command.
 pub record AsksPsql (told : Tests) : Type 0 where
   pub line_end : told is_line_end
   pub not_line_end : told is_not_line_end
@@ -31,20 +31,23 @@ pub record AsksPsql (told : Tests) : Type 0 where
 
 -- ---- quotes
 
+-- A quote is no line end.
 quote_plain : (q : ℕ) → is_quote q ≡ true → is_line_end q ≡ false
 quote_plain q t = grind (arith, nat_tests)
 
--- no quote closes at the end of its line
+-- A line end closes no quote.
 line_closes : (q c : ℕ) (cs : List ℕ) → is_line_end q ≡ false → is_line_end c ≡ true
     → close_len q (c ∷ cs) ≡ None
 line_closes q c [] plain t = let other : eqb c q ≡ false = grind (arith, nat_tests) in rw other refl
 line_closes q c (d ∷ cs) plain t = rw t refl
 
+-- A length found later is at least 1.
 far_one : (o : Option ℕ) (j total : ℕ) → 1 ≤ j → 1 ≤ total
     → 1 ≤ unwrap_or (option_map (λ m. m + j) o) total
 far_one None j total p q = q
 far_one (Some m) j total p q = omega arith
 
+-- A quote reads a character that is no line end.
 quote_far : (q c : ℕ) (cs : List ℕ) → is_line_end c ≡ false → 1 ≤ quote_len q (c ∷ cs)
 quote_far q c [] t = rw t (either_far (eqb c q) (Some 1) None 1 1 (omega arith) (omega arith))
 quote_far q c (d ∷ cs) t =
@@ -55,6 +58,7 @@ quote_far q c (d ∷ cs) t =
     (far_one (close_len q cs) 2 total (omega arith) (omega arith))
     (far_one (close_len q (d ∷ cs)) 1 total (omega arith) (omega arith))))
 
+-- The rest of a line, from a single character and from an escape pair.
 one_on : (x : ℕ) (v : List ℕ) → is_line_end x ≡ false
     → prefix_len is_not_line_end (x ∷ v) ≡ prefix_len is_not_line_end v + 1
 one_on x v t = rw t (omega arith)
@@ -63,6 +67,7 @@ two_on : (q x y : ℕ) (v : List ℕ) → is_line_end x ≡ false → is_escape_
     → prefix_len is_not_line_end (x ∷ y ∷ v) ≡ prefix_len is_not_line_end v + 2
 two_on q x y v t p = rw (t, pair_plain q x y p) (omega arith)
 
+-- Where a quote is closed is decided by its characters and by tests of the next.
 close_looks : {told : Tests} {pairs : PairTests}
     → AsksPsql told → (q : ℕ) → is_line_end q ≡ false → Looks told pairs (close_len q) (quote_len q)
 close_looks w q plain [] c d r s f h = by (is_line_end c) refl
@@ -99,6 +104,7 @@ close_looks w q plain (x ∷ y ∷ xs) c d r s f h =
     (prefix_len is_not_line_end (y ∷ xs ++ c ∷ r)) total (length (y ∷ xs))
     (one_on x (y ∷ xs ++ c ∷ r) t) (close_looks w q plain (y ∷ xs) c d r s f) (omega arith)))) h
 
+-- So is the length of a quote,
 quote_looks : {told : Tests} {pairs : PairTests}
     → AsksPsql told → (q : ℕ) → is_line_end q ≡ false → Looks told pairs (quote_len q) (quote_len q)
 quote_looks w q plain xs c d r s f h =
@@ -113,17 +119,20 @@ quote_looks w q plain xs c d r s f h =
 
 -- ---- parts and arguments
 
+-- The length of a part is decided so.
 part_looks : {told : Tests} {pairs : PairTests} → AsksPsql told
     → (x : ℕ) → Looks told pairs (part_rest x) (part_rest x)
 part_looks w x xs c d r s f h =
     branch (λ n. n) (is_quote x) (quote_len x (xs ++ c ∷ r)) 0 (quote_len x (xs ++ d ∷ s)) 0
     (length xs) (λ t k. quote_looks w x (quote_plain x t) xs c d r s f k) (λ t k. refl) h
 
+-- The arguments reach past the part that they begin inside.
 args_far : (inside : ℕ) (v : List ℕ) → inside ≤ length v → inside ≤ arguments_len inside v
 args_far zero v h = omega arith
 args_far (suc i) [] h = absurd (omega arith)
 args_far (suc i) (c ∷ cs) h = omega (arith, args_far i cs (omega arith))
 
+-- The length of the arguments is decided so.
 args_looks : {told : Tests} {pairs : PairTests} → AsksPsql told
     → (inside : ℕ) → Looks told pairs (arguments_len inside) (arguments_len inside)
 args_looks w (suc i) [] c d r s f h = absurd (omega arith)
@@ -146,14 +155,15 @@ args_looks w zero (x ∷ xs) c d r s f h =
 args_looks w (suc i) (x ∷ xs) c d r s f h =
     ap (λ n. 1 + n) (args_looks w i xs c d r s f (omega arith))
 
-pub args_same : {told : Tests} {pairs : PairTests}
-    → AsksPsql told → (k : ℕ) (u v : List ℕ) (i : ℕ) → Alike told pairs k u v
-    → arguments_end u i ≤ k → arguments_end v i ≡ arguments_end u i
+-- The end of the arguments is the same in both texts.
+pub args_same : {told : Tests} {pairs : PairTests} → AsksPsql told → (k : ℕ) (u v : List ℕ) (i : ℕ)
+    → Alike told pairs k u v → arguments_end u i ≤ k → arguments_end v i ≡ arguments_end u i
 args_same w k u v i a h =
     ap (λ n. i + n) (seen (arguments_len 0) (arguments_len 0) (args_looks w 0) k u v i a h)
 
 -- ---- marks
 
+-- The last character of a quoted text is decided by the characters up to its closing quote.
 inside_same : (xs r s : List ℕ) (o : Option ℕ) (len : ℕ) → unwrap_or o len ≤ length xs
     → last_inside (xs ++ s) o ≡ last_inside (xs ++ r) o
 inside_same xs r s None len h = refl
@@ -161,6 +171,7 @@ inside_same xs r s (Some n) len h =
     ap (last_or None) (take-append-le (n - 1) xs s (omega arith)
     ∙ sym (take-append-le (n - 1) xs r (omega arith)))
 
+-- So is the mark after a part.
 mark_same : {told : Tests} {pairs : PairTests} → AsksPsql told
     → (mark : Option ℕ) (x : ℕ) (xs : List ℕ) (c d : ℕ) (r s : List ℕ) → Follows told pairs c d r s
     → part_rest x (xs ++ c ∷ r) ≤ length xs
@@ -182,7 +193,8 @@ mark_same w mark x xs c d r s f h = by (eqb x 39) refl
 
 -- ---- the first argument whose mark is `)`
 
--- how far the marks are read: to the end of that argument, or of all arguments
+-- The first marked argument, or all arguments where none is marked, reach past the part that they
+-- begin inside.
 marked_far : (inside : ℕ) (mark : Option ℕ) (v : List ℕ) → inside ≤ length v
     → inside ≤ unwrap_or (marked_len inside mark v) (arguments_len inside v)
 marked_far zero mark v h = omega arith
@@ -194,6 +206,7 @@ marked_far (suc i) mark (c ∷ cs) h = by (marked_len i mark cs) (marked_far i m
     by None h = omega arith
     by (Some m) h = omega arith
 
+-- The length of the arguments, from a part and from a blank.
 part_on : (x : ℕ) (v : List ℕ) → ends_arguments x ≡ false
     → arguments_len 0 (x ∷ v) ≡ arguments_len (part_rest x v) v + 1
 part_on x v t = rw t (omega arith)
@@ -202,6 +215,8 @@ blank_on : (x : ℕ) (v : List ℕ) → ends_arguments x ≡ false → is_blank 
     → arguments_len 0 (x ∷ v) ≡ arguments_len 0 v + 1
 blank_on x v t b = rw (t, blank_is_plain x b) (omega arith)
 
+-- The end of the first marked argument is decided by the characters up to it, or up to the end of
+-- the arguments where none is marked.
 marked_looks : {told : Tests} {pairs : PairTests}
     → AsksPsql told → (inside : ℕ) (mark : Option ℕ)
     → Looks told pairs (marked_len inside mark) (λ v.
@@ -263,16 +278,17 @@ marked_looks w (suc i) mark (x ∷ xs) c d r s f h =
     (arguments_len i (xs ++ c ∷ r)) (1 + arguments_len i (xs ++ c ∷ r)) (length xs)
     (omega arith) (marked_looks w i mark xs c d r s f) (omega arith)
 
--- ---- the output of pipe words
+-- ---- the output of commands with a pipe
 
+-- The options end at or after the argument that ends them.
 options_far : (u : List ℕ) (i : ℕ) (o : Option ℕ)
     → i + unwrap_or o (arguments_len 0 (drop i u)) ≤ options_end u i o
 options_far u i None = omega arith
 options_far u i (Some n) = omega arith
 
-options_same : {told : Tests} {pairs : PairTests}
-    → AsksPsql told → (k : ℕ) (u v : List ℕ) (i : ℕ) → Alike told pairs k u v
-    → options_end u i (marked_len_at u i) ≤ k
+-- The end of the options, and the start and the end of the output, are the same in both texts.
+options_same : {told : Tests} {pairs : PairTests} → AsksPsql told → (k : ℕ) (u v : List ℕ) (i : ℕ)
+    → Alike told pairs k u v → options_end u i (marked_len_at u i) ≤ k
     → options_end v i (marked_len_at v i) ≡ options_end u i (marked_len_at u i)
 options_same z k u v i a h =
     let e : marked_len_at v i ≡ marked_len_at u i =
@@ -306,16 +322,17 @@ output_end_same z k u v p a h =
 
 -- ---- commands
 
--- where the output begins of a pipe word w that ends at i
+-- The index at which the output begins, of a command whose word is w and ends at index i.
 abbrev output_at : List ℕ → ℕ → List ℕ → ℕ
 output_at w i u = output_start (is_among option_words w) u (run_end is_blank u i)
 
--- where the command of the word w ends that ends at i
+-- The index at which such a command ends.
 abbrev end_at : List ℕ → ℕ → List ℕ → ℕ
 end_at w i u =
     cond (takes_line w) (line_end u i) (cond (is_among pipe_words w)
     (output_end u (output_at w i u)) (arguments_end u i))
 
+-- A command ends at or after its word.
 end_far : (w : List ℕ) (i : ℕ) (u : List ℕ) → i ≤ end_at w i u
 end_far w i u = by (takes_line w) (is_among pipe_words w)
   where
@@ -331,6 +348,7 @@ end_far w i u = by (takes_line w) (is_among pipe_words w)
         )
     by false false = omega arith
 
+-- The end of the output, and that of the command, are the same in both texts.
 output_same : {told : Tests} {pairs : PairTests}
     → AsksPsql told → (w : List ℕ) (k : ℕ) (u v : List ℕ) (i : ℕ) → Alike told pairs k u v
     → output_end u (output_at w i u) ≤ k → output_end v (output_at w i v)
@@ -355,9 +373,9 @@ end_same z w k u v i a h =
     (λ t. branch (λ n. n) (is_among pipe_words w) _ (arguments_end u i) _ (arguments_end v i) k
     (λ s e. output_same z w k u v i a e) (λ s e. args_same z k u v i a e)) h
 
-pub psql_same : {told : Tests} {pairs : PairTests}
-    → AsksPsql told → (k : ℕ) (u v : List ℕ) → Alike told pairs k u v → (psql u).end ≤ k
-    → psql v ≡ psql u
+-- A psql command is the same in both texts.
+pub psql_same : {told : Tests} {pairs : PairTests} → AsksPsql told → (k : ℕ) (u v : List ℕ)
+    → Alike told pairs k u v → (psql u).end ≤ k → psql v ≡ psql u
 psql_same z k u v a h =
     pick end _ _ (lexeme_until (kinds.PsqlCommand false) 2) _
     (lexeme_until (kinds.PsqlCommand false) 2) _ k (second 92 refl) (λ t e. refl)

@@ -1,5 +1,4 @@
--- Runs and numbers are decided by the characters up to the one that ends them, and by what the
--- tests say of that one and the next.
+-- Runs and numbers are decided by the characters up to their end, and by tests of the next two.
 use Rattle.std.proofs.Common.{◌≡◌, ℕ, ◌+◌, ◌≤◌, Bool, true, false, List, [], ◌∷◌, ◌++◌, length, get_or, take, Option, None, Some, refl, ap, ◌∙◌, not, ◌&&◌, ◌||◌, eqb, cond, arith}
 use Rattle.std.specs.List.{prefix_len}
 use Rattle.squawk_lexer.specs.declared.token.Base.{Base}
@@ -14,6 +13,7 @@ use Rattle.squawk_lexer.proofs.Ahead.{Tests, PairTests, Looks, branch, pick, Ali
 
 -- ---- runs
 
+-- The length of a run is decided by its characters and by the test of the next.
 pub prefix_looks : {told : Tests} {pairs : PairTests} (class : ℕ → Bool) → told class
     → Looks told pairs (prefix_len class) (prefix_len class)
 prefix_looks class t [] c d r s f h =
@@ -24,15 +24,17 @@ prefix_looks class t (x ∷ xs) c d r s f h =
     ∷ s)) 0 (length (x ∷ xs))
     (λ e k. ap (λ n. 1 + n) (prefix_looks class t xs c d r s f (omega arith))) (λ e k. refl) h
 
+-- The end of a run is the same in both texts.
 pub run_same : {told : Tests} {pairs : PairTests} (class : ℕ
     → Bool) → told class → (k : ℕ) (u v : List ℕ) (i : ℕ) → Alike told pairs k u v
     → run_end class u i ≤ k → run_end class v i ≡ run_end class u i
 run_same class t k u v i a h =
     ap (λ n. i + n) (seen (prefix_len class) (prefix_len class) (prefix_looks class t) k u v i a h)
 
-digits_looks : {told : Tests} {pairs : PairTests} (digit : ℕ
-    → Bool) → told digit → pairs (λ c. eqb c 95) digit
-    → Looks told pairs (digits_len digit) (digits_len digit)
+-- The length of a run of digits is decided by its characters and by tests of the next two, since
+-- `_` (95) belongs to it only before a digit.
+digits_looks : {told : Tests} {pairs : PairTests} (digit : ℕ → Bool) → told digit
+    → pairs (λ c. eqb c 95) digit → Looks told pairs (digits_len digit) (digits_len digit)
 digits_looks digit t p [] c d r s f h =
     pick (λ n. n) _ _ (1 + digits_len digit r) 0 (1 + digits_len digit s) 0 0
     (ap (λ b. b || (eqb d 95 && digit (get_or s 0 0))) (f.one digit t)
@@ -48,8 +50,9 @@ digits_looks digit t p (x ∷ y ∷ xs) c d r s f h =
     (λ e k. ap (λ n. 1 + n) (digits_looks digit t p (y ∷ xs) c d r s f (omega arith))) (λ e k.
     refl) h
 
--- ---- the tests that words and numbers do on the character after them, and on the one after that
+-- ---- the tests of words and numbers
 
+-- The tests of the character after a word or a number, and of the two after it.
 pub record Asks (told : Tests) (pairs : PairTests) : Type 0 where
   pub id_start : told is_ident_start
   pub id_cont : told is_ident_cont
@@ -68,6 +71,7 @@ pub record Asks (told : Tests) (pairs : PairTests) : Type 0 where
   pub and_string : pairs (λ c. eqb c 38) (λ c. eqb c 39)
   pub and_ident : pairs (λ c. eqb c 38) (λ c. eqb c 34)
 
+-- The ends of runs of digits and of junk are the same in both texts.
 pub digits_same : {told : Tests} {pairs : PairTests}
     → Asks told pairs → (k : ℕ) (u v : List ℕ) (i : ℕ) → Alike told pairs k u v → digits_end u i ≤ k
     → digits_end v i ≡ digits_end u i
@@ -75,9 +79,8 @@ digits_same w k u v i a h =
     ap (λ n. i + n) (seen (digits_len is_digit) (digits_len is_digit)
     (digits_looks is_digit w.digit w.low_digit) k u v i a h)
 
-pub hex_same : {told : Tests} {pairs : PairTests}
-    → Asks told pairs → (k : ℕ) (u v : List ℕ) (i : ℕ) → Alike told pairs k u v
-    → hex_digits_end u i ≤ k → hex_digits_end v i ≡ hex_digits_end u i
+pub hex_same : {told : Tests} {pairs : PairTests} → Asks told pairs → (k : ℕ) (u v : List ℕ) (i : ℕ)
+    → Alike told pairs k u v → hex_digits_end u i ≤ k → hex_digits_end v i ≡ hex_digits_end u i
 hex_same w k u v i a h =
     ap (λ n. i + n) (seen (digits_len is_hex_digit) (digits_len is_hex_digit)
     (digits_looks is_hex_digit w.hex w.low_hex) k u v i a h)
@@ -93,6 +96,7 @@ junk_same w k u v i a h =
 
 -- ---- numbers
 
+-- So are the ends of an exponent and of the digits after a point,
 exponent_same : {told : Tests} {pairs : PairTests}
     → Asks told pairs → (k : ℕ) (u v : List ℕ) (i : ℕ) → Alike told pairs k u v
     → exponent_end u i ≤ k → exponent_end v i ≡ exponent_end u i
@@ -114,6 +118,7 @@ fraction_same w k u v i a h =
     (test is_digit w.digit k u v i a (omega (arith, fraction_on u i))) (λ t e.
     digits_same w k u v i a e) (λ t e. refl) h
 
+-- integers, without and with a base prefix,
 int_same : {told : Tests} {pairs : PairTests} → Asks told pairs
     → (base : Base) (empty : Bool) (k : ℕ) (u v : List ℕ) (n : ℕ) → Alike told pairs k u v
     → (int base empty u n).end ≤ k → int base empty v n ≡ int base empty u n
@@ -130,6 +135,7 @@ based_same w base k u v n m a same h =
     ap (based_int base v) e ∙ ap (λ j. int base (eqb m 2 && eqb j m) v m) (junk_same w k u v m a h)
     ∙ int_same w base (eqb m 2 && eqb (junk_end u m) m) k u v m a h
 
+-- and numbers with a point or an exponent.
 numeric_same : {told : Tests} {pairs : PairTests}
     → Asks told pairs → (empty : Option ℕ) (k : ℕ) (u v : List ℕ) (n : ℕ) → Alike told pairs k u v
     → (numeric empty u n).end ≤ k → numeric empty v n ≡ numeric empty u n
@@ -147,6 +153,7 @@ with_exponent_same w k u v i a h =
     rw (e, front) (numeric_same w (cond (eqb (exponent_end u i) (i + 1))
     (Some (utf8_len (take i u))) None) k u v (exponent_end u i) a h)
 
+-- The digits after the point end within the number.
 fraction_in_number : (u : List ℕ) (i : ℕ) → fraction_end u i ≤ (fractional u i).end
 fraction_in_number u i = by (is_exponent_letter (get_or u (fraction_end u i) 0))
   where
@@ -156,6 +163,7 @@ fraction_in_number u i = by (is_exponent_letter (get_or u (fraction_end u i) 0))
     by true = with_exponent_on u (fraction_end u i)
     by false = junk_on u (fraction_end u i)
 
+-- Every number is the same in both texts.
 pub fractional_same : {told : Tests} {pairs : PairTests}
     → Asks told pairs → (k : ℕ) (u v : List ℕ) (i : ℕ) → Alike told pairs k u v
     → (fractional u i).end ≤ k → fractional v i ≡ fractional u i
@@ -170,9 +178,8 @@ fractional_same w k u v i a h =
     (test is_exponent_letter (w.letters 101 69 (omega arith) (omega arith)) k u v n a within)
     (λ t e. with_exponent_same w k u v n a e) (λ t e. numeric_same w None k u v n a e) h)
 
-decimal_same : {told : Tests} {pairs : PairTests}
-    → Asks told pairs → (k : ℕ) (u v : List ℕ) (i : ℕ) → Alike told pairs k u v
-    → (decimal_from u i).end ≤ k → decimal_from v i ≡ decimal_from u i
+decimal_same : {told : Tests} {pairs : PairTests} → Asks told pairs → (k : ℕ) (u v : List ℕ) (i : ℕ)
+    → Alike told pairs k u v → (decimal_from u i).end ≤ k → decimal_from v i ≡ decimal_from u i
 decimal_same w k u v i a h =
     let within : i ≤ k = omega (arith, decimal_on u i) in
     pick (λ (x : Lexeme). x.end) _ _ (fractional u (i + 1)) _ (fractional v (i + 1)) _ k (pair (λ c.
@@ -183,9 +190,8 @@ decimal_same w k u v i a h =
     (test is_exponent_letter (w.letters 101 69 (omega arith) (omega arith)) k u v i a within)
     (λ s e. with_exponent_same w k u v i a e) (λ s e. int_same w Decimal false k u v i a e)) h
 
-pub number_same : {told : Tests} {pairs : PairTests}
-    → Asks told pairs → (k : ℕ) (u v : List ℕ) → Alike told pairs k u v → (number u).end ≤ k
-    → number v ≡ number u
+pub number_same : {told : Tests} {pairs : PairTests} → Asks told pairs → (k : ℕ) (u v : List ℕ)
+    → Alike told pairs k u v → (number u).end ≤ k → number v ≡ number u
 number_same w k u v a h =
     pick (λ (x : Lexeme). x.end) _ _ (based_int Binary u (digits_end u 2)) _
     (based_int Binary v (digits_end v 2)) _ k (letter 98 66 (omega arith) (omega arith))
@@ -218,9 +224,9 @@ number_same w k u v a h =
     le_trans : (x y z : ℕ) → x ≤ y → y ≤ z → x ≤ z
     le_trans x y z p q = omega arith
 
-pub parameter_same : {told : Tests} {pairs : PairTests}
-    → Asks told pairs → (k : ℕ) (u v : List ℕ) → Alike told pairs k u v → (parameter u).end ≤ k
-    → parameter v ≡ parameter u
+-- A positional parameter is the same in both texts.
+pub parameter_same : {told : Tests} {pairs : PairTests} → Asks told pairs → (k : ℕ) (u v : List ℕ)
+    → Alike told pairs k u v → (parameter u).end ≤ k → parameter v ≡ parameter u
 parameter_same w k u v a h =
     let n = run_end is_digit u 1 in
     let within : n ≤ k = omega (arith, junk_on u n) in

@@ -1,4 +1,4 @@
--- A token is decided by its own characters, and by what the tests say of the two after them.
+-- A token is decided by its own characters, and by tests of the two after them.
 use Rattle.std.proofs.Common.{◌≡◌, ℕ, ◌+◌, ◌<◌, ◌≤◌, Bool, true, false, List, length, get_or, take, drop, refl, sym, ap, ◌∙◌, inl, inr, ◌⊎◌, ◌&&◌, eqb, cond, arith}
 use Rattle.std.specs.Bool.{⊤}
 use Rattle.std.proofs.Math.Bool.{and_assoc}
@@ -25,6 +25,7 @@ use Rattle.squawk_lexer.proofs.AheadPsql.{AsksPsql, psql_same}
 
 -- ---- words
 
+-- Strings and quoted identifiers are the same in both texts.
 string_same : {told : Tests} {pairs : PairTests}
     → Asks told pairs → (kind : Bool → LiteralKind) (escapes : Bool) (k : ℕ) (u v : List ℕ) (i : ℕ)
     → Alike told pairs k u v → (string kind escapes u i).end ≤ k
@@ -40,8 +41,7 @@ quoted_ident_same w uescape k u v i a h =
     let (found, ends) = quoted_same false quotation_mark w.quotation k u v i a h in
     rw (ends, found) refl
 
--- what the first three characters open, by two tests of the second one and two of the second and
--- the third
+-- The prefix by its first character, a test of the second, and two tests of the second and third.
 abbrev prefix_from : ℕ → Bool → Bool → Bool → StringPrefix
 prefix_from c quote string ident =
     cond (is_letter 110 c && quote) National
@@ -51,6 +51,7 @@ prefix_from c quote string ident =
     (cond (is_letter 117 c && string) UnicodeString
     (cond (is_letter 117 c && ident) UnicodeIdent Plain)))))
 
+-- `prefix_of` in these terms.
 prefix_is : (c d e : ℕ) → prefix_of c d e
     ≡ prefix_from c (eqb d 39) (eqb d 38 && eqb e 39) (eqb d 38 && eqb e 34)
 unfolding prefix_of
@@ -61,9 +62,9 @@ prefix_is c d e =
           (eqb e 34),
     ) refl
 
-prefix_same : {told : Tests} {pairs : PairTests}
-    → Asks told pairs → (k : ℕ) (u v : List ℕ) → Alike told pairs k u v → 1 ≤ k
-    → prefix_of (get_or v 0 0) (get_or v 1 0) (get_or v 2 0)
+-- The prefix is the same in both texts.
+prefix_same : {told : Tests} {pairs : PairTests} → Asks told pairs → (k : ℕ) (u v : List ℕ)
+    → Alike told pairs k u v → 1 ≤ k → prefix_of (get_or v 0 0) (get_or v 1 0) (get_or v 2 0)
     ≡ prefix_of (get_or u 0 0) (get_or u 1 0) (get_or u 2 0)
 prefix_same w k u v a some =
     let first : get_or v 0 0 ≡ get_or u 0 0 = read k u v 0 a (omega arith) in
@@ -83,6 +84,7 @@ prefix_same w k u v a some =
     && eqb (get_or u 2 0) 39)) ident
     ∙ sym (prefix_is (get_or u 0 0) (get_or u 1 0) (get_or u 2 0))
 
+-- So is the lexeme that it begins.
 prefixed_same : {told : Tests} {pairs : PairTests}
     → Asks told pairs → (s : StringPrefix) (k : ℕ) (u v : List ℕ) → Alike told pairs k u v
     → (lexeme_of_prefix s u).end ≤ k → lexeme_of_prefix s v ≡ lexeme_of_prefix s u
@@ -95,9 +97,9 @@ prefixed_same w UnicodeIdent k u v a h = quoted_ident_same w true k u v 3 a h
 prefixed_same w Plain k u v a h =
     ap (lexeme_until kinds.Ident) (run_same is_ident_cont w.id_cont k u v 1 a h)
 
--- ---- every row
+-- ---- every form
 
--- the tests that a row does on what follows its token
+-- The tests of what follows a token, for each form.
 abbrev pub AsksOf : Tests → PairTests → TokenForm → Type 0
 AsksOf told pairs Whitespace = told is_whitespace
 AsksOf told pairs LineComment = told is_not_line_end
@@ -107,9 +109,10 @@ AsksOf told pairs DotDot = ⊤
 AsksOf told pairs Symbol = ⊤
 AsksOf told pairs _ = Asks told pairs
 
-pub form_same : {told : Tests} {pairs : PairTests} (strings : Strings) (s : TokenForm) → AsksOf told pairs s → (k : ℕ) (u v : List ℕ)
-    → Alike told pairs k u v → 1 ≤ k → (lexeme_of_form strings s u).end ≤ k
-    → lexeme_of_form strings s v ≡ lexeme_of_form strings s u
+-- The lexeme of each form is the same in both texts.
+pub form_same : {told : Tests} {pairs : PairTests} (strings : Strings) (s : TokenForm)
+    → AsksOf told pairs s → (k : ℕ) (u v : List ℕ) → Alike told pairs k u v → 1 ≤ k
+    → (lexeme_of_form strings s u).end ≤ k → lexeme_of_form strings s v ≡ lexeme_of_form strings s u
 form_same strings Whitespace w k u v a some h =
     ap (lexeme_until kinds.Whitespace) (run_same is_whitespace w k u v 0 a h)
 form_same strings LineComment w k u v a some h =
@@ -130,13 +133,14 @@ form_same strings Psql w k u v a some h = psql_same w k u v a h
 form_same strings Symbol w k u v a some h =
     ap (λ c. lexeme_until (symbol c) 1) (read k u v 0 a (omega arith))
 
--- the row that a text begins with
+-- The form that a text begins with.
 abbrev pub first_form : List ℕ → TokenForm
 first_form u = token_form (get_or u 0 0) (get_or u 1 0)
 
--- a token is the same in texts that are alike up to its end
-pub lexeme_same : {told : Tests} {pairs : PairTests} (strings : Strings) (s : Bool) (k : ℕ) (u v : List ℕ) → Alike told pairs k u v
-    → first_form v ≡ first_form u → AsksOf told pairs (first_form u) → (lexeme_at strings s u).end ≡ k
+-- A token is the same in texts that are alike up to its end.
+pub lexeme_same : {told : Tests} {pairs : PairTests} (strings : Strings) (s : Bool) (k : ℕ)
+    (u v : List ℕ) → Alike told pairs k u v → first_form v ≡ first_form u
+    → AsksOf told pairs (first_form u) → (lexeme_at strings s u).end ≡ k
     → lexeme_at strings s v ≡ lexeme_at strings s u
 lexeme_same strings s k u v a rows w e =
     pick (λ (x : Lexeme). x.end) _ _ (lexeme_until kinds.Whitespace 1) (lexeme_of strings u)
@@ -154,13 +158,14 @@ lexeme_same strings s k u v a rows w e =
     first : get_or v 0 0 ≡ get_or u 0 0
     first = read k u v 0 a some
 
+-- The token of a lexeme: its kind and its length in bytes.
 abbrev pub token_from : Lexeme → List ℕ → Token
 token_from x u = record { kind = x.kind; len = utf8_len (take x.end u) }
 
--- and its bytes are the same
-pub token_of : {told : Tests} {pairs : PairTests} (strings : Strings) (s : Bool) (k : ℕ) (u v : List ℕ) → Alike told pairs k u v
-    → (lexeme_at strings s u).end ≡ k → lexeme_at strings s v ≡ lexeme_at strings s u
-    → token_at strings s v ≡ token_at strings s u
+-- So is its length in bytes.
+pub token_of : {told : Tests} {pairs : PairTests} (strings : Strings) (s : Bool) (k : ℕ)
+    (u v : List ℕ) → Alike told pairs k u v → (lexeme_at strings s u).end ≡ k
+    → lexeme_at strings s v ≡ lexeme_at strings s u → token_at strings s v ≡ token_at strings s u
 token_of strings s k u v a e same = ap (λ x. token_from x v) same
     ∙ ap (λ w. record {
       kind = (lexeme_at strings s u).kind;
@@ -170,13 +175,15 @@ token_of strings s k u v a e same = ap (λ x. token_from x v) same
 
 -- ---- texts whose next character is the same: every test says the same of it
 
+-- Every test of one character.
 abbrev pub Any : (ℕ → Bool) → Type 0
 Any p = ⊤
 
--- and of two characters, where the first test is not passed by `;` (59)
+-- Every pair of tests whose first one `;` (59) does not pass.
 abbrev pub PastSemi : (ℕ → Bool) → (ℕ → Bool) → Type 0
 PastSemi p q = p 59 ≡ false
 
+-- The tests of every form are among these.
 any : Asks Any PastSemi
 any = record {
   id_start = tt;
@@ -219,7 +226,8 @@ asks_any Dollar = any
 asks_any Number = any
 asks_any Fraction = any
 
--- the texts agree on the next character, and on the one after it, unless the next is `;`
+-- Texts that agree on the next character, and on the one after it unless the next is `;`, are
+-- alike.
 pub alike_next : (k : ℕ) (u v : List ℕ) → Agrees (k + 1) u v → Agrees (k + 2) u v
     ⊎ (get_or u k 0 ≡ 59) → Alike Any PastSemi k u v
 alike_next k u v a more = record {
@@ -242,7 +250,7 @@ alike_next k u v a more = record {
         ∙ ap (λ c. p (get_or u k 0) && q c) next
     by p q t (inr semi) = rw (here, semi, t) refl
 
--- so a token is the same in such texts
+-- So a token is the same in such texts.
 pub lexeme_next : (strings : Strings) (s : Bool) (k : ℕ) (u v : List ℕ) → Agrees (k + 1) u v
     → Agrees (k + 2) u v ⊎ (get_or u k 0 ≡ 59) → (lexeme_at strings s u).end ≡ k
     → lexeme_at strings s v ≡ lexeme_at strings s u
@@ -256,9 +264,11 @@ lexeme_next strings s k u v a more e =
 
 -- ---- the laws
 
+-- Texts that agree on two more characters agree on one more.
 agrees_two : (k : ℕ) (u v : List ℕ) → Agrees (k + 2) u v → Agrees (k + 1) u v
 agrees_two k u v a = agrees_less (k + 1) (k + 2) u v (omega arith) a
 
+-- The laws of look-ahead.
 pub lexemes_look_ahead : LexemesLookAhead
 lexemes_look_ahead strings s u v a =
     let k = (lexeme_at strings s u).end in

@@ -1,4 +1,4 @@
--- What the bytes at a place say of the characters there.
+-- What the bytes at an index tell about the characters there.
 use Rattle.std.proofs.Common.{◌≡◌, ℕ, zero, suc, ◌+◌, ◌<◌, ◌≤◌, false, List, [], ◌∷◌, ◌++◌, get_or, refl, sym, ◌∙◌, ap, subst, inl, inr, ◌⊎◌, eqb, arith, IsUtf8, add-zero}
 use Rattle.std.proofs.lemmas.Bool.{cases_lt}
 use Rattle.std.proofs.lemmas.Bool.Decides.{nat_tests}
@@ -18,6 +18,7 @@ use Rattle.squawk_lexer.proofs.ByteRuns.{high, some_bytes}
 
 -- ---- the first byte of a character
 
+-- The first byte of an ASCII character is the character, and that of any other is at least 128.
 pub lead_ascii : (c : ℕ) → c < 128 → first_byte c ≡ c
 unfolding first_byte
 lead_ascii c small = rw (encode_ascii c small) refl
@@ -26,10 +27,12 @@ pub lead_high : (c : ℕ) → 128 ≤ c → 128 ≤ first_byte c
 unfolding first_byte
 lead_high c big = high c 0 big (some_bytes c)
 
+-- A text begins with the first byte of its first character.
 pub lead_first : (c : ℕ) (bs : List ℕ) → get_or (encode_utf8 c ++ bs) 0 0 ≡ first_byte c
 unfolding first_byte
 lead_first c bs = get_or_append_left (encode_utf8 c) bs 0 0 (some_bytes c)
 
+-- After k ASCII characters, the byte at k is the first byte of the character at k.
 pub read_ahead : (k : ℕ) (cs : List ℕ) → ((j : ℕ) → j < k → get_or cs j 0 < 128)
     → get_or (encode_utf8_all cs) k 0 ≡ first_byte (get_or cs k 0)
 read_ahead zero [] ascii = sym (lead_ascii 0 (omega arith))
@@ -39,7 +42,7 @@ read_ahead (suc k) (c ∷ cs) ascii =
     rw (encode_ascii c (ascii 0 (omega arith))) (read_ahead k cs (λ j below.
     ascii (suc j) (omega arith)))
 
--- the byte so many behind rest's first
+-- The byte n bytes into the rest, where the n characters before it are ASCII.
 pub read_byte : (token rest : List ℕ) (n : ℕ) → IsRest token rest
     → IsAsciiRun (chars token) (chars_before token rest) n
     → get_or rest n 0 ≡ first_byte (get_or (chars token) (chars_before token rest + n) 0)
@@ -55,9 +58,11 @@ read_byte token rest n r ascii =
 
 -- ---- what a token begins with, by its bytes
 
+-- A character beyond ASCII equals none of ASCII.
 apart : (c q : ℕ) → 128 ≤ c → q < 128 → eqb c q ≡ false
 apart c q big small = grind (arith, nat_tests)
 
+-- A character beyond ASCII begins a word, and which one is second does not matter.
 form_high : (c d : ℕ) → 128 ≤ c → token_form c d ≡ Word
 unfolding token_form
 form_high c d big = grind (arith, nat_tests)
@@ -80,6 +85,7 @@ form_second c d e p q =
     no_digit : (x : ℕ) → 128 ≤ x → is_digit x ≡ false
     no_digit x big = grind (arith, nat_tests)
 
+-- The form by first bytes is the form by characters.
 pub form_lead : (c d b e : ℕ) → b ≡ first_byte c → (c < 128 → e ≡ first_byte d)
     → token_form b e ≡ token_form c d
 form_lead c d b e first second = by (cases_lt c 128) (cases_lt d 128)
@@ -92,6 +98,7 @@ form_lead c d b e first second = by (cases_lt c 128) (cases_lt d 128)
     by (inr big) other = form_high b e (subst (λ x. 128 ≤ x) (sym first) (lead_high c big))
         ∙ sym (form_high c d big)
 
+-- A character beyond ASCII is in no prefix.
 prefix_high : (c d e : ℕ) → 128 ≤ c → prefix_of c d e ≡ Plain
 unfolding prefix_of
 prefix_high c d e big = grind (arith, nat_tests)
@@ -111,6 +118,7 @@ prefix_third c d e f p q =
           34 q (omega arith),
     ) refl
 
+-- The prefix by first bytes is the prefix by characters.
 pub prefix_lead : (c d x b e f : ℕ) → b ≡ first_byte c → (c < 128 → e ≡ first_byte d)
     → (c < 128 → d < 128 → f ≡ first_byte x) → prefix_of b e f ≡ prefix_of c d x
 prefix_lead c d x b e f first second third = by (cases_lt c 128) (cases_lt d 128) (cases_lt x 128)
@@ -135,6 +143,7 @@ prefix_lead c d x b e f first second third = by (cases_lt c 128) (cases_lt d 128
     by (inr big) other more = prefix_high b e f (subst (λ y.
         128 ≤ y) (sym first) (lead_high c big)) ∙ sym (prefix_high c d x big)
 
+-- A character beyond ASCII is no symbol, so the symbol by the first byte is that by the character.
 symbol_high : (c : ℕ) → 128 ≤ c → symbol c ≡ Unknown
 unfolding symbol
 symbol_high c big = grind (arith, nat_tests)
@@ -147,8 +156,9 @@ symbol_lead c b first = by (cases_lt c 128)
     by (inr big) = symbol_high b (subst (λ x. 128 ≤ x) (sym first) (lead_high c big))
         ∙ sym (symbol_high c big)
 
--- ---- the same with the premises that the code has
+-- ---- in the form in which the code has it
 
+-- Runs of none, one and two ASCII characters.
 ascii_none : (u : List ℕ) (i : ℕ) → IsAsciiRun u i 0
 ascii_none u i k h = absurd (omega arith)
 
@@ -161,6 +171,7 @@ ascii_two u i first second zero h = rw add-zero first
 ascii_two u i first second (suc zero) h = second
 ascii_two u i first second (suc (suc k)) h = absurd (omega arith)
 
+-- The first bytes of the first three characters.
 pub first_read : (u : List ℕ) (i b : ℕ) → i ≡ 0
     → (IsAsciiRun u i 0 → b ≡ first_byte (get_or u (i + 0) 0)) → b ≡ first_byte (get_or u 0 0)
 first_read u i b none read = read (ascii_none u i) ∙ rw none refl
@@ -175,6 +186,7 @@ third_read : (u : List ℕ) (i b : ℕ) → i ≡ 0 → (IsAsciiRun u i 2
 third_read u i b none read small low = read (ascii_two u i (rw none small) (rw none low))
     ∙ rw none refl
 
+-- The form and the prefix, by the bytes that the code reads.
 pub form_by : (u : List ℕ) (i b e : ℕ) → i ≡ 0
     → (IsAsciiRun u i 0 → b ≡ first_byte (get_or u (i + 0) 0))
     → (IsAsciiRun u i 1 → e ≡ first_byte (get_or u (i + 1) 0))

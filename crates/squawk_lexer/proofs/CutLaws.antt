@@ -1,4 +1,4 @@
--- What holds of the tokens of every text: they follow one another from its start to its end.
+-- The tokens of every text cover it from its start to its end.
 use Rattle.std.proofs.Common.{◌≡◌, ℕ, zero, suc, ◌+◌, ◌-◌, ◌<◌, ◌≤◌, Bool, true, false, List, [], ◌∷◌, ◌++◌, length, drop, take, refl, sym, ap, subst, ◌∙◌, inl, inr, ◌⊎◌, ◌&&◌, arith, IsUtf8}
 use Rattle.std.proofs.lemmas.Bool.{cases_lt, false≢true}
 use Rattle.std.proofs.lemmas.List.{drop-drop, take-append-drop, length-drop}
@@ -15,6 +15,7 @@ use Rattle.squawk_lexer.proofs.CursorRest.{length_encodes, length_bytes, bytes_n
 use Rattle.squawk_lexer.proofs.ByteRuns.{scalars_drop}
 use Rattle.squawk_lexer.proofs.TokenLaws.{lexeme_at_some, token_positive, token_never_eof}
 
+-- No token begins inside another.
 tokens_inside : (strings : Strings) (n : ℕ) (u : List ℕ)
     → tokens_from strings n false u ≡ tokens_from strings 0 false (drop n u)
 tokens_inside strings zero [] = refl
@@ -22,14 +23,15 @@ tokens_inside strings (suc n) [] = refl
 tokens_inside strings zero (c ∷ cs) = refl
 tokens_inside strings (suc n) (c ∷ cs) = tokens_inside strings n cs
 
+-- Dropping n - 1 characters after the first is dropping n.
 drop_end : (n c : ℕ) (cs : List ℕ) → 0 < n → drop (n - 1) cs ≡ drop n (c ∷ cs)
 drop_end zero c cs h = absurd (omega arith)
 drop_end (suc n) c cs h = ap (λ m. drop m cs) (omega arith)
 
--- the first token, and those of what follows it
+-- The tokens of a text are the first one and those of the rest.
 pub tokens_first : (strings : Strings) (s : Bool) (u : List ℕ) → 0 < length u
-    → tokens_from strings 0 s u ≡ token_at strings s u
-    ∷ tokens_from strings 0 false (drop (lexeme_at strings s u).end u)
+    → tokens_from strings 0 s u
+    ≡ token_at strings s u ∷ tokens_from strings 0 false (drop (lexeme_at strings s u).end u)
 tokens_first strings s [] h = absurd (omega arith)
 tokens_first strings s (c ∷ cs) h =
     ap (λ ts. token_at strings s (c ∷ cs) ∷ ts)
@@ -37,6 +39,7 @@ tokens_first strings s (c ∷ cs) h =
     ∙ ap (tokens_from strings 0 false) (drop_end (lexeme_at strings s (c ∷ cs)).end c cs
     (lexeme_at_some strings s (c ∷ cs) h)))
 
+-- An empty text has none.
 pub tokens_none : (strings : Strings) (s : Bool) (u : List ℕ) → length u ≡ 0
     → tokens_from strings 0 s u ≡ []
 tokens_none strings s [] h = refl
@@ -44,6 +47,7 @@ tokens_none strings s (c ∷ cs) h = absurd (omega arith)
 
 -- ---- the tokens of a text are no more than its characters
 
+-- By induction on the text.
 pub tokens_few : (strings : Strings) (n : ℕ) (s : Bool) (u : List ℕ)
     → length (tokens_from strings n s u) ≤ length u
 tokens_few strings n s [] = omega arith
@@ -53,12 +57,14 @@ tokens_few strings (suc n) s (c ∷ cs) = omega (arith, tokens_few strings n s c
 
 -- ---- the tokens of a text tile it
 
--- a text, cut behind its first n characters
+-- The bytes after the first n characters begin at a character boundary, and have the other
+-- characters.
 pub record IsCut (bs : List ℕ) (n : ℕ) : Type 0 where
   pub utf8 : IsUtf8 (drop (utf8_len (take n (chars bs))) bs)
   pub rest : chars (drop (utf8_len (take n (chars bs))) bs) ≡ drop n (chars bs)
   pub boundary : IsCharBoundary bs (utf8_len (take n (chars bs)))
 
+-- A text may be cut after any number of characters.
 pub cut_after : (bs : List ℕ) (n : ℕ) → IsUtf8 bs → IsCut bs n
 cut_after bs n utf8 =
     let front = take n (chars bs) in
@@ -79,7 +85,7 @@ cut_after bs n utf8 =
           (IsCharBoundary-at_seam bs (encode_utf8_all front) (encode_utf8_all back) both back_utf8);
     }
 
--- a token that begins between two characters ends so
+-- A token that begins at a character boundary ends at one.
 pub token_boundary : (strings : Strings) (s : Bool) (text : List ℕ) (at : ℕ) → at ≤ length text
     → IsUtf8 (drop at text)
     → IsCharBoundary text (at + (token_at strings s (chars (drop at text))).len)
@@ -87,7 +93,7 @@ token_boundary strings s text at within utf8 =
     IsCharBoundary-from_rest text at _ within
     (cut_after (drop at text) (lexeme_at strings s (chars (drop at text))).end utf8).boundary
 
--- what is behind it
+-- The characters after such a token.
 after_token : (strings : Strings) (s : Bool) (text : List ℕ) (at : ℕ) → IsUtf8 (drop at text)
     → chars (drop (at + (token_at strings s (chars (drop at text))).len) text)
     ≡ drop (lexeme_at strings s (chars (drop at text))).end (chars (drop at text))
@@ -95,7 +101,7 @@ after_token strings s text at utf8 =
     ap chars (sym (drop-drop (token_at strings s (chars (drop at text))).len at text))
     ∙ (cut_after (drop at text) (lexeme_at strings s (chars (drop at text))).end utf8).rest
 
--- the tokens from a place on are the one that begins there, and those from its end on
+-- The tokens from an offset on are the one there, and those from its end on.
 pub token_then : (strings : Strings) (s : Bool) (text : List ℕ) (at : ℕ) → IsUtf8 (drop at text)
     → 0 < length (chars (drop at text))
     → tokens_from strings 0 s (chars (drop at text))
@@ -105,9 +111,9 @@ pub token_then : (strings : Strings) (s : Bool) (text : List ℕ) (at : ℕ) →
 token_then strings s text at utf8 some =
     rw (after_token strings s text at utf8) (tokens_first strings s (chars (drop at text)) some)
 
+-- There are no tokens at the end of the text.
 tiles_end : (strings : Strings) (s : Bool) (text : List ℕ) (at : ℕ) → at ≤ length text
-    → IsUtf8 (drop at text)
-    → length (chars (drop at text)) ≡ 0
+    → IsUtf8 (drop at text) → length (chars (drop at text)) ≡ 0
     → Tiles text at (tokens_from strings 0 s (chars (drop at text)))
 tiles_end strings s text at within utf8 none =
     let bytes_none : utf8_len (chars (drop at text)) ≡ 0 = bytes_none (chars (drop at text)) none in
@@ -115,12 +121,13 @@ tiles_end strings s text at within utf8 none =
     rw (tokens_none strings s (chars (drop at text)) none)
     (omega (arith, len, length-drop at text, within))
 
--- the tokens of what follows each place, where at most n characters do
+-- The tokens from an offset on cover what is left, where that has at most n characters.
 abbrev Tiled : ℕ → Strings → List ℕ → ℕ → Bool → Type 0
 Tiled n strings text at s =
     at ≤ length text → IsUtf8 (drop at text) → length (chars (drop at text)) ≤ n
     → Tiles text at (tokens_from strings 0 s (chars (drop at text)))
 
+-- By induction on n.
 tiles : (n : ℕ) (strings : Strings) (text : List ℕ) (at : ℕ) (s : Bool) → Tiled n strings text at s
 tiles zero strings text at s within utf8 h = tiles_end strings s text at within utf8 (omega arith)
 tiles (suc n) strings text at s within utf8 h =
@@ -165,7 +172,7 @@ tiles (suc n) strings text at s within utf8 h =
           rw rest at more,
         )
 
--- the tokens of a text tile it
+-- The tokens of a text cover it.
 pub tokens_tile : (strings : Strings) (s : Bool) (text : List ℕ) → IsUtf8 text
     → Tiles text 0 (tokens_from strings 0 s (chars text))
 tokens_tile strings s text utf8 =

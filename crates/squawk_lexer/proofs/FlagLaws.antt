@@ -1,4 +1,4 @@
--- The places that a token's flags name lie in it.
+-- The offsets in a token's kind lie in the token.
 use Rattle.std.proofs.Common.{◌≡◌, ℕ, zero, suc, ◌+◌, ◌-◌, ◌<◌, ◌≤◌, Bool, true, false, List, [], ◌∷◌, length, get_or, take, refl, sym, ◌&&◌, ◌||◌, not, eqb, cond, arith, Some, None}
 use Rattle.std.proofs.lemmas.Bool.{false≢true}
 use Rattle.std.proofs.lemmas.Bool.Decides.{nat_tests}
@@ -30,6 +30,7 @@ use Rattle.squawk_lexer.proofs.TokenLaws.{junk_on, exponent_on, fraction_on, tok
 
 -- ---- more characters have more bytes
 
+-- Strictly more,
 bytes_less : (n m : ℕ) (u : List ℕ) → n < m → n < length u
     → utf8_len (take n u) < utf8_len (take m u)
 bytes_less n m [] p h = absurd (omega arith)
@@ -45,6 +46,7 @@ bytes_less (suc n) (suc m) (c ∷ cs) p h =
           n m cs (omega arith) (omega arith),
     )
 
+-- and no fewer.
 bytes_le : (n m : ℕ) (u : List ℕ) → n ≤ m → utf8_len (take n u) ≤ utf8_len (take m u)
 bytes_le zero m u p = omega arith
 bytes_le (suc n) zero u p = absurd (omega arith)
@@ -58,7 +60,7 @@ bytes_le (suc n) (suc m) (c ∷ cs) p =
           m cs (omega arith),
     )
 
--- junk that begins behind a character begins behind a byte, and ends no earlier
+-- Junk after at least one character begins after at least one byte, and ends no earlier.
 junk_within : (u : List ℕ) (n : ℕ) → 1 ≤ length u → 1 ≤ n
     → JunkWithin (utf8_len (take n u)) (utf8_len (take (junk_end u n) u))
 junk_within u n h p = (
@@ -69,21 +71,23 @@ junk_within u n h p = (
 
 -- ---- numbers
 
--- the flags of a lexeme at the front of a text
+-- The offsets in the kind of a lexeme at the start of a text lie in its bytes.
 abbrev Flagged : List ℕ → Lexeme → Type 0
 Flagged u x = FlagsWithin x.kind (utf8_len (take x.end u))
 
+-- Of two lexemes, the chosen one is such where both are.
 either_flags : (u : List ℕ) (b : Bool) (x y : Lexeme) → (b ≡ true → Flagged u x) → Flagged u y
     → Flagged u (cond b x y)
 either_flags u true x y p q = p refl
 either_flags u false x y p q = q
 
--- where an exponent without digits may begin
+-- The offset of an exponent without digits is before the junk.
 exponent_flags : (b : Bool) (u : List ℕ) (i n : ℕ) → 1 ≤ length u → i < length u → i < n
     → Flagged u (numeric (cond b (Some (utf8_len (take i u))) None) u n)
 exponent_flags true u i n h within p = (bytes_less i n u p within, junk_within u n h (omega arith))
 exponent_flags false u i n h within p = (tt, junk_within u n h (omega arith))
 
+-- Numbers with an exponent, with a point, and without a base prefix.
 with_exponent_flags : (u : List ℕ) (i : ℕ) → 1 ≤ length u → i < length u
     → Flagged u (with_exponent u i)
 with_exponent_flags u i h within =
@@ -105,11 +109,12 @@ decimal_flags u a h p =
     (either_flags u (is_exponent_letter (get_or u a 0)) (with_exponent u a) (int Decimal false u a)
     (λ t. with_exponent_flags u a h (letter_within u a t)) (junk_within u a h p))
 
--- whether a text begins with `0` and a letter
+-- Whether a text begins with `0` (48) and a letter in either case.
 abbrev begins : List ℕ → ℕ → ℕ → Bool
 begins u small capital = eqb (get_or u 0 0) 48
     && (eqb (get_or u 1 0) small || eqb (get_or u 1 0) capital)
 
+-- Every number.
 number_flags : (u : List ℕ) → 1 ≤ length u → Flagged u (number u)
 number_flags u h =
     let decimal = decimal_from u (digits_end u 1) in
@@ -124,21 +129,25 @@ number_flags u h =
     junk_within u (hex_digits_end u 2) h (omega arith))
     (decimal_flags u (digits_end u 1) h (omega arith))))
 
+-- Every token that begins with `$`.
 dollar_flags : (u : List ℕ) → 1 ≤ length u → Flagged u (dollar u)
 dollar_flags u h = either_flags u (is_dollar_quote_start u) (dollar_string u) (parameter u) (λ t.
     tt) (junk_within u (run_end is_digit u 1) h (omega arith))
 
--- ---- kinds without places
+-- ---- kinds without offsets
 
+-- Whether a kind has an offset.
 abbrev has_offsets : TokenKind → Bool
 has_offsets (kinds.Literal kind) = true
 has_offsets (kinds.PositionalParam place) = true
 has_offsets _ = false
 
+-- No symbol has one.
 symbol_offsets : (c : ℕ) → has_offsets (symbol c) ≡ false
 unfolding symbol
 symbol_offsets c = grind (arith, nat_tests)
 
+-- A kind without offsets fits any length.
 no_offsets : (kind : TokenKind) (n : ℕ) → has_offsets kind ≡ false → FlagsWithin kind n
 no_offsets (kinds.Literal kind) n e = absurd (false≢true (sym e))
 no_offsets (kinds.PositionalParam place) n e = absurd (false≢true (sym e))
@@ -179,6 +188,7 @@ no_offsets kinds.CloseParen n e = tt
 no_offsets kinds.OpenParen n e = tt
 no_offsets kinds.Comma n e = tt
 
+-- Words, prefixed strings and psql commands.
 prefix_flags : (s : StringPrefix) (u : List ℕ) → Flagged u (lexeme_of_prefix s u)
 prefix_flags National u = tt
 prefix_flags Bit u = tt
@@ -196,8 +206,9 @@ psql_flags u =
     (lexeme_until (kinds.PsqlCommand (is_among query_ending_words (command_word u)))
     (command_end u)) (λ t. tt) tt))
 
--- ---- every row
+-- ---- every form
 
+-- The lexeme of each form.
 form_flags : (strings : Strings) (s : TokenForm) (u : List ℕ) → 1 ≤ length u
     → Flagged u (lexeme_of_form strings s u)
 form_flags strings Whitespace u h = tt
@@ -214,6 +225,7 @@ form_flags strings Fraction u h = fractional_flags u 1 h (omega arith)
 form_flags strings Psql u h = psql_flags u
 form_flags strings Symbol u h = no_offsets (symbol (get_or u 0 0)) _ (symbol_offsets (get_or u 0 0))
 
+-- The first token of every text.
 pub flags_lie_within : FlagsLieWithin
 flags_lie_within strings s u h = (
   token_positive strings s u h,
@@ -224,6 +236,7 @@ flags_lie_within strings s u h = (
 
 -- ---- each token of a text is the first of the text that begins with it
 
+-- By induction on the text.
 cut_from : (strings : Strings) (inside : ℕ) (s : Bool) (u : List ℕ)
     → AreCut (tokens_from strings inside s u)
 cut_from strings inside s [] = tt

@@ -1,4 +1,4 @@
--- What the first characters of a token begin, with the premises that the code has.
+-- The form of a token by its first two characters.
 use Rattle.std.proofs.Common.{◌≡◌, ℕ, ◌<◌, true, List, length, get_or, refl, sym, subst, ◌∙◌, Bool, false, ◌&&◌, cond, eqb, eqb-true, arith}
 use Rattle.std.proofs.lemmas.Bool.Decides.{nat_tests}
 use Rattle.squawk_lexer.specs.declared.token.Strings.{Strings}
@@ -10,7 +10,7 @@ use Rattle.squawk_lexer.specs.Token.{token_form, lexeme_of_form, lexeme_of}
 use Rattle.squawk_lexer.proofs.Steps.{after_within}
 use Rattle.squawk_lexer.proofs.WordSteps.{two}
 
--- the test of each row
+-- The test of each form.
 abbrev pub form_test : TokenForm → ℕ → ℕ → Bool
 form_test Whitespace c d = is_whitespace c
 form_test LineComment c d = eqb c 45 && eqb d 45
@@ -25,7 +25,7 @@ form_test Fraction c d = eqb c 46 && is_digit d
 form_test Psql c d = eqb c 92
 form_test Symbol c d = true
 
--- of one test for each row, that of a row
+-- Of a test for each form, that of one form.
 abbrev pick : TokenForm → Bool → Bool → Bool → Bool → Bool → Bool → Bool → Bool → Bool → Bool → Bool
     → Bool
 pick Whitespace w l b s q i x n p f y = w
@@ -41,6 +41,7 @@ pick Fraction w l b s q i x n p f y = f
 pick Psql w l b s q i x n p f y = y
 pick Symbol w l b s q i x n p f y = true
 
+-- The form that a chain of tests chooses passes its test.
 picked : (w l b s q i x n p f y : Bool)
     → pick (cond w Whitespace (cond l LineComment
     (cond b BlockComment (cond s String (cond q QuotedIdent
@@ -59,6 +60,7 @@ picked false false false false false false false false false true y = refl
 picked false false false false false false false false false false true = refl
 picked false false false false false false false false false false false = refl
 
+-- The tests of the chain are those of `form_test`.
 same_test : (r : TokenForm) (c d : ℕ)
     → pick r (is_whitespace c) (eqb c 45 && eqb d 45) (eqb c 47
     && eqb d 42) (eqb c 39) (eqb c 34) (is_ident_start c) (eqb c 36) (is_digit c) (eqb c 46
@@ -76,7 +78,7 @@ same_test Fraction c d = refl
 same_test Psql c d = refl
 same_test Symbol c d = refl
 
--- the row that is chosen fits
+-- The form of a token passes its test.
 pub form_fits : (r : TokenForm) (c d : ℕ) → r ≡ token_form c d → form_test r c d ≡ true
 unfolding token_form
 form_fits r c d e =
@@ -88,6 +90,7 @@ form_fits r c d e =
     && eqb d 42) (eqb c 39) (eqb c 34) (is_ident_start c) (eqb c 36) (is_digit c) (eqb c 46
     && eqb d 46) (eqb c 46 && is_digit d) (eqb c 92))
 
+-- White space begins with white space, and a form of two characters has a second one.
 pub form_white : (c d : ℕ) → Whitespace ≡ token_form c d → is_whitespace c ≡ true
 form_white c d e = form_fits Whitespace c d e
 
@@ -100,6 +103,7 @@ form_block c d e = let t = form_fits BlockComment c d e in grind (arith, nat_tes
 form_dots : (c d : ℕ) → DotDot ≡ token_form c d → 0 < d
 form_dots c d e = let t = form_fits DotDot c d e in grind (arith, nat_tests)
 
+-- The cursor after the first two characters, in the form in which the code has it.
 pub begin_line : (u : List ℕ) (i : ℕ) → i ≡ 0 → 0 < length u
     → LineComment ≡ token_form (get_or u 0 0) (get_or u 1 0) → (position_after u i ≡ 1)
     × (position_after u (position_after u i) ≡ 2)
@@ -115,6 +119,7 @@ pub begin_dots : (u : List ℕ) (i : ℕ) → i ≡ 0 → 0 < length u
     × (position_after u (position_after u i) ≡ 2)
 begin_dots u i none some e = two u i none (form_dots _ _ e)
 
+-- The first character of a word, of a token at `$`, and of a psql command.
 pub begin_word : (u : List ℕ) → Word ≡ token_form (get_or u 0 0) (get_or u 1 0)
     → is_ident_start (get_or u 0 0) ≡ true
 begin_word u e = form_fits Word (get_or u 0 0) (get_or u 1 0) e
@@ -126,7 +131,7 @@ begin_dollar u e = eqb-true (get_or u 0 0) 36 (form_fits Dollar (get_or u 0 0) (
 pub begin_psql : (u : List ℕ) → Psql ≡ token_form (get_or u 0 0) (get_or u 1 0) → get_or u 0 0 ≡ 92
 begin_psql u e = eqb-true (get_or u 0 0) 92 (form_fits Psql (get_or u 0 0) (get_or u 1 0) e)
 
--- the row of a token, with the premises that the code has
+-- The first lexeme of a text is that of its form.
 pub form_lexeme : (strings : Strings) (u : List ℕ) (s : TokenForm)
     → s ≡ token_form (get_or u 0 0) (get_or u 1 0)
     → lexeme_of strings u ≡ lexeme_of_form strings s u

@@ -1,4 +1,4 @@
--- A token that a gap follows directly does not depend on which gap it is.
+-- A token stays the same whichever gap follows it directly.
 use Rattle.std.proofs.Common.{◌≡◌, ℕ, zero, suc, ◌+◌, ◌<◌, ◌≤◌, Bool, true, false, List, [], ◌∷◌, ◌++◌, length, get_or, take, drop, length-drop, length-append, refl, sym, ap, subst, ◌∙◌, inl, inr, ◌⊎◌, not, ◌&&◌, ◌||◌, eqb, cond, arith}
 use Rattle.std.specs.Bool.{⊤}
 use Rattle.std.specs.List.{prefix_len}
@@ -31,8 +31,9 @@ use Rattle.squawk_lexer.proofs.AheadPsql.{AsksPsql, psql_same}
 use Rattle.squawk_lexer.proofs.AheadTokens.{AsksOf, Any, first_form, form_same, lexeme_same}
 use Rattle.squawk_lexer.proofs.GapTests.{is_gap_start, gap_white, white_start, Calm, white_gap, CalmPair, calm_letters, IsOn, put, gap_within, on_read, gap_at, gap_pair}
 
--- ---- directly behind
+-- ---- directly after
 
+-- The tests of words and numbers are calm.
 asks_calm : Asks Calm CalmPair
 asks_calm = record {
   id_start = λ c t. grind (arith, nat_tests);
@@ -53,13 +54,14 @@ asks_calm = record {
   and_ident = λ c e t. grind (arith, nat_tests);
 }
 
--- a row whose tokens are no gaps
+-- A form whose tokens are no trivia.
 abbrev pub NoGap : TokenForm → Type 0
 NoGap Whitespace = ⊥
 NoGap LineComment = ⊥
 NoGap BlockComment = ⊥
 NoGap _ = ⊤
 
+-- A lexeme that is no trivia has such a form.
 no_gap : (strings : Strings) (s : TokenForm) (u : List ℕ)
     → is_trivia (lexeme_of_form strings s u).kind ≡ false → NoGap s
 no_gap strings Whitespace u t = absurd (false≢true (sym t))
@@ -75,7 +77,7 @@ no_gap strings Fraction u t = tt
 no_gap strings Psql u t = tt
 no_gap strings Symbol u t = tt
 
--- the row by the first character, and by four tests of the first two
+-- The form by the first character and by four tests of the first two.
 abbrev form_from : ℕ → Bool → Bool → Bool → Bool → TokenForm
 form_from c line_end block dots point =
     cond (is_whitespace c) Whitespace
@@ -90,20 +92,21 @@ form_from c line_end block dots point =
     (cond point Fraction
     (cond (eqb c 92) Psql Symbol))))))))))
 
+-- `token_form` in these terms.
 pub form_is : (c d : ℕ) → token_form c d
     ≡ form_from c (eqb c 45 && eqb d 45) (eqb c 47 && eqb d 42) (eqb c 46 && eqb d 46) (eqb c 46
     && is_digit d)
 unfolding token_form
 form_is c d = refl
 
+-- Two `-` begin a line comment.
 line_form : (c d : ℕ) → (eqb c 45 && eqb d 45) ≡ true → token_form c d ≡ LineComment
 unfolding token_form
 line_form c d t =
     let white : is_whitespace c ≡ false = grind (arith, nat_tests) in
     rw (white, t) refl
 
--- where a gap begins at the second character, and none at the first, the first alone decides the
--- row
+-- Before a gap, the first character alone decides a form that is no trivia.
 form_before : (c d : ℕ) → is_gap_start d ≡ true → NoGap (token_form c d)
     → token_form c d ≡ form_from c false false false false
 form_before c d t n =
@@ -115,7 +118,9 @@ form_before c d t n =
     let point : (eqb c 46 && is_digit d) ≡ false = grind (arith, nat_tests) in
     form_is c d ∙ rw (line_end, block, dots, point) refl
 
-form_before_white : (c g : ℕ) → is_whitespace g ≡ true → token_form c g ≡ form_from c false false false false
+-- Before white space, the first character alone decides the form.
+form_before_white : (c g : ℕ) → is_whitespace g ≡ true
+    → token_form c g ≡ form_from c false false false false
 form_before_white c g t =
     let line_end : (eqb c 45 && eqb g 45) ≡ false = grind (arith, nat_tests) in
     let block : (eqb c 47 && eqb g 42) ≡ false = grind (arith, nat_tests) in
@@ -123,10 +128,11 @@ form_before_white c g t =
     let point : (eqb c 46 && is_digit g) ≡ false = grind (arith, nat_tests) in
     form_is c g ∙ rw (line_end, block, dots, point) refl
 
--- a command ends with the text, or before LF, CR or a backslash
+-- The text ends at index n, or a line end or a backslash is there.
 abbrev Stops : List ℕ → ℕ → Type 0
 Stops u n = n < length u → ends_arguments (get_or u n 0) ≡ true
 
+-- A psql command ends so: each of its possible ends, and the one that is chosen.
 either_stops : (b : Bool) (u : List ℕ) (x y : ℕ) → Stops u x → Stops u y → Stops u (cond b x y)
 either_stops true u x y p q = p
 either_stops false u x y p q = q
@@ -171,13 +177,15 @@ command_stops u =
     (either_stops (eqb (get_or u p 0) 124) u (line_end u p) (arguments_end u p) (line_stops u p)
     (args_stop u p)) (args_stop u w))
 
--- the test says the same of LF and CR
+-- A test that says the same of LF (10) and CR (13).
 abbrev OfLineEnds : (ℕ → Bool) → Type 0
 OfLineEnds p = p 13 ≡ p 10
 
+-- No pair of tests.
 abbrev NoPair : (ℕ → Bool) → (ℕ → Bool) → Type 0
 NoPair p q = ⊥
 
+-- The tests of a psql command are such.
 asks_psql : AsksPsql OfLineEnds
 asks_psql = record {
   line_end = refl;
@@ -195,6 +203,7 @@ asks_psql = record {
         let right : eqb 10 x ≡ false = grind (arith, nat_tests) in
         left ∙ sym right
 
+-- Such a test says the same of LF and any line end.
 of_line_ends : (p : ℕ → Bool) → OfLineEnds p → (c : ℕ) → is_line_end c ≡ true → p 10 ≡ p c
 of_line_ends p same c t = elim (cases_eq c 10) [
   | inl is ↦ ap p (sym is)
@@ -202,7 +211,7 @@ of_line_ends p same c t = elim (cases_eq c 10) [
       ∙ ap p (let other : 13 ≡ c = grind (arith, nat_tests) in other)
 ]
 
--- before LF or CR, a command stays before LF
+-- A psql command before a line end stays the same before LF.
 command_stays : (u v : List ℕ) → IsOn (psql u).end 10 u v
     → is_line_end (get_or u (psql u).end 0) ≡ true → psql v ≡ psql u
 command_stays u v on t = psql_same asks_psql (psql u).end u v a (omega arith)
@@ -219,7 +228,7 @@ command_stays u v on t = psql_same asks_psql (psql u).end u v a (omega arith)
       };
     }
 
--- two characters that begin no command
+-- A token that begins with a backslash stays the same, whichever gap follows it.
 pair_stays : (u v : List ℕ) (b c d : Bool) → eqb (get_or u 1 0) 92 ≡ b → eqb (get_or u 1 0) 59 ≡ c
     → eqb (get_or u 1 0) 58 ≡ d → (g : ℕ) → IsOn (psql u).end g u v
     → begins_gap (drop (psql u).end u) ≡ true
@@ -245,6 +254,7 @@ pair_stays u v false false false e f h g on t crlf =
     let line_end : is_line_end (get_or u (psql u).end 0) ≡ true = grind (arith, nat_tests) in
     command_stays u v (subst (λ n. IsOn (psql u).end n u v) (crlf line_end) on) line_end
 
+-- The law, by the form of the token.
 pub tokens_stay : TokensStay
 tokens_stay strings s u g rest t gap white crlf = by (s && eqb (get_or u 0 0) byte_order_mark) refl
   where

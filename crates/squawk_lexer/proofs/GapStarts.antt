@@ -34,6 +34,7 @@ use Rattle.squawk_lexer.proofs.GapLaws.{NoGap, form_is}
 
 -- ---- what begins a gap
 
+-- Symbols and psql commands are no trivia.
 symbol_plain : (c : ℕ) → is_trivia (symbol c) ≡ false
 unfolding symbol
 symbol_plain c = grind (arith, nat_tests)
@@ -46,6 +47,7 @@ psql_plain u =
     (lexeme_until (kinds.PsqlCommand (is_among query_ending_words (command_word u)))
     (command_end u)) refl (command_plain (is_among query_ending_words (command_word u)))))
 
+-- Only white space and comments are trivia.
 form_plain : (strings : Strings) (s : TokenForm) (u : List ℕ) → NoGap s
     → is_trivia (lexeme_of_form strings s u).kind ≡ false
 form_plain strings Whitespace u n = absurd n
@@ -62,6 +64,7 @@ form_plain strings Fraction u n = (fractional_other u 1).plain
 form_plain strings Psql u n = psql_plain u
 form_plain strings Symbol u n = symbol_plain (get_or u 0 0)
 
+-- A disjunction holds where either part does.
 or_first : (a b : Bool) → a ≡ true → (a || b) ≡ true
 or_first a b e = rw e refl
 
@@ -69,6 +72,7 @@ or_second : (a b : Bool) → b ≡ true → (a || b) ≡ true
 or_second true b e = refl
 or_second false b e = e
 
+-- A text that begins with no gap has another form.
 no_gap_form : (c d : ℕ) (s : TokenForm) → s ≡ token_form c d → is_gap c d ≡ false → NoGap s
 no_gap_form c d Whitespace e t = let fits : is_whitespace c ≡ true = form_fits Whitespace c d e in
     absurd (false≢true (sym t ∙ rw fits refl))
@@ -89,7 +93,7 @@ no_gap_form c d Fraction e t = tt
 no_gap_form c d Psql e t = tt
 no_gap_form c d Symbol e t = tt
 
--- a row whose tokens are gaps
+-- The first token of a text that begins with a gap is trivia.
 gap_form : (strings : Strings) (u : List ℕ) → begins_gap u ≡ true
     → is_trivia (lexeme_of strings u).kind ≡ true
 gap_form strings u t = by (is_whitespace c) (eqb c 45 && eqb d 45) (eqb c 47
@@ -112,6 +116,7 @@ gap_form strings u t = by (is_whitespace c) (eqb c 45 && eqb d 45) (eqb c 47
     by false false true e f g = kind BlockComment (form_is c d ∙ rw (e, f, g) refl) refl
     by false false false e f g = absurd (false≢true (sym (rw (e, f, g) refl) ∙ t))
 
+-- The law.
 pub gaps_are_seen : GapsAreSeen
 gaps_are_seen strings u = by (begins_gap u) refl
   where

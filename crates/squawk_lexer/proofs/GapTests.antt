@@ -32,47 +32,53 @@ use Rattle.squawk_lexer.proofs.AheadTokens.{AsksOf, Any, first_form, form_same, 
 
 -- ---- what a gap begins with
 
--- white, `-` (45) or `/` (47)
+-- Whether c may begin a gap: white space, `-` (45) or `/` (47).
 abbrev pub is_gap_start : ℕ → Bool
 is_gap_start c = is_whitespace c || (eqb c 45 || eqb c 47)
 
+-- A gap begins with such a character.
 gap_start : (u : List ℕ) → begins_gap u ≡ true → is_gap_start (get_or u 0 0) ≡ true
 gap_start u t = grind (arith, nat_tests)
 
+-- What replaces a gap is white space,
 pub gap_white : (g : ℕ) → IsGap g → is_whitespace g ≡ true
 gap_white g (inl e) = rw e refl
 gap_white g (inr e) = rw e refl
 
+-- which may begin a gap.
 pub white_start : (g : ℕ) → is_whitespace g ≡ true → is_gap_start g ≡ true
 white_start g t = rw t refl
 
--- the test says the same of all such characters
+-- A test that says the same of all characters that may begin a gap.
 abbrev pub Calm : (ℕ → Bool) → Type 0
 Calm p = (c : ℕ) → is_gap_start c ≡ true → p c ≡ p 10
 
--- white, `--` or `/*` (42)
+-- Whether c and e begin a gap: white space, `--` or `/*` (42).
 abbrev pub is_gap : ℕ → ℕ → Bool
 is_gap c e = is_whitespace c || ((eqb c 45 && eqb e 45) || (eqb c 47 && eqb e 42))
 
+-- White space begins a gap.
 pub white_gap : (g e : ℕ) → is_whitespace g ≡ true → is_gap g e ≡ true
 white_gap g e t = rw t refl
 
--- the test of two characters passes at no gap
+-- A pair of tests that no two characters that begin a gap pass.
 abbrev pub CalmPair : (ℕ → Bool) → (ℕ → Bool) → Type 0
 CalmPair p q = (c e : ℕ) → is_gap c e ≡ true → (p c && q e) ≡ false
 
+-- The test for two letters is calm.
 pub calm_letters : (x y : ℕ) → 65 ≤ x → 65 ≤ y → Calm (λ c. eqb c x || eqb c y)
 calm_letters x y p q c t =
     let here : (eqb c x || eqb c y) ≡ false = grind (arith, nat_tests) in
     let there : (eqb 10 x || eqb 10 y) ≡ false = grind (arith, nat_tests) in
     here ∙ sym there
 
--- ---- behind one more character
+-- ---- after one more character
 
--- the first test may be any, since the first character is the same
+-- A pair of tests whose second one is calm. The first character is the same in both texts.
 abbrev Second : (ℕ → Bool) → (ℕ → Bool) → Type 0
 Second p q = Calm q
 
+-- The tests of words and numbers are such,
 asks_second : Asks Any Second
 asks_second = record {
   id_start = tt;
@@ -93,6 +99,7 @@ asks_second = record {
   and_ident = λ c t. grind (arith, nat_tests);
 }
 
+-- and so are those of every form.
 asks_of_second : (s : TokenForm) → AsksOf Any Second s
 asks_of_second Whitespace = tt
 asks_of_second LineComment = tt
@@ -115,13 +122,14 @@ asks_of_second Dollar = asks_second
 asks_of_second Number = asks_second
 asks_of_second Fraction = asks_second
 
--- a text that goes on with g behind its first n characters
+-- v begins with the first n characters of u, and goes on with g.
 pub record IsOn (n g : ℕ) (u v : List ℕ) : Type 0 where
   pub within : n < length u
   pub right : n < length v
   pub same : take n v ≡ take n u
   pub at : get_or v n 0 ≡ g
 
+-- A text whose end after n characters is replaced is such.
 pub put : (n g : ℕ) (rest u : List ℕ) → n < length u → IsOn n g u (take n u ++ g ∷ rest)
 put n g rest u h =
     let len : length (take n u) ≡ n = length-take-le n u (omega arith) in
@@ -134,6 +142,7 @@ put n g rest u h =
           ∙ get_or-append_seam (take n u) g rest 0;
     }
 
+-- A gap begins within the text.
 pub gap_within : (n : ℕ) (u : List ℕ) → begins_gap (drop n u) ≡ true → n < length u
 gap_within n u t =
     let first : is_gap_start (get_or (drop n u) 0 0) ≡ true = gap_start (drop n u) t in
@@ -141,6 +150,7 @@ gap_within n u t =
     let more : 0 < length (drop n u) = within_read (drop n u) 0 some in
     omega (arith, length-drop n u)
 
+-- The characters before index n are the same.
 pub on_read : (n g : ℕ) (u v : List ℕ) (j : ℕ) → IsOn n g u v → j < n → get_or v j 0 ≡ get_or u j 0
 on_read n g u v j on h = agrees_read n u v j (record {
   within = let w : n < length u = on.within in
@@ -148,8 +158,9 @@ on_read n g u v j on h = agrees_read n u v j (record {
   same = on.same;
 }) h
 
--- what stands at a gap
-pub gap_at : (n : ℕ) (u : List ℕ) → begins_gap (drop n u) ≡ true → is_gap_start (get_or u n 0) ≡ true
+-- The first character of a gap, and the first two.
+pub gap_at : (n : ℕ) (u : List ℕ) → begins_gap (drop n u) ≡ true
+    → is_gap_start (get_or u n 0) ≡ true
 gap_at n u t = sym (ap is_gap_start (get_or-drop n u 0 0 ∙ ap (λ m. get_or u m 0) (omega arith)))
     ∙ gap_start (drop n u) t
 
@@ -161,6 +172,7 @@ gap_pair n u t =
     ∙ ap (is_gap (get_or (drop n u) 0 0)) (after n u ∙ sym (get_or-drop n u 1 0))
     ∙ t
 
+-- A token stays the same where the gap begins one character after its end.
 pub tokens_stay_before : TokensStayBefore
 tokens_stay_before strings s u g rest t gap =
     lexeme_same strings s k u v a rows (asks_of_second (first_form u)) refl

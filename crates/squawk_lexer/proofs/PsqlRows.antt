@@ -1,4 +1,5 @@
--- Worked rows of psql commands, computed by their definition.
+-- Worked examples of psql commands, computed by their definition. Each name says what the text
+-- shows.
 use Rattle.std.proofs.Common.{◌≡◌, true, false, refl, codes}
 use Rattle.squawk_lexer.specs.Kind.{lexeme_until}
 use Rattle.squawk_lexer.specs.declared.token.TokenKind.TheVariants.{PsqlCommand, Semi, Colon}

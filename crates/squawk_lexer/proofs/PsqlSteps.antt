@@ -1,4 +1,4 @@
--- Steps within the arguments of a psql command.
+-- Steps of the functions that read the arguments of a psql command.
 use Rattle.std.proofs.Common.{◌≡◌, ℕ, zero, suc, ◌+◌, ◌-◌, ◌<◌, ◌≤◌, Bool, true, false, List, [], ◌∷◌, length, length-drop, take, drop, get_or, slice_get, Option, None, Some, refl, sym, ap, ◌∙◌, inl, inr, ◌⊎◌, ◌&&◌, not, eqb, eq-eqb, arith, unwrap_or, is_some, option_map, cond}
 use Rattle.std.specs.List.{prefix_len, last_or}
 use Rattle.std.proofs.lemmas.Bool.Decides.{nat_tests}
@@ -17,13 +17,16 @@ use Rattle.squawk_lexer.proofs.DelimiterSearch.{fewer_bytes}
 use Rattle.squawk_lexer.specs.PsqlParts.{is_quote, is_escape_pair, close_len, quote_len, last_inside, ends_arguments, part_rest, arguments_len, arguments_end, mark_after, is_parenthesis, marked_len, marked_len_at}
 use Rattle.squawk_lexer.proofs.Steps.{drop_some, drop_none, drop_read, drop_past, within_some, within_read, after_some, after_none, after_within, after_past, after_on, ne_eqb, run_more, run_stop, run_at_end}
 
--- ---- a quote, whose opening stands before the place
+-- ---- a quote, from an index inside it
 
+-- A length found n characters later ends at the same index.
 further : (o : Option ℕ) (i n : ℕ) → option_map (λ m. i + m) (option_map (λ m. m + n) o)
     ≡ option_map (λ m. i + n + m) o
 further None i n = refl
 further (Some m) i n = ap Some (omega arith)
 
+-- A single character, and an escape pair, change neither the end of the quote nor that of the
+-- line.
 pub quote_plain : (q : ℕ) (u : List ℕ) (i c : ℕ) → Some c ≡ slice_get u i → is_line_end c ≡ false
     → (c ≡ q → ⊥) → is_escape_pair q c (get_or u (position_after u i) 0) ≡ false
     → (close_end q u i ≡ close_end q u (position_after u i))
@@ -82,6 +85,7 @@ quote_pair q u i c s plain other pair = by (cases_lt (i + 1) (length u))
     by (inr h) = rw (b, after_past u (i + 1) h)
         ((rw (drop_some u i c s, drop_past u (i + 1) h, ne_eqb c q other) refl), sym on)
 
+-- The quote closes with its own character.
 pub quote_close : (q : ℕ) (u : List ℕ) (i c : ℕ) → Some c ≡ slice_get u i → is_line_end c ≡ false
     → c ≡ q → close_end q u i ≡ Some (position_after u i)
 quote_close q u i c s plain same = rw (after_some u i c s, drop_some u i c s) (at (drop (i + 1) u))
@@ -90,9 +94,11 @@ quote_close q u i c s plain same = rw (after_some u i c s, drop_some u i c s) (a
     at [] = rw (eq-eqb c q same) refl
     at (d ∷ r) = rw (plain, eq-eqb c q same) refl
 
+-- A line end is no quote.
 quote_is_plain : (q c : ℕ) → is_quote q ≡ true → is_line_end c ≡ true → eqb c q ≡ false
 quote_is_plain q c h e = grind (arith, nat_tests)
 
+-- A line end, and the end of the text, leave the quote open.
 pub quote_stop : (q : ℕ) (u : List ℕ) (i c : ℕ) → is_quote q ≡ true → Some c ≡ slice_get u i
     → is_line_end c ≡ true → (close_end q u i ≡ None) × (line_end u i ≡ i)
 quote_stop q u i c quote s ends =
@@ -106,7 +112,7 @@ pub quote_none : (q : ℕ) (u : List ℕ) (i : ℕ) → None ≡ slice_get u i �
     × (line_end u i ≡ i)
 quote_none q u i s = (rw (drop_none u i s) refl, run_at_end is_not_line_end u i s)
 
--- the end of a quote, and the last character in it
+-- The end of a closed quote and the last character before it, and the end of an unclosed one.
 pub closed : (q : ℕ) (u : List ℕ) (i j : ℕ) → close_end q u i ≡ Some (j + 1)
     → (i + quote_len q (drop i u) ≡ j + 1)
     × (last_inside (drop i u) (close_len q (drop i u)) ≡ last_before u i j)
@@ -131,7 +137,7 @@ unclosed q u i j e l = by (close_len q (drop i u)) e
     by None e = (l, refl)
     by (Some n) e = absurd (cc)
 
--- the last of the first k + 1 characters is the one at k
+-- The last of the first k + 1 characters is the one at k.
 take_last : (o : Option ℕ) (v : List ℕ) (k : ℕ) → k < length v
     → last_or o (take (k + 1) v) ≡ slice_get v k
 take_last o [] k h = absurd (omega arith)
@@ -139,17 +145,20 @@ take_last o (x ∷ v) zero h = refl
 take_last o (x ∷ v) (suc k) h = let next : suc k + 1 ≡ suc (k + 1) = omega arith in
     rw next (take_last (Some x) v k (omega arith))
 
+-- A character of what is left is one of the text.
 read_on : (u : List ℕ) (i k : ℕ) → slice_get (drop i u) k ≡ slice_get u (i + k)
 read_on u zero k = let none : 0 + k ≡ k = omega arith in rw none refl
 read_on [] (suc i) k = refl
 read_on (x ∷ u) (suc i) k = let next : suc i + k ≡ suc (i + k) = omega arith in
     rw next (read_on u i k)
 
+-- No character is between equal indexes.
 pub last_none : (u : List ℕ) (i : ℕ) → None ≡ last_before u i i
 last_none u i = let none : i - i ≡ 0 = omega arith in rw none refl
 
--- ---- the same in the loop over a quote that begins at i of u: its place is j of v, the same text
+-- ---- the loop over a quote from index i of u, at index j of v, which is the same text
 
+-- The loop returns at the closing quote.
 pub quote_closed : (q : ℕ) (u : List ℕ) (i : ℕ) (v : List ℕ) (j c : ℕ) → v ≡ u
     → close_end q v j ≡ close_end q u i → Some c ≡ slice_get v j → is_line_end c ≡ false → c ≡ q
     → (position_after v j ≡ i + quote_len q (drop i u))
@@ -163,6 +172,7 @@ quote_closed q u i v j c same inv s plain is_q =
 
 -- ---- the search for the next piece that matters
 
+-- A character before the stop is a piece by itself, and does not close the quote.
 no_pair : (q c d : ℕ) → is_neither_on_line q (cond (eqb q 39) 92 q) c ≡ true
     → (is_line_end c ≡ false) × (c ≡ q → ⊥) × (is_escape_pair q c d ≡ false)
 no_pair q c d t = by (cases_eq q 39)
@@ -192,6 +202,7 @@ no_pair q c d t = by (cases_eq q 39)
         none false = refl
     by (inr n) = (plain, (other_not q (cond (eqb q 39) 92 q) c others).0, rw (ne_eqb q 39 n) refl)
 
+-- One such character is skipped.
 passed_one : (q : ℕ) (u : List ℕ) (i c : ℕ) → Some c ≡ slice_get u i
     → is_neither_on_line q (cond (eqb q 39) 92 q) c ≡ true
     → (close_end q u i ≡ close_end q u (i + 1)) × (line_end u i ≡ line_end u (i + 1))
@@ -199,6 +210,7 @@ passed_one q u i c s t =
     let (plain, other, single) = no_pair q c (get_or u (position_after u i) 0) t in
     rw (← after_some u i c s) (quote_plain q u i c s plain other single)
 
+-- All characters up to the stop are skipped.
 pub quote_passed : (q : ℕ) (u : List ℕ) (i : ℕ)
     → (close_end q u i ≡ close_end q u (piece_stop q u i))
     × (line_end u i ≡ line_end u (piece_stop q u i))
@@ -210,27 +222,29 @@ quote_passed q u i = (
       (passed_one q u k c s t).1) i,
 )
 
+-- The stop is at or after i.
 pub passed_on : (q : ℕ) (u : List ℕ) (i : ℕ) → i ≤ piece_stop q u i
 passed_on q u i = inside_on q (cond (eqb q 39) 92 q) u i
 
--- past a piece, from k on to the next stop, with the premises that the loop has: its place is i of
--- u, and j is behind that stop
+-- The quote and its line end where they did, from j of v as from i of u.
 pub record IsPassed (q : ℕ) (u : List ℕ) (i : ℕ) (v : List ℕ) (j : ℕ) : Type 0 where
   pub on : i ≤ j
   pub close : close_end q v j ≡ close_end q u i
   pub line : line_end v j ≡ line_end u i
 
+-- So after the characters up to the stop.
 pub passed : (q : ℕ) (u : List ℕ) (i : ℕ) (v : List ℕ) (j : ℕ) → v ≡ u → j ≡ piece_stop q u i
     → IsPassed q u i v j
 passed q u i v j same at =
     let p = quote_passed q u i in
     rw (same, at) (record { on = passed_on q u i; close = sym p.0; line = sym p.1 })
 
+-- The loop gets nearer to the end of the text.
 pub smaller : (u v : List ℕ) (i k j : ℕ) → v ≡ u → i < k → k ≤ j → i < length u
     → length v - j < length u - i
 smaller u v i k j same on more within = rw same (omega arith)
 
--- a piece at i, with the premises that the code has
+-- Skipping one piece: an escape pair, or a single character.
 pub piece_two : (q : ℕ) (u : List ℕ) (i : ℕ) → i < length u → is_line_end (get_or u i 0) ≡ false
     → (get_or u i 0 ≡ q → ⊥) → is_escape_pair q (get_or u i 0) (get_or u (position_after u i) 0)
     ≡ true
@@ -245,7 +259,7 @@ pub piece_one : (q : ℕ) (u : List ℕ) (i : ℕ) → i < length u → is_line_
 piece_one q u i h plain other single =
     sym (quote_plain q u i (get_or u i 0) (some_read u i h) plain other single).0
 
--- the last character since a place, with the premises that the code has
+-- The last character between two offsets that are equal, and between two that are not.
 pub last_here : (u : List ℕ) (j i n m : ℕ) → j ≤ length u → i ≤ j → n ≡ utf8_len (take j u)
     → m ≡ utf8_len (take i u) → n ≡ m → None ≡ last_before u i j
 last_here u j i n m within on here start same = by (cases_lt i j)
@@ -275,12 +289,15 @@ pub ruleset quote_steps = (quote_stop, quote_none, unclosed, last_none)
 
 -- ---- the arguments
 
+-- The characters inside a part are only skipped.
 args_inside : (k : ℕ) (cs : List ℕ) → k ≤ length cs
     → arguments_len k cs ≡ k + arguments_len 0 (drop k cs)
 args_inside zero cs h = omega arith
 args_inside (suc k) [] h = absurd (omega arith)
 args_inside (suc k) (c ∷ cs) h = omega (arith, args_inside k cs (omega arith))
 
+-- The end of the arguments: from a part, at a character that ends them, and at the end of the
+-- text.
 pub args_part : (u : List ℕ) (i c : ℕ) → Some c ≡ slice_get u i → ends_arguments c ≡ false
     → arguments_end u i ≡ arguments_end u (i + 1 + part_rest c (drop (i + 1) u))
 args_part u i c s more =
@@ -298,7 +315,7 @@ args_stop u i c s ends = rw (drop_some u i c s, ends) (omega arith)
 pub args_none : (u : List ℕ) (i : ℕ) → None ≡ slice_get u i → arguments_end u i ≡ i
 args_none u i s = rw (drop_none u i s) (omega arith)
 
--- behind a quote, from behind its opening at i
+-- The end of a part that is a quote.
 pub part_quote : (u : List ℕ) (i c : ℕ) (v : List ℕ) (j k : ℕ) → Some c ≡ slice_get u i
     → is_quote c ≡ true → v ≡ u → j ≡ position_after u i → k ≡ j + quote_len c (drop j v)
     → k ≡ i + 1 + part_rest c (drop (i + 1) u)
@@ -310,9 +327,11 @@ pub ruleset args_steps = (args_part, args_stop, args_none, within_some)
 
 -- ---- the first argument whose mark is `)`
 
+-- The index at which the first marked argument ends, from index i on.
 abbrev pub marked_end : Option ℕ → List ℕ → ℕ → Option ℕ
 marked_end mark u i = option_map (λ n. i + n) (marked_len 0 mark (drop i u))
 
+-- Lengths that are found further on.
 map_on : (o : Option ℕ) (k : ℕ) → option_map (λ n. n + 1) (option_map (λ n. k + n) o)
     ≡ option_map (λ n. suc k + n) o
 map_on None k = refl
@@ -322,11 +341,13 @@ map_none : (o : Option ℕ) → o ≡ option_map (λ n. 0 + n) o
 map_none None = refl
 map_none (Some m) = ap Some (omega arith)
 
-map_past : (o : Option ℕ) (i k : ℕ) → option_map (λ n.
-    i + n) (option_map (λ n. n + 1) (option_map (λ n. k + n) o)) ≡ option_map (λ n. i + 1 + k + n) o
+map_past : (o : Option ℕ) (i k : ℕ)
+    → option_map (λ n. i + n) (option_map (λ n. n + 1) (option_map (λ n. k + n) o))
+    ≡ option_map (λ n. i + 1 + k + n) o
 map_past None i k = refl
 map_past (Some m) i k = ap Some (omega arith)
 
+-- The characters inside a part are only skipped.
 marked_inside : (k : ℕ) (mark : Option ℕ) (cs : List ℕ) → k ≤ length cs
     → marked_len k mark cs ≡ option_map (λ n. k + n) (marked_len 0 mark (drop k cs))
 marked_inside zero mark cs h = map_none (marked_len 0 mark cs)
@@ -335,9 +356,9 @@ marked_inside (suc k) mark (c ∷ cs) h =
     ap (option_map (λ n. n + 1)) (marked_inside k mark cs (omega arith))
     ∙ map_on (marked_len 0 mark (drop k cs)) k
 
+-- The end of the first marked argument, from a part of an argument.
 pub marked_part : (mark : Option ℕ) (u : List ℕ) (i c : ℕ) → Some c ≡ slice_get u i
-    → ends_arguments c ≡ false → is_blank c ≡ false
-    → marked_end mark u i
+    → ends_arguments c ≡ false → is_blank c ≡ false → marked_end mark u i
     ≡ marked_end (mark_after mark c (drop (i + 1) u)) u (i + 1 + part_rest c (drop (i + 1) u))
 marked_part mark u i c s more no_blank =
     let p = part_rest c (drop (i + 1) u) in
@@ -349,9 +370,11 @@ marked_part mark u i c s more no_blank =
     option_map (λ n. i + n) (option_map (λ n. n + 1) o)) rest
     ∙ map_past (marked_len 0 m (drop (i + 1 + p) u)) i p)
 
+-- A blank is no quote.
 pub blank_is_plain : (c : ℕ) → is_blank c ≡ true → is_quote c ≡ false
 blank_is_plain c e = grind (arith, nat_tests)
 
+-- A blank ends an argument: with another mark, and with the mark.
 pub marked_blank : (mark : Option ℕ) (u : List ℕ) (i c : ℕ) → Some c ≡ slice_get u i
     → ends_arguments c ≡ false → is_blank c ≡ true → is_parenthesis mark ≡ false
     → (marked_end mark u i ≡ marked_end None u (position_after u i))
@@ -375,7 +398,7 @@ pub marked_found : (mark : Option ℕ) (u : List ℕ) (i c : ℕ) → Some c ≡
 marked_found mark u i c s more blank found =
     rw (drop_some u i c s, more, blank, found) (ap Some (omega arith))
 
--- where the arguments end, that at hand may have the mark
+-- Where the arguments end, the last one may have the mark.
 pub marked_stop : (mark : Option ℕ) (u : List ℕ) (i c : ℕ) → Some c ≡ slice_get u i
     → ends_arguments c ≡ true
     → (marked_end mark u i ≡ cond (is_parenthesis mark) (Some i) None) × (arguments_end u i ≡ i)
@@ -396,7 +419,7 @@ marked_none mark u i s = ((rw (drop_none u i s) (last (is_parenthesis mark) i)),
     last true i = ap Some (omega arith)
     last false i = refl
 
--- what the end says of the length
+-- The end of the options, by what was found.
 pub marked_at : (u : List ℕ) (i : ℕ) (o : Option ℕ) → marked_end None u i ≡ o
     → (i + unwrap_or (marked_len_at u i) (arguments_len 0 (drop i u))
     ≡ unwrap_or o (arguments_end u i)) × (is_some (marked_len_at u i) ≡ is_some o)
@@ -420,7 +443,7 @@ marked_last mark u i j e ends = by (is_parenthesis mark) e
     by true e = let m = marked_at u i (Some j) e in (m.0, m.1)
     by false e = let m = marked_at u i None e in (m.0 ∙ ends, m.1)
 
--- the same in the loop from i of u on, at the place j of v, the same text
+-- The same in the loop from index i of u, at index j of v, which is the same text.
 pub marked_returns : (mark : Option ℕ) (u : List ℕ) (i : ℕ) (v : List ℕ) (j : ℕ)
     → arguments_end v j ≡ arguments_end u i → marked_end mark v j ≡ marked_end None u i
     → (marked_end mark v j ≡ cond (is_parenthesis mark) (Some j) None) × (arguments_end v j ≡ j)

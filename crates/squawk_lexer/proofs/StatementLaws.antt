@@ -1,4 +1,4 @@
--- Behind a `;` a text is cut by itself.
+-- After a semicolon a text is cut by itself.
 use Rattle.std.proofs.Common.{◌≡◌, ℕ, zero, suc, ◌+◌, ◌<◌, ◌≤◌, Bool, true, false, List, [], ◌∷◌, ◌++◌, length, get_or, drop, length-drop, length-append, refl, sym, ap, subst, ◌∙◌, inl, inr, ◌⊎◌, ◌&&◌, eqb, cond, arith}
 use Rattle.std.proofs.lemmas.Bool.{cases_lt, cases_eq, false≢true}
 use Rattle.std.proofs.lemmas.Bool.Decides.{nat_tests}
@@ -26,15 +26,17 @@ use Rattle.squawk_lexer.proofs.Steps.{within_read, and_false}
 use Rattle.squawk_lexer.proofs.FormSteps.{begin_psql}
 use Rattle.squawk_lexer.proofs.AheadTokens.{token_from, lexeme_next}
 
--- ---- what a token that is a `;` begins with: `;` (59), or a backslash (92) and `;`
+-- ---- what a semicolon begins with
 
+-- The text begins with `;` (59), or with a backslash (92) and `;`.
 abbrev BeginsSemi : List ℕ → Type 0
 BeginsSemi u = (get_or u 0 0 ≡ 59) ⊎ ((get_or u 0 0 ≡ 92) × (get_or u 1 0 ≡ 59))
 
--- of a row that another kind is of
+-- A lexeme of another kind is no semicolon.
 unlike : (x : Lexeme) (A : Type 0) → IsOther x → x.kind ≡ kinds.Semi → A
 unlike x A n e = absurd (false≢true (sym n.other ∙ ap is_semi e))
 
+-- What a semicolon begins with: as a symbol, as a token of psql, of any form, and of any text.
 symbol_semi : (c : ℕ) → symbol c ≡ kinds.Semi → c ≡ 59
 symbol_semi c e =
     elim (cases_eq c 59) [
@@ -92,7 +94,7 @@ lexeme_semi strings s u e = by (s && eqb (get_or u 0 0) byte_order_mark) e
     by true e = absurd (cc)
     by false e = form_semi strings (token_form (get_or u 0 0) (get_or u 1 0)) u refl e
 
--- and what such a text begins with
+-- A text that begins so has a semicolon as its first token.
 semi_one : (strings : Strings) (s : Bool) (u : List ℕ) → get_or u 0 0 ≡ 59
     → lexeme_at strings s u ≡ lexeme_until kinds.Semi 1
 unfolding token_form symbol
@@ -103,7 +105,7 @@ semi_two : (strings : Strings) (s : Bool) (u : List ℕ) → get_or u 0 0 ≡ 92
 unfolding token_form
 semi_two strings s u e f = rw (e, f, and_false s) refl
 
--- so what follows changes nothing
+-- What follows does not change that.
 semi_same : (strings : Strings) (s : Bool) (a b : List ℕ) → 1 ≤ length a
     → (lexeme_at strings s a).kind ≡ kinds.Semi
     → lexeme_at strings s (a ++ b) ≡ lexeme_at strings s a
@@ -120,15 +122,17 @@ semi_same strings s a b some e = by (lexeme_semi strings s a e)
 
 -- ---- tokens
 
+-- The last token of a list is the last one after its first.
 more_semi : (t : Token) (ts : List Token) → 1 ≤ length ts → EndsWithSemi (t ∷ ts) → EndsWithSemi ts
 more_semi t [] h e = absurd (omega arith)
 more_semi t (x ∷ ts) h e = e
 
--- the tokens of a text that is not empty, where its first token stays with what follows
+-- The tokens of a and b together are those of a, then those of b by itself.
 abbrev Stands : Strings → Bool → List ℕ → List ℕ → Type 0
 Stands strings s a b = tokens_from strings 0 s (a ++ b)
     ≡ tokens_from strings 0 s a ++ tokens_from strings 0 false b
 
+-- This holds where it holds after the first token, and that token stays the same.
 first_stays : (strings : Strings) (s : Bool) (a b : List ℕ) → 1 ≤ length a
     → lexeme_at strings s (a ++ b) ≡ lexeme_at strings s a
     → Stands strings false (drop (lexeme_at strings s a).end a) b → Stands strings s a b
@@ -151,11 +155,12 @@ first_stays strings s a b some same more =
     ∙ ap (λ ts. token_at strings s a ∷ ts) more
     ∙ sym (ap (λ ts. ts ++ tokens_from strings 0 false b) (tokens_first strings s a some))
 
+-- It holds of an empty text.
 none_stands : (strings : Strings) (w b : List ℕ) → length w ≡ 0 → Stands strings false w b
 none_stands strings [] b h = refl
 none_stands strings (c ∷ cs) b h = absurd (omega arith)
 
--- the only character of a text that is a `;`
+-- A text of one character whose last token is a semicolon is `;`.
 lone_semi : (strings : Strings) (w : List ℕ) → length w ≡ 1
     → EndsWithSemi (tokens_from strings 0 false w) → get_or w 0 0 ≡ 59
 lone_semi strings [] h e = absurd e
@@ -166,13 +171,16 @@ lone_semi strings (c ∷ []) h e = by (lexeme_semi strings false (c ∷ []) e)
     by (inl first) = first
     by (inr (first, second)) = absurd (omega arith)
 
+-- A text with another one after it agrees with it.
 longer : (n : ℕ) (a b : List ℕ) → n ≤ length a → Agrees n a (a ++ b)
 longer n a b h = record { within = h; same = take-append-le n a b h }
 
+-- A text that is not empty has a token.
 some_tokens : (strings : Strings) (w : List ℕ) → 1 ≤ length w
     → 1 ≤ length (tokens_from strings 0 false w)
 some_tokens strings w h = let e = ap length (tokens_first strings false w h) in omega (arith, e)
 
+-- The law, from that of the text after the first token.
 step : (strings : Strings) (s : Bool) (a b : List ℕ) → 1 ≤ length a
     → EndsWithSemi (tokens_from strings 0 s a)
     → (EndsWithSemi (tokens_from strings 0 false (drop (lexeme_at strings s a).end a))
@@ -223,6 +231,7 @@ step strings s a b some e behind = by (cases_lt 0 (length rest))
         ends in
         first_stays strings s a b some (same more e) (behind e)
 
+-- By induction on the number of characters.
 stands : (n : ℕ) (strings : Strings) (s : Bool) (a b : List ℕ) → length a ≤ n
     → EndsWithSemi (tokens_from strings 0 s a) → Stands strings s a b
 stands n strings s [] b h e = absurd e

@@ -1,4 +1,5 @@
--- What holds of every token: it has a character at least, and is no `Eof`.
+-- Every token has at least one character. Which forms have the kinds `Eof`, `Semi`, trivia and
+-- `Unknown`.
 use Rattle.std.proofs.Common.{◌≡◌, ℕ, zero, suc, ◌+◌, ◌<◌, ◌≤◌, Bool, true, false, List, [], ◌∷◌, length, get_or, take, None, refl, sym, ap, ◌∙◌, ◌&&◌, eqb, cond, arith, Option, Some}
 use Rattle.std.proofs.lemmas.Bool.{false≢true}
 use Rattle.std.proofs.lemmas.Bool.Decides.{nat_tests}
@@ -30,6 +31,7 @@ use Rattle.squawk_lexer.specs.Laws.{is_unknown}
 use Rattle.squawk_lexer.proofs.Steps.{drop_read}
 use Rattle.squawk_lexer.proofs.FormSteps.{form_white}
 
+-- The parts of a number end at or after their start.
 pub junk_on : (u : List ℕ) (i : ℕ) → i ≤ junk_end u i
 junk_on u i = by (is_ident_start (get_or u i 0)) refl
   where
@@ -65,13 +67,16 @@ fractional_on u i = by (is_exponent_letter (get_or u (fraction_end u i) 0)) refl
     by true e = rw e (omega (arith, fraction_on u i, with_exponent_on u (fraction_end u i)))
     by false e = rw e (omega (arith, fraction_on u i, junk_on u (fraction_end u i)))
 
+-- Of two lexemes, the chosen one ends at or after n where both do.
 either_on : (b : Bool) (x y : Lexeme) (n : ℕ) → n ≤ x.end → n ≤ y.end → n ≤ (cond b x y).end
 either_on true x y n p q = p
 either_on false x y n p q = q
 
+-- The order is transitive.
 le_on : (a b c : ℕ) → a ≤ b → b ≤ c → a ≤ c
 le_on a b c p q = omega arith
 
+-- Numbers, words and prefixed strings have at least one character.
 pub decimal_on : (u : List ℕ) (a : ℕ) → a ≤ (decimal_from u a).end
 decimal_on u a =
     either_on _ (fractional u (a + 1)) _ a (le_on a (a + 1) _ (omega arith)
@@ -97,11 +102,12 @@ prefix_on UnicodeString u = omega arith
 prefix_on UnicodeIdent u = omega arith
 prefix_on Plain u = omega arith
 
--- of two ends, either is behind n
+-- Of two ends, the chosen one is at or after n where both are.
 later : (b : Bool) (x y n : ℕ) → n ≤ x → n ≤ y → n ≤ cond b x y
 later true x y n p q = p
 later false x y n p q = q
 
+-- The parts of a psql command end at or after their start.
 pub options_on : (u : List ℕ) (i : ℕ) (o : Option ℕ) → i ≤ options_end u i o
 options_on u i None = omega arith
 options_on u i (Some n) = omega arith
@@ -132,6 +138,7 @@ psql_on u =
     (lexeme_until (kinds.PsqlCommand (is_among query_ending_words (command_word u)))
     (command_end u)) 1 (omega arith) (command_on u)))
 
+-- The lexeme of each form has at least one character.
 form_on : (strings : Strings) (s : TokenForm) (u : List ℕ) → 0 < length u
     → s ≡ token_form (get_or u 0 0) (get_or u 1 0) → 1 ≤ (lexeme_of_form strings s u).end
 form_on strings Whitespace u h e =
@@ -150,7 +157,7 @@ form_on strings Fraction u h e = fractional_on u 1
 form_on strings Psql u h e = psql_on u
 form_on strings Symbol u h e = omega arith
 
--- a token has a character
+-- A token has at least one character,
 pub lexeme_at_some : (strings : Strings) (s : Bool) (u : List ℕ) → 0 < length u
     → 0 < (lexeme_at strings s u).end
 lexeme_at_some strings s u h = by (s && eqb (get_or u 0 0) byte_order_mark) refl
@@ -160,7 +167,7 @@ lexeme_at_some strings s u h = by (s && eqb (get_or u 0 0) byte_order_mark) refl
     by true e = rw e (omega arith)
     by false e = rw e (form_on strings (token_form (get_or u 0 0) (get_or u 1 0)) u h refl)
 
--- and a byte
+-- and so at least one byte.
 pub token_positive : (strings : Strings) (s : Bool) (u : List ℕ) → 0 < length u
     → 0 < (token_at strings s u).len
 token_positive strings s u h = some (lexeme_at strings s u).end u (lexeme_at_some strings s u h) h
@@ -170,38 +177,41 @@ token_positive strings s u h = some (lexeme_at strings s u).end u (lexeme_at_som
     some zero (c ∷ cs) p h = absurd (omega arith)
     some (suc n) (c ∷ cs) p h = omega (arith, sum_by-cons len_utf8 c (take n cs), len_utf8_bounds c)
 
--- ---- kinds that few rows give
+-- ---- kinds that few forms have
 
+-- Whether a kind is `Eof`.
 abbrev is_eof : TokenKind → Bool
 is_eof kinds.Eof = true
 is_eof _ = false
 
+-- Whether a kind is `Semi`.
 abbrev pub is_semi : TokenKind → Bool
 is_semi kinds.Semi = true
 is_semi _ = false
 
--- not `Eof`
+-- A lexeme that is not `Eof`.
 record IsReal (x : Lexeme) : Type 0 where
   real : is_eof x.kind ≡ false
 
--- neither `Eof` nor `Semi`, nor trivia, nor `Unknown`
+-- A lexeme that is neither `Eof` nor `Semi`, no trivia, and not `Unknown`.
 pub record IsOther (x : Lexeme) : Type 0 where
   pub real : is_eof x.kind ≡ false
   pub other : is_semi x.kind ≡ false
   pub plain : is_trivia x.kind ≡ false
   pub known : is_unknown x.kind ≡ false
 
--- a command is no gap
+-- A psql command is no trivia.
 pub command_plain : (b : Bool) → is_trivia (kinds.PsqlCommand b) ≡ false
 command_plain true = refl
 command_plain false = refl
 
--- a test that two kinds fail is failed by either
+-- A test that the kinds of two lexemes fail is failed by that of the chosen one.
 pub either_kind : (p : TokenKind → Bool) (b : Bool) (x y : Lexeme) → p x.kind ≡ false
     → p y.kind ≡ false → p (cond b x y).kind ≡ false
 either_kind p true x y f g = f
 either_kind p false x y f g = g
 
+-- Of two lexemes that are not `Eof`, or are of another kind, so is the chosen one.
 either_real : (b : Bool) (x y : Lexeme) → IsReal x → IsReal y → IsReal (cond b x y)
 either_real true x y p q = p
 either_real false x y p q = q
@@ -210,6 +220,7 @@ pub either_other : (b : Bool) (x y : Lexeme) → IsOther x → IsOther y → IsO
 either_other true x y p q = p
 either_other false x y p q = q
 
+-- No symbol is `Eof`, and only `;` (59) is `Semi`.
 symbol_real : (c : ℕ) → is_eof (symbol c) ≡ false
 unfolding symbol
 symbol_real c = grind (arith, nat_tests)
@@ -218,6 +229,7 @@ pub symbol_other : (c : ℕ) → eqb c 59 ≡ false → is_semi (symbol c) ≡ f
 unfolding symbol
 symbol_other c e = grind (arith, nat_tests)
 
+-- Literals, numbers, words and tokens at `$` are of other kinds.
 literal_other : (k : LiteralKind) (n : ℕ) → IsOther (literal_until k n)
 literal_other k n = record { real = refl; other = refl; plain = refl; known = refl }
 
@@ -254,6 +266,7 @@ dollar_other u =
     either_other (is_dollar_quote_start u) (dollar_string u) (parameter u) (literal_other _ _)
     (record { real = refl; other = refl; plain = refl; known = refl })
 
+-- No psql command is `Eof`, nor is a lexeme of any form.
 psql_real : (u : List ℕ) → IsReal (psql u)
 psql_real u =
     either_real (eqb (get_or u 1 0) 92) (lexeme_until (kinds.PsqlCommand false) 2) _
@@ -280,6 +293,7 @@ form_real strings Fraction u = record { real = (fractional_other u 1).real }
 form_real strings Psql u = psql_real u
 form_real strings Symbol u = record { real = symbol_real (get_or u 0 0) }
 
+-- No token is `Eof`.
 pub token_never_eof : (strings : Strings) (s : Bool) (u : List ℕ)
     → (token_at strings s u).kind ≡ kinds.Eof → ⊥
 token_never_eof strings s u e =

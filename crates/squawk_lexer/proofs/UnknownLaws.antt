@@ -1,4 +1,4 @@
--- Which tokens are `Unknown`.
+-- A token is `Unknown` exactly where it begins with a control character other than white space.
 use Rattle.std.proofs.Common.{◌≡◌, ℕ, ◌<◌, ◌≤◌, Bool, true, false, List, ◌∷◌, get_or, refl, sym, ap, ◌∙◌, inl, inr, ◌⊎◌, not, ◌&&◌, ◌||◌, eqb, cond, arith}
 use Rattle.std.proofs.lemmas.Bool.{cases_lt, false≢true}
 use Rattle.std.proofs.lemmas.Bool.Decides.{nat_tests}
@@ -17,19 +17,19 @@ use Rattle.squawk_lexer.proofs.ByteClasses.{agree_below, agree_at}
 use Rattle.squawk_lexer.proofs.FormSteps.{form_fits}
 use Rattle.squawk_lexer.proofs.TokenLaws.{either_kind, prefix_other, dollar_other, number_other, fractional_other}
 
--- whether c alone decides a form other than a symbol
+-- Whether c alone decides a form other than a symbol.
 abbrev begins_form : ℕ → Bool
 begins_form c = is_whitespace c
     || (eqb c 39
     || (eqb c 34 || (is_ident_start c || (eqb c 36 || (is_digit c || eqb c 92)))))
 
--- a control character other than white space
+-- Whether c is a control character other than white space.
 abbrev is_plain_control : ℕ → Bool
 is_plain_control c = is_control c && not (is_whitespace c)
 
 -- ---- symbols
 
--- where no test of one character passes, no such test passes in a chain that ends with `Symbol`
+-- Where a chain of tests chooses `Symbol`, none of its tests of one character passes.
 no_form : (w l b s q i x n p f y : Bool)
     → Symbol ≡ cond w Whitespace (cond l LineComment (cond b BlockComment (cond s String
     (cond q QuotedIdent (cond i Word (cond x Dollar (cond n Number (cond p DotDot (cond f Fraction
@@ -48,7 +48,7 @@ no_form false false false false false false false false false true y e = absurd 
 no_form false false false false false false false false false false true e = absurd (cc)
 no_form false false false false false false false false false false false e = refl
 
--- a symbol begins with no character that decides another form
+-- A symbol begins with no character that decides another form.
 symbol_begins : (c d : ℕ) → Symbol ≡ token_form c d → begins_form c ≡ false
 unfolding token_form
 symbol_begins c d e =
@@ -56,13 +56,13 @@ symbol_begins c d e =
     (is_ident_start c) (eqb c 36) (is_digit c) (eqb c 46 && eqb d 46) (eqb c 46 && is_digit d)
     (eqb c 92) e
 
--- the characters of ASCII, one by one
+-- The characters of ASCII, one by one.
 ascii_symbols : agree_below (λ c. begins_form c || is_unknown (symbol c))
     (λ c. begins_form c || is_plain_control c) 128 ≡ true
 unfolding agree_below symbol
 ascii_symbols = refl
 
--- a symbol is `Unknown` exactly where it is a control character other than white space
+-- A symbol is `Unknown` exactly where it is a control character other than white space.
 symbol_unknown : (c : ℕ) → begins_form c ≡ false → is_unknown (symbol c) ≡ is_plain_control c
 symbol_unknown c none = by (cases_lt c 128)
   where
@@ -75,7 +75,7 @@ symbol_unknown c none = by (cases_lt c 128)
 
 -- ---- other forms
 
--- no psql command is `Unknown`
+-- No psql command is `Unknown`.
 psql_known : (u : List ℕ) → is_unknown (psql u).kind ≡ false
 psql_known u =
     either_kind is_unknown (eqb (get_or u 1 0) 92) (lexeme_until (kinds.PsqlCommand false) 2) _ refl
@@ -84,7 +84,7 @@ psql_known u =
     (lexeme_until (kinds.PsqlCommand (is_among query_ending_words (command_word u)))
     (command_end u)) refl refl))
 
--- no form but a symbol is `Unknown`
+-- No form but a symbol is `Unknown`.
 form_known : (strings : Strings) (s : TokenForm) (u : List ℕ)
     → (is_unknown (lexeme_of_form strings s u).kind ≡ false) ⊎ (s ≡ Symbol)
 form_known strings Whitespace u = inl refl
@@ -101,7 +101,7 @@ form_known strings Fraction u = inl (fractional_other u 1).known
 form_known strings Psql u = inl (psql_known u)
 form_known strings Symbol u = inr refl
 
--- no form but a symbol begins with a control character, unless with white space
+-- No form but a symbol begins with a control character, unless with white space.
 form_control : (s : TokenForm) (c d : ℕ) → s ≡ token_form c d
     → (is_plain_control c ≡ false) ⊎ (s ≡ Symbol)
 form_control Whitespace c d e = let t = form_fits Whitespace c d e in inl (grind (arith, nat_tests))
@@ -122,7 +122,7 @@ form_control Symbol c d e = inr refl
 
 -- ---- every token
 
--- of each form, a token is `Unknown` exactly where its first character says so
+-- The law, for the lexeme of each form.
 form_unknown : (strings : Strings) (s : TokenForm) (u : List ℕ)
     → s ≡ token_form (get_or u 0 0) (get_or u 1 0)
     → is_unknown (lexeme_of_form strings s u).kind ≡ is_plain_control (get_or u 0 0)
@@ -141,6 +141,7 @@ form_unknown strings s u e =
     by (inl known) (inr is) = symbol_is is
     by (inr is) none = symbol_is is
 
+-- The law, for every token.
 pub unknown_is_control : UnknownIsControl
 unknown_is_control strings s c cs = by (s && eqb c byte_order_mark) refl
   where
@@ -152,7 +153,7 @@ unknown_is_control strings s c cs = by (s && eqb c byte_order_mark) refl
     by false e =
         rw e (form_unknown strings (token_form c (get_or (c ∷ cs) 1 0)) (c ∷ cs) refl)
 
--- an `Unknown` token is a symbol, and these are one character
+-- An `Unknown` token is a symbol, and symbols are one character.
 pub unknown_is_one_character : UnknownIsOneCharacter
 unknown_is_one_character strings s c cs t = by (s && eqb c byte_order_mark) refl
   where

@@ -1,4 +1,4 @@
--- No token ends past its text.
+-- No token ends past the end of its text.
 use Rattle.std.proofs.Common.{◌≡◌, ℕ, zero, suc, ◌+◌, ◌<◌, ◌≤◌, Bool, true, false, List, [], ◌∷◌, length, get_or, drop, None, Some, Option, option_map, unwrap_or, nat_eq, not, ◌&&◌, ◌||◌, eqb, cond, refl, arith}
 use Rattle.std.proofs.lemmas.Bool.{and_parts}
 use Rattle.std.proofs.lemmas.Bool.Decides.{nat_tests}
@@ -31,6 +31,7 @@ use Rattle.squawk_lexer.proofs.LawLemmas.{runs_are_longest}
 
 -- ---- of two ends, either is within n
 
+-- Of two ends, two lexemes or two lengths, the chosen one is within n.
 less : (b : Bool) (x y n : ℕ) → (b ≡ true → x ≤ n) → y ≤ n → cond b x y ≤ n
 less true x y n p q = p refl
 less false x y n p q = q
@@ -45,17 +46,18 @@ found : (b : Bool) (x y : Option ℕ) (n : ℕ) → (b ≡ true → unwrap_or x 
 found true x y n p q = p refl
 found false x y n p q = q
 
--- one that is found k characters on
+-- A length found k characters later is within the text.
 on : (o : Option ℕ) (k len total : ℕ) → total ≡ len + k → unwrap_or o len ≤ len
     → unwrap_or (option_map (λ n. n + k) o) total ≤ total
 on None k len total e h = omega arith
 on (Some m) k len total e h = omega arith
 
+-- The index after a character is within the text.
 after_in : (u : List ℕ) (i n : ℕ) → i ≤ length u → position_after u i ≡ n → n ≤ length u
 after_in u i n h e = let le : position_after u i ≤ length u = grind (arith, nat_tests) in
     omega arith
 
--- a character that is read there is there
+-- A character other than NUL that was read is in the text.
 read_in : (u : List ℕ) (i c : ℕ) → 0 < c → eqb (get_or u i 0) c ≡ true → i + 1 ≤ length u
 read_in u i c some t =
     let is : 0 < get_or u i 0 = grind (arith, nat_tests) in
@@ -64,6 +66,7 @@ read_in u i c some t =
 
 -- ---- runs and numbers
 
+-- Runs and the parts of numbers end within the text.
 run_in : (class : ℕ → Bool) (u : List ℕ) (i : ℕ) → i ≤ length u → run_end class u i ≤ length u
 run_in class u i h = (runs_are_longest class u i h).within
 
@@ -115,7 +118,7 @@ decimal_in u a h =
     (either (is_exponent_letter (get_or u a 0)) (with_exponent u a) (int Decimal false u a) _
     (λ t. with_exponent_in u a (letter_within u a t)) (junk_in u a h))
 
--- the letter of a base is there
+-- The letter of a base prefix is in the text.
 base_in : (u : List ℕ) (x y : ℕ) → 0 < x → 0 < y
     → (eqb (get_or u 0 0) 48 && (eqb (get_or u 1 0) x || eqb (get_or u 1 0) y)) ≡ true
     → 2 ≤ length u
@@ -124,6 +127,7 @@ base_in u x y p q t =
     let h : 1 < length u = within_read u 1 some in
     omega arith
 
+-- Every number ends within the text.
 number_in : (u : List ℕ) → 1 ≤ length u → (number u).end ≤ length u
 number_in u h =
     either _ (based_int Binary u (digits_end u 2)) _ _ (λ t.
@@ -139,6 +143,7 @@ number_in u h =
 
 -- ---- elements that close
 
+-- Quoted texts, block comments and dollar-quoted strings end within the text.
 end_in : (u : List ℕ) (i : ℕ) (o : Option ℕ) → i ≤ length u
     → unwrap_or o (length (drop i u)) ≤ length (drop i u) → end_or_text_end u i o ≤ length u
 end_in u i o h k = omega (arith, length-drop i u)
@@ -196,11 +201,12 @@ dollar_in u h =
     (find_in (delimiter u) (drop (tag_end u + 1) u)))
     (junk_in u (run_end is_digit u 1) (run_in is_digit u 1 h))
 
--- both characters that begin a token are there
+-- Both characters that begin a token are in the text.
 pair_in : (u : List ℕ) → 1 ≤ length u → (position_after u 0 ≡ 1)
     × (position_after u (position_after u 0) ≡ 2) → 2 ≤ length u
 pair_in u h (one, two) = after_in u (position_after u 0) 2 (after_in u 0 _ (omega arith) refl) two
 
+-- Words and prefixed strings end within the text.
 prefix_in : (s : StringPrefix) (u : List ℕ) → s
     ≡ prefix_of (get_or u 0 0) (get_or u 1 0) (get_or u 2 0) → 1 ≤ length u
     → (lexeme_of_prefix s u).end ≤ length u
@@ -220,6 +226,7 @@ prefix_in Plain u e h = run_in is_ident_cont u 1 h
 
 -- ---- psql commands
 
+-- The parts of a psql command end within the text.
 args_in : (u : List ℕ) (i : ℕ) → i ≤ length u → arguments_end u i ≤ length u
 args_in u i h = omega (arith, len 0 (drop i u), length-drop i u)
   where
@@ -285,8 +292,10 @@ psql_in u h =
 
 -- ---- every token
 
-form_in : (strings : Strings) (s : TokenForm) (u : List ℕ) → s ≡ token_form (get_or u 0 0) (get_or u 1 0)
-    → 1 ≤ length u → (lexeme_of_form strings s u).end ≤ length u
+-- The lexeme of each form ends within the text.
+form_in : (strings : Strings) (s : TokenForm) (u : List ℕ)
+    → s ≡ token_form (get_or u 0 0) (get_or u 1 0) → 1 ≤ length u
+    → (lexeme_of_form strings s u).end ≤ length u
 form_in strings Whitespace u e h = run_in is_whitespace u 0 (omega arith)
 form_in strings LineComment u e h =
     run_in is_not_line_end u 2 (pair_in u h (begin_line u 0 refl h e))
@@ -304,6 +313,7 @@ form_in strings Fraction u e h = fractional_in u 1 h
 form_in strings Psql u e h = psql_in u h
 form_in strings Symbol u e h = h
 
+-- Every token ends within the text, and so do the first n.
 pub tokens_within : TokensWithin
 tokens_within strings at_start u h =
     either (at_start && eqb (get_or u 0 0) byte_order_mark) (lexeme_until kinds.Whitespace 1)
