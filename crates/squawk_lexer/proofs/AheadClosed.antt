@@ -59,8 +59,8 @@ quoted_far : (escapes : Bool) (q c : ℕ) (cs : List ℕ)
     → 1 ≤ unwrap_or (quoted_len escapes q (c ∷ cs)) (length (c ∷ cs))
 quoted_far escapes q c [] = either_far (eqb c q) (Some 1) None 1 1 (omega arith) (omega arith)
 quoted_far escapes q c (d ∷ cs) =
-    let two : 1 ≤ unwrap_or (option_map (λ m.
-    m + 2) (quoted_len escapes q cs)) (length (c ∷ d ∷ cs)) =
+    let two : 1 ≤ unwrap_or (option_map
+    (λ m. m + 2) (quoted_len escapes q cs)) (length (c ∷ d ∷ cs)) =
     omega (
       arith,
       far (quoted_len escapes q cs) 2 (length cs) (length (c ∷ d ∷ cs))
@@ -81,26 +81,26 @@ quoted_looks escapes q t (x ∷ []) c d r s f h =
     let two = far (quoted_len escapes q r) 2 (length r) (length (x ∷ c ∷ r)) (omega arith) in
     let one = farther (quoted_len escapes q (c ∷ r)) 1 (length (c ∷ r)) (length (x ∷ c ∷ r)) 1
     (omega arith) (quoted_far escapes q c r) in
-    branch m (eqb x q) _ _ _ _ 1 (λ e.
-    pick m (eqb c q) (eqb d q) _ (Some 1) _ (Some 1) 1 (f.one (λ c. eqb c q) t) (λ e k.
-    absurd (omega (arith, two))) (λ e k. refl))
-    (λ e. branch m (escapes && eqb x 92) _ _ _ _ 1 (λ e k. absurd (omega (arith, two))) (λ e k.
-    absurd (omega (arith, one)))) h
+    branch m (eqb x q) _ _ _ _ 1
+    (λ e. pick m (eqb c q) (eqb d q) _ (Some 1) _ (Some 1) 1 (f.one (λ c. eqb c q) t)
+    (λ e k. absurd (omega (arith, two))) (λ e k. refl))
+    (λ e. branch m (escapes && eqb x 92) _ _ _ _ 1 (λ e k. absurd (omega (arith, two)))
+    (λ e k. absurd (omega (arith, one)))) h
 quoted_looks escapes q t (x ∷ y ∷ xs) c d r s f h =
     let m = λ (o : Option ℕ). unwrap_or o (length (x ∷ y ∷ xs ++ c ∷ r)) in
     let n = length (x ∷ y ∷ xs) in
-    let two = λ (k : unwrap_or (option_map (λ n.
-    n + 2) (quoted_len escapes q (xs ++ c ∷ r))) (length (x ∷ y ∷ xs ++ c ∷ r)) ≤ n).
+    let two = λ (k : unwrap_or (option_map
+    (λ n. n + 2) (quoted_len escapes q (xs ++ c ∷ r))) (length (x ∷ y ∷ xs ++ c ∷ r)) ≤ n).
     later (quoted_len escapes q (xs ++ c ∷ r)) (quoted_len escapes q (xs ++ d ∷ s)) 2
     (length (xs ++ c ∷ r)) (length (x ∷ y ∷ xs ++ c ∷ r)) (length xs) (omega arith)
     (quoted_looks escapes q t xs c d r s f) (omega arith) in
-    let one = λ (k : unwrap_or (option_map (λ n.
-    n + 1) (quoted_len escapes q (y ∷ xs ++ c ∷ r))) (length (x ∷ y ∷ xs ++ c ∷ r)) ≤ n).
+    let one = λ (k : unwrap_or (option_map
+    (λ n. n + 1) (quoted_len escapes q (y ∷ xs ++ c ∷ r))) (length (x ∷ y ∷ xs ++ c ∷ r)) ≤ n).
     later (quoted_len escapes q (y ∷ xs ++ c ∷ r)) (quoted_len escapes q (y ∷ xs ++ d ∷ s)) 1
     (length (y ∷ xs ++ c ∷ r)) (length (x ∷ y ∷ xs ++ c ∷ r)) (length (y ∷ xs)) (omega arith)
     (quoted_looks escapes q t (y ∷ xs) c d r s f) (omega arith) in
-    branch m (eqb x q) _ _ _ _ n (λ e. branch m (eqb y q) _ (Some 1) _ (Some 1) n (λ e k.
-    two k) (λ e k. refl))
+    branch m (eqb x q) _ _ _ _ n (λ e. branch m (eqb y q) _ (Some 1) _ (Some 1) n
+    (λ e k. two k) (λ e k. refl))
     (λ e. branch m (escapes && eqb x 92) _ _ _ _ n (λ e k. two k) (λ e k. one k)) h
 
 -- ---- block comments
@@ -211,8 +211,8 @@ pub comment_same : {told : Tests} {pairs : PairTests} (inner k : ℕ) (u v : Lis
     → Alike told pairs k u v → comment_end inner u i ≤ k
     → (comment_len inner (drop i v) ≡ comment_len inner (drop i u))
     × (comment_end inner v i ≡ comment_end inner u i)
-comment_same inner k u v i a h = found_same (comment_len inner) (λ xs c d r s f.
-    comment_looks inner xs c d r s) k u v i a h
+comment_same inner k u v i a h = found_same (comment_len inner)
+    (λ xs c d r s f. comment_looks inner xs c d r s) k u v i a h
 
 -- ---- dollar-quoted strings
 

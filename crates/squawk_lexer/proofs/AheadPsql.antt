@@ -81,8 +81,8 @@ close_looks w q plain (x ∷ []) c d r s f h =
     let m = λ (o : Option ℕ). unwrap_or o total in
     branch m (is_line_end x) None _ None _ 1 (λ t k. refl)
     (λ t. branch m (eqb x q) (Some 1) _ (Some 1) _ 1 (λ e k. refl)
-    (λ e. pick m (is_escape_pair q x c) (is_escape_pair q x d) _ _ _ _ 1 (ap (λ b.
-    (eqb q 39 && eqb x 92) && not b) (f.one is_line_end w.line_end))
+    (λ e. pick m (is_escape_pair q x c) (is_escape_pair q x d) _ _ _ _ 1 (ap
+    (λ b. (eqb q 39 && eqb x 92) && not b) (f.one is_line_end w.line_end))
     (λ p k. absurd (omega (
       arith,
       far (close_len q r) 2 (prefix_len is_not_line_end r) total
@@ -138,18 +138,17 @@ args_looks : {told : Tests} {pairs : PairTests} → AsksPsql told
 args_looks w (suc i) [] c d r s f h = absurd (omega arith)
 args_looks w zero [] c d r s f h =
     pick (λ n. n) (ends_arguments c) (ends_arguments d) 0 (1 + arguments_len (part_rest c r) r) 0
-    (1 + arguments_len (part_rest d s) s) 0 (f.one ends_arguments w.ends) (λ t k. refl) (λ t k.
-    absurd (omega arith)) h
+    (1 + arguments_len (part_rest d s) s) 0 (f.one ends_arguments w.ends) (λ t k. refl)
+    (λ t k. absurd (omega arith)) h
 args_looks w zero (x ∷ xs) c d r s f h =
     let i = part_rest x (xs ++ c ∷ r) in
     branch (λ n. n) (ends_arguments x) 0 (1 + arguments_len i (xs ++ c ∷ r)) 0
-    (1 + arguments_len (part_rest x (xs ++ d ∷ s)) (xs ++ d ∷ s)) (length (x ∷ xs)) (λ t k.
-    refl)
+    (1 + arguments_len (part_rest x (xs ++ d ∷ s)) (xs ++ d ∷ s)) (length (x ∷ xs))
+    (λ t k. refl)
     (λ t k. ap (λ j. 1 + arguments_len j (xs ++ d ∷ s))
     (part_looks w x xs c d r s f (omega (
       arith,
-      args_far i (xs ++ c
-          ∷ r) (rest_in x (xs ++ c ∷ r)),
+      args_far i (xs ++ c ∷ r) (rest_in x (xs ++ c ∷ r)),
     )))
     ∙ ap (λ n. 1 + n) (args_looks w i xs c d r s f (omega arith))) h
 args_looks w (suc i) (x ∷ xs) c d r s f h =
@@ -219,8 +218,8 @@ blank_on x v t b = rw (t, blank_is_plain x b) (omega arith)
 -- the arguments where none is marked.
 marked_looks : {told : Tests} {pairs : PairTests}
     → AsksPsql told → (inside : ℕ) (mark : Option ℕ)
-    → Looks told pairs (marked_len inside mark) (λ v.
-    unwrap_or (marked_len inside mark v) (arguments_len inside v))
+    → Looks told pairs (marked_len inside mark)
+    (λ v. unwrap_or (marked_len inside mark v) (arguments_len inside v))
 marked_looks w (suc i) mark [] c d r s f h =
     absurd (omega (
       arith,
@@ -230,8 +229,8 @@ marked_looks w (suc i) mark [] c d r s f h =
 marked_looks w zero mark [] c d r s f h =
     let total = arguments_len 0 (c ∷ r) in
     let m = λ (o : Option ℕ). unwrap_or o total in
-    pick m (ends_arguments c) (ends_arguments d) _ _ _ _ 0 (f.one ends_arguments w.ends) (λ t k.
-    refl)
+    pick m (ends_arguments c) (ends_arguments d) _ _ _ _ 0 (f.one ends_arguments w.ends)
+    (λ t k. refl)
     (λ t. pick m (is_blank c) (is_blank d) _ _ _ _ 0 (f.one is_blank w.blank)
     (λ b. branch m (is_parenthesis mark) (Some 0) _ (Some 0) _ 0 (λ p k. refl)
     (λ p k. absurd (omega (
@@ -292,8 +291,8 @@ options_same : {told : Tests} {pairs : PairTests} → AsksPsql told → (k : ℕ
     → options_end v i (marked_len_at v i) ≡ options_end u i (marked_len_at u i)
 options_same z k u v i a h =
     let e : marked_len_at v i ≡ marked_len_at u i =
-    seen (marked_len 0 None) (λ w.
-    unwrap_or (marked_len 0 None w) (arguments_len 0 w)) (marked_looks z 0 None) k u v i a
+    seen (marked_len 0 None)
+    (λ w. unwrap_or (marked_len 0 None w) (arguments_len 0 w)) (marked_looks z 0 None) k u v i a
     (omega (arith, options_far u i (marked_len_at u i))) in
     ap (options_end v i) e ∙ by (marked_len_at u i) h
   where
@@ -317,8 +316,8 @@ output_end_same : {told : Tests} {pairs : PairTests}
 output_end_same z k u v p a h =
     pick (λ n. n) (eqb (get_or u p 0) 124) (eqb (get_or v p 0) 124) (line_end u p)
     (arguments_end u p) (line_end v p) (arguments_end v p) k
-    (test (λ c. eqb c 124) (z.other 124 refl) k u v p a (omega (arith, output_end_on u p))) (λ t e.
-    run_same is_not_line_end z.not_line_end k u v p a e) (λ t e. args_same z k u v p a e) h
+    (test (λ c. eqb c 124) (z.other 124 refl) k u v p a (omega (arith, output_end_on u p)))
+    (λ t e. run_same is_not_line_end z.not_line_end k u v p a e) (λ t e. args_same z k u v p a e) h
 
 -- ---- commands
 
@@ -368,8 +367,8 @@ end_same : {told : Tests} {pairs : PairTests} → AsksPsql told
     → (w : List ℕ) (k : ℕ) (u v : List ℕ) (i : ℕ) → Alike told pairs k u v → end_at w i u ≤ k
     → end_at w i v ≡ end_at w i u
 end_same z w k u v i a h =
-    branch (λ n. n) (takes_line w) (line_end u i) _ (line_end v i) _ k (λ t e.
-    run_same is_not_line_end z.not_line_end k u v i a e)
+    branch (λ n. n) (takes_line w) (line_end u i) _ (line_end v i) _ k
+    (λ t e. run_same is_not_line_end z.not_line_end k u v i a e)
     (λ t. branch (λ n. n) (is_among pipe_words w) _ (arguments_end u i) _ (arguments_end v i) k
     (λ s e. output_same z w k u v i a e) (λ s e. args_same z k u v i a e)) h
 

@@ -38,17 +38,17 @@ digits_looks : {told : Tests} {pairs : PairTests} (digit : ℕ → Bool) → tol
 digits_looks digit t p [] c d r s f h =
     pick (λ n. n) _ _ (1 + digits_len digit r) 0 (1 + digits_len digit s) 0 0
     (ap (λ b. b || (eqb d 95 && digit (get_or s 0 0))) (f.one digit t)
-    ∙ ap (λ b. digit c || b) (f.two (λ c. eqb c 95) digit p)) (λ e k.
-    absurd (omega arith)) (λ e k. refl) h
+    ∙ ap (λ b. digit c || b) (f.two (λ c. eqb c 95) digit p))
+    (λ e k. absurd (omega arith)) (λ e k. refl) h
 digits_looks digit t p (x ∷ []) c d r s f h =
     pick (λ n. n) _ _ (1 + digits_len digit (c ∷ r)) 0 (1 + digits_len digit (d ∷ s)) 0 1
-    (ap (λ b. digit x || (eqb x 95 && b)) (f.one digit t)) (λ e k.
-    ap (λ n. 1 + n) (digits_looks digit t p [] c d r s f (omega arith))) (λ e k. refl) h
+    (ap (λ b. digit x || (eqb x 95 && b)) (f.one digit t))
+    (λ e k. ap (λ n. 1 + n) (digits_looks digit t p [] c d r s f (omega arith))) (λ e k. refl) h
 digits_looks digit t p (x ∷ y ∷ xs) c d r s f h =
     branch (λ n. n) (digit x || (eqb x 95 && digit y)) (1 + digits_len digit (y ∷ xs ++ c ∷ r)) 0
     (1 + digits_len digit (y ∷ xs ++ d ∷ s)) 0 (length (x ∷ y ∷ xs))
-    (λ e k. ap (λ n. 1 + n) (digits_looks digit t p (y ∷ xs) c d r s f (omega arith))) (λ e k.
-    refl) h
+    (λ e k. ap (λ n. 1 + n) (digits_looks digit t p (y ∷ xs) c d r s f (omega arith)))
+    (λ e k. refl) h
 
 -- ---- the tests of words and numbers
 
@@ -91,8 +91,8 @@ pub junk_same : {told : Tests} {pairs : PairTests}
 junk_same w k u v i a h =
     pick (λ n. n) (is_ident_start (get_or u i 0)) (is_ident_start (get_or v i 0))
     (run_end is_ident_cont u i) i (run_end is_ident_cont v i) i k
-    (test is_ident_start w.id_start k u v i a (omega (arith, junk_on u i))) (λ t e.
-    run_same is_ident_cont w.id_cont k u v i a e) (λ t e. refl) h
+    (test is_ident_start w.id_start k u v i a (omega (arith, junk_on u i)))
+    (λ t e. run_same is_ident_cont w.id_cont k u v i a e) (λ t e. refl) h
 
 -- ---- numbers
 
@@ -103,11 +103,11 @@ exponent_same : {told : Tests} {pairs : PairTests}
 exponent_same w k u v i a h =
     let within : i + 1 ≤ k = omega (arith, exponent_on u i) in
     pick (λ n. n) _ _ (digits_end u (i + 2)) _ (digits_end v (i + 2)) _ k
-    (pair is_sign is_digit w.digit w.signs k u v (i + 1) (i + 2) a within (omega arith)) (λ t e.
-    digits_same w k u v (i + 2) a e)
+    (pair is_sign is_digit w.digit w.signs k u v (i + 1) (i + 2) a within (omega arith))
+    (λ t e. digits_same w k u v (i + 2) a e)
     (λ t. pick (λ n. n) _ _ (digits_end u (i + 1)) (i + 1) (digits_end v (i + 1)) (i + 1) k
-    (test is_digit w.digit k u v (i + 1) a within) (λ s e.
-    digits_same w k u v (i + 1) a e) (λ s e. refl)) h
+    (test is_digit w.digit k u v (i + 1) a within)
+    (λ s e. digits_same w k u v (i + 1) a e) (λ s e. refl)) h
 
 fraction_same : {told : Tests} {pairs : PairTests}
     → Asks told pairs → (k : ℕ) (u v : List ℕ) (i : ℕ) → Alike told pairs k u v
@@ -115,8 +115,8 @@ fraction_same : {told : Tests} {pairs : PairTests}
 fraction_same w k u v i a h =
     pick (λ n. n) (is_digit (get_or u i 0)) (is_digit (get_or v i 0)) (digits_end u i) i
     (digits_end v i) i k
-    (test is_digit w.digit k u v i a (omega (arith, fraction_on u i))) (λ t e.
-    digits_same w k u v i a e) (λ t e. refl) h
+    (test is_digit w.digit k u v i a (omega (arith, fraction_on u i)))
+    (λ t e. digits_same w k u v i a e) (λ t e. refl) h
 
 -- integers, without and with a base prefix,
 int_same : {told : Tests} {pairs : PairTests} → Asks told pairs
@@ -182,8 +182,8 @@ decimal_same : {told : Tests} {pairs : PairTests} → Asks told pairs → (k : �
     → Alike told pairs k u v → (decimal_from u i).end ≤ k → decimal_from v i ≡ decimal_from u i
 decimal_same w k u v i a h =
     let within : i ≤ k = omega (arith, decimal_on u i) in
-    pick (λ (x : Lexeme). x.end) _ _ (fractional u (i + 1)) _ (fractional v (i + 1)) _ k (pair (λ c.
-    eqb c 46) (λ c. not (eqb c 46)) w.no_point w.points k u v i (i + 1) a within refl)
+    pick (λ (x : Lexeme). x.end) _ _ (fractional u (i + 1)) _ (fractional v (i + 1)) _ k (pair
+    (λ c. eqb c 46) (λ c. not (eqb c 46)) w.no_point w.points k u v i (i + 1) a within refl)
     (λ t e. fractional_same w k u v (i + 1) a e)
     (λ t. pick (λ (x : Lexeme). x.end) _ _ (with_exponent u i) (int Decimal false u i)
     (with_exponent v i) (int Decimal false v i) k
@@ -195,17 +195,17 @@ pub number_same : {told : Tests} {pairs : PairTests} → Asks told pairs → (k 
 number_same w k u v a h =
     pick (λ (x : Lexeme). x.end) _ _ (based_int Binary u (digits_end u 2)) _
     (based_int Binary v (digits_end v 2)) _ k (letter 98 66 (omega arith) (omega arith))
-    (λ t. based_same w Binary k u v (digits_end v 2) (digits_end u 2) a (λ e.
-    digits_same w k u v 2 a e))
+    (λ t. based_same w Binary k u v (digits_end v 2) (digits_end u 2) a
+    (λ e. digits_same w k u v 2 a e))
     (λ t. pick (λ (x : Lexeme). x.end) _ _ (based_int Octal u (digits_end u 2)) _
     (based_int Octal v (digits_end v 2)) _ k (letter 111 79 (omega arith) (omega arith))
-    (λ t. based_same w Octal k u v (digits_end v 2) (digits_end u 2) a (λ e.
-    digits_same w k u v 2 a e))
+    (λ t. based_same w Octal k u v (digits_end v 2) (digits_end u 2) a
+    (λ e. digits_same w k u v 2 a e))
     (λ t. pick (λ (x : Lexeme). x.end) _ _ (based_int Hexadecimal u (hex_digits_end u 2))
     (decimal_from u (digits_end u 1)) (based_int Hexadecimal v (hex_digits_end v 2))
     (decimal_from v (digits_end v 1)) k (letter 120 88 (omega arith) (omega arith))
-    (λ t. based_same w Hexadecimal k u v (hex_digits_end v 2) (hex_digits_end u 2) a (λ e.
-    hex_same w k u v 2 a e))
+    (λ t. based_same w Hexadecimal k u v (hex_digits_end v 2) (hex_digits_end u 2) a
+    (λ e. hex_same w k u v 2 a e))
     (λ t e. ap (decimal_from v) (digits_same w k u v 1 a
     (le_trans (digits_end u 1) _ k (decimal_on u (digits_end u 1)) e))
     ∙ decimal_same w k u v (digits_end u 1) a e))) h
@@ -218,8 +218,8 @@ number_same w k u v a h =
         ≡ (eqb (get_or u 0 0) 48 && (eqb (get_or u 1 0) x || eqb (get_or u 1 0) y))
     letter x y p q =
         ap (λ c. eqb c 48 && (eqb (get_or v 1 0) x || eqb (get_or v 1 0) y)) (read k u v 0 a some)
-        ∙ ap (λ b. eqb (get_or u 0 0) 48 && b) (test (λ c.
-        eqb c x || eqb c y) (w.letters x y p q) k u v 1 a some)
+        ∙ ap (λ b. eqb (get_or u 0 0) 48 && b) (test
+        (λ c. eqb c x || eqb c y) (w.letters x y p q) k u v 1 a some)
 
     le_trans : (x y z : ℕ) → x ≤ y → y ≤ z → x ≤ z
     le_trans x y z p q = omega arith

@@ -69,8 +69,8 @@ prefix_same : {told : Tests} {pairs : PairTests} → Asks told pairs → (k : �
 prefix_same w k u v a some =
     let first : get_or v 0 0 ≡ get_or u 0 0 = read k u v 0 a (omega arith) in
     let quote = test (λ c. eqb c 39) w.apostrophe k u v 1 a some in
-    let string = pair (λ c. eqb c 38) (λ c.
-    eqb c 39) w.apostrophe w.and_string k u v 1 2 a some refl in
+    let string = pair (λ c. eqb c 38)
+    (λ c. eqb c 39) w.apostrophe w.and_string k u v 1 2 a some refl in
     let ident = pair (λ c. eqb c 38) (λ c. eqb c 34) w.quotation w.and_ident k u v 1 2 a some refl
     in
     prefix_is (get_or v 0 0) (get_or v 1 0) (get_or v 2 0)
@@ -166,12 +166,10 @@ token_from x u = record { kind = x.kind; len = utf8_len (take x.end u) }
 pub token_of : {told : Tests} {pairs : PairTests} (strings : Strings) (s : Bool) (k : ℕ)
     (u v : List ℕ) → Alike told pairs k u v → (lexeme_at strings s u).end ≡ k
     → lexeme_at strings s v ≡ lexeme_at strings s u → token_at strings s v ≡ token_at strings s u
-token_of strings s k u v a e same = ap (λ x. token_from x v) same
-    ∙ ap (λ w. record {
-      kind = (lexeme_at strings s u).kind;
-      len =
-          utf8_len w;
-    }) (take_same k u v (lexeme_at strings s u).end a (omega (arith, e)))
+token_of strings s k u v a e same = ap (λ x. token_from x v) same ∙ ap (λ w. record {
+  kind = (lexeme_at strings s u).kind;
+  len = utf8_len w;
+}) (take_same k u v (lexeme_at strings s u).end a (omega (arith, e)))
 
 -- ---- texts whose next character is the same: every test says the same of it
 
@@ -213,8 +211,7 @@ asks_any Psql = record {
   not_line_end = tt;
   blank = tt;
   command_word = tt;
-  ends =
-      tt;
+  ends = tt;
   other = λ x e. tt;
 }
 asks_any DotDot = tt

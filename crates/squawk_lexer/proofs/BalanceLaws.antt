@@ -29,8 +29,7 @@ more p ps n m (Some l) some e (k, is, b) = (
   suc k,
   omega (arith, is, sum_by-cons comment_part_len p (take k ps)),
   record {
-    within =
-        within;
+    within = within;
     balanced = balanced;
     first = first;
   },

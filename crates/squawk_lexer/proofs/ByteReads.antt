@@ -39,8 +39,8 @@ read_ahead zero [] ascii = sym (lead_ascii 0 (omega arith))
 read_ahead zero (c ∷ cs) ascii = lead_first c (encode_utf8_all cs)
 read_ahead (suc k) [] ascii = sym (lead_ascii 0 (omega arith))
 read_ahead (suc k) (c ∷ cs) ascii =
-    rw (encode_ascii c (ascii 0 (omega arith))) (read_ahead k cs (λ j below.
-    ascii (suc j) (omega arith)))
+    rw (encode_ascii c (ascii 0 (omega arith))) (read_ahead k cs
+    (λ j below. ascii (suc j) (omega arith)))
 
 -- The byte n bytes into the rest, where the n characters before it are ASCII.
 pub read_byte : (token rest : List ℕ) (n : ℕ) → IsRest token rest
@@ -93,8 +93,8 @@ form_lead c d b e first second = by (cases_lt c 128) (cases_lt d 128)
     by : (c < 128) ⊎ (128 ≤ c) → (d < 128) ⊎ (128 ≤ d) → token_form b e ≡ token_form c d
     by (inl small) (inl low) = rw (first ∙ lead_ascii c small, second small ∙ lead_ascii d low) refl
     by (inl small) (inr big) =
-        rw (first ∙ lead_ascii c small) (form_second c e d (subst (λ x.
-        128 ≤ x) (sym (second small)) (lead_high d big)) big)
+        rw (first ∙ lead_ascii c small) (form_second c e d (subst
+        (λ x. 128 ≤ x) (sym (second small)) (lead_high d big)) big)
     by (inr big) other = form_high b e (subst (λ x. 128 ≤ x) (sym first) (lead_high c big))
         ∙ sym (form_high c d big)
 
@@ -127,21 +127,19 @@ prefix_lead c d x b e f first second third = by (cases_lt c 128) (cases_lt d 128
         → prefix_of b e f ≡ prefix_of c d x
     by (inl small) (inl low) (inl last) = rw (
       first ∙ lead_ascii c small,
-      second small
-          ∙ lead_ascii d low,
+      second small ∙ lead_ascii d low,
       third small low ∙ lead_ascii x last,
     ) refl
     by (inl small) (inl low) (inr big) = rw (
       first ∙ lead_ascii c small,
-      second small
-          ∙ lead_ascii d low,
-    ) (prefix_third c d f x (subst (λ y.
-        128 ≤ y) (sym (third small low)) (lead_high x big)) big)
+      second small ∙ lead_ascii d low,
+    ) (prefix_third c d f x (subst
+        (λ y. 128 ≤ y) (sym (third small low)) (lead_high x big)) big)
     by (inl small) (inr big) other =
         prefix_plain b e f (subst (λ y. 128 ≤ y) (sym (second small)) (lead_high d big))
         ∙ sym (prefix_plain c d x big)
-    by (inr big) other more = prefix_high b e f (subst (λ y.
-        128 ≤ y) (sym first) (lead_high c big)) ∙ sym (prefix_high c d x big)
+    by (inr big) other more = prefix_high b e f (subst
+        (λ y. 128 ≤ y) (sym first) (lead_high c big)) ∙ sym (prefix_high c d x big)
 
 -- A character beyond ASCII is no symbol, so the symbol by the first byte is that by the character.
 symbol_high : (c : ℕ) → 128 ≤ c → symbol c ≡ Unknown

@@ -100,8 +100,8 @@ first_needle t = rw (encode_ascii 36 (omega arith)) refl
 there : (t v : List ℕ) (b : ℕ) → OccursAt (encode_utf8_all v) (encode_utf8_all (36 ∷ t)) b → (k : ℕ)
     × IsThere (36 ∷ t) v b k
 there t [] b o = absurd (let fits = o.fits in let some = some_needle t in omega arith)
-there t (c ∷ cs) b o = by (cases_eq b 0) (cases_lt b (length (encode_utf8 c))) (λ m p.
-    there t cs m p)
+there t (c ∷ cs) b o = by (cases_eq b 0) (cases_lt b (length (encode_utf8 c)))
+    (λ m p. there t cs m p)
   where
     d : List ℕ
     d = 36 ∷ t
@@ -149,8 +149,7 @@ there t (c ∷ cs) b o = by (cases_eq b 0) (cases_lt b (length (encode_utf8 c)))
           suc k,
           record {
             is = omega (arith, sum_by-cons len_utf8 c (take k cs));
-            within =
-                omega (arith, r.within);
+            within = omega (arith, r.within);
             stands = r.stands;
           },
         )
@@ -176,8 +175,8 @@ find_none : (d v : List ℕ) → ((k : ℕ) → k < length v → starts_with nat
 find_none d [] nowhere = refl
 find_none d (c ∷ v) nowhere = rw (
   nowhere 0 (omega arith),
-  find_none d v (λ k h.
-      nowhere (suc k) (omega arith)),
+  find_none d v
+      (λ k h. nowhere (suc k) (omega arith)),
 ) refl
 
 -- A shorter prefix takes fewer bytes.
@@ -220,8 +219,8 @@ not_there d v k absent = by (cases_Bool (starts_with nat_eq (drop k v) d))
 -- The search finds nothing.
 pub needle_none : (t v : List ℕ) → FindsNeedle (encode_utf8_all v) (encode_utf8_all (36 ∷ t)) 0 None
     → find_end (36 ∷ t) v ≡ None
-needle_none t v nowhere = find_none (36 ∷ t) v (λ k h.
-    not_there (36 ∷ t) v k (nowhere (utf8_len (take k v)) (omega arith)
+needle_none t v nowhere = find_none (36 ∷ t) v
+    (λ k h. not_there (36 ∷ t) v k (nowhere (utf8_len (take k v)) (omega arith)
     (omega (arith, bytes_within v k))))
 
 -- The search finds offset b: the delimiter ends after n characters.

@@ -27,8 +27,7 @@ none : (digit : ℕ → Bool) (u : List ℕ) → (0 < length u → is_digit_at d
 none digit u stops = record {
   within = omega arith;
   all = λ k h. absurd (omega (arith, h));
-  stops =
-      stops;
+  stops = stops;
 }
 
 -- The law, by induction on the text.

@@ -8,8 +8,8 @@ use Rattle.squawk_lexer.specs.Laws.{IsFirstOccurrence}
 pub found : (d v : List ℕ) (n : ℕ) → find_end d v ≡ Some n → (length d ≤ n)
     × IsFirstOccurrence d v (n - length d)
 found d [] n e = absurd (cc)
-found d (c ∷ v) n e = by (starts_with nat_eq (c ∷ v) d) refl (find_end d v) refl (λ m h.
-    found d v m h)
+found d (c ∷ v) n e = by (starts_with nat_eq (c ∷ v) d) refl (find_end d v) refl
+    (λ m h. found d v m h)
   where
     by : (b : Bool) → starts_with nat_eq (c ∷ v) d ≡ b → (o : Option ℕ) → find_end d v ≡ o
         → ((m : ℕ) → find_end d v ≡ Some m → (length d ≤ m) × IsFirstOccurrence d v (m - length d))
@@ -29,8 +29,7 @@ found d (c ∷ v) n e = by (starts_with nat_eq (c ∷ v) d) refl (find_end d v) 
           omega arith,
           rw next (record {
             stands = rest.1.stands;
-            first =
-                before (m - length d) t rest.1.first;
+            first = before (m - length d) t rest.1.first;
           }),
         )
       where
@@ -44,8 +43,8 @@ found d (c ∷ v) n e = by (starts_with nat_eq (c ∷ v) d) refl (find_end d v) 
 pub nowhere : (d v : List ℕ) → find_end d v ≡ None → (k : ℕ) → k < length v
     → starts_with nat_eq (drop k v) d ≡ false
 nowhere d [] e k h = absurd (omega arith)
-nowhere d (c ∷ v) e k h = by (starts_with nat_eq (c ∷ v) d) refl (find_end d v) refl k h (λ f j i.
-    nowhere d v f j i)
+nowhere d (c ∷ v) e k h = by (starts_with nat_eq (c ∷ v) d) refl (find_end d v) refl k h
+    (λ f j i. nowhere d v f j i)
   where
     by : (b : Bool) → starts_with nat_eq (c ∷ v) d ≡ b → (o : Option ℕ) → find_end d v ≡ o → (k : ℕ)
         → k < length (c ∷ v)

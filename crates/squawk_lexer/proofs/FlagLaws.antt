@@ -121,18 +121,18 @@ number_flags u h =
     let hexadecimal = cond (begins u 120 88) (based_int Hexadecimal u (hex_digits_end u 2)) decimal
     in
     let octal = cond (begins u 111 79) (based_int Octal u (digits_end u 2)) hexadecimal in
-    either_flags u (begins u 98 66) (based_int Binary u (digits_end u 2)) octal (λ t.
-    junk_within u (digits_end u 2) h (omega arith))
-    (either_flags u (begins u 111 79) (based_int Octal u (digits_end u 2)) hexadecimal (λ t.
-    junk_within u (digits_end u 2) h (omega arith))
-    (either_flags u (begins u 120 88) (based_int Hexadecimal u (hex_digits_end u 2)) decimal (λ t.
-    junk_within u (hex_digits_end u 2) h (omega arith))
+    either_flags u (begins u 98 66) (based_int Binary u (digits_end u 2)) octal
+    (λ t. junk_within u (digits_end u 2) h (omega arith))
+    (either_flags u (begins u 111 79) (based_int Octal u (digits_end u 2)) hexadecimal
+    (λ t. junk_within u (digits_end u 2) h (omega arith))
+    (either_flags u (begins u 120 88) (based_int Hexadecimal u (hex_digits_end u 2)) decimal
+    (λ t. junk_within u (hex_digits_end u 2) h (omega arith))
     (decimal_flags u (digits_end u 1) h (omega arith))))
 
 -- Every token that begins with `$`.
 dollar_flags : (u : List ℕ) → 1 ≤ length u → Flagged u (dollar u)
-dollar_flags u h = either_flags u (is_dollar_quote_start u) (dollar_string u) (parameter u) (λ t.
-    tt) (junk_within u (run_end is_digit u 1) h (omega arith))
+dollar_flags u h = either_flags u (is_dollar_quote_start u) (dollar_string u) (parameter u)
+    (λ t. tt) (junk_within u (run_end is_digit u 1) h (omega arith))
 
 -- ---- kinds without offsets
 
@@ -246,8 +246,7 @@ cut_from strings zero s (c ∷ cs) = (
     at_start = s;
     text = c ∷ cs;
     some = omega arith;
-    same =
-        refl;
+    same = refl;
   },
   cut_from strings ((lexeme_at strings s (c ∷ cs)).end - 1) false cs,
 )

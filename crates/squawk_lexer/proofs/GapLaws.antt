@@ -192,8 +192,7 @@ asks_psql = record {
   not_line_end = refl;
   blank = refl;
   command_word = refl;
-  ends =
-      refl;
+  ends = refl;
   other = λ x e. of x e;
 }
   where
@@ -207,8 +206,7 @@ asks_psql = record {
 of_line_ends : (p : ℕ → Bool) → OfLineEnds p → (c : ℕ) → is_line_end c ≡ true → p 10 ≡ p c
 of_line_ends p same c t = elim (cases_eq c 10) [
   | inl is ↦ ap p (sym is)
-  | inr is_not ↦ sym same
-      ∙ ap p (let other : 13 ≡ c = grind (arith, nat_tests) in other)
+  | inr is_not ↦ sym same ∙ ap p (let other : 13 ≡ c = grind (arith, nat_tests) in other)
 ]
 
 -- A psql command before a line end stays the same before LF.
@@ -222,8 +220,7 @@ command_stays u v on t = psql_same asks_psql (psql u).end u v a (omega arith)
       right = on.right;
       same = on.same;
       follows = record {
-        one = λ p x. ap p on.at
-            ∙ of_line_ends p x (get_or u (psql u).end 0) t;
+        one = λ p x. ap p on.at ∙ of_line_ends p x (get_or u (psql u).end 0) t;
         two = λ p q x. absurd x;
       };
     }
@@ -311,9 +308,9 @@ tokens_stay strings s u g rest t gap white crlf = by (s && eqb (get_or u 0 0) by
     of_row Whitespace n e = absurd n
     of_row LineComment n e = absurd n
     of_row BlockComment n e = absurd n
-    of_row Psql n e = pair_stays u v _ _ _ refl refl refl g (subst (λ m.
-        IsOn m g u v) (sym e) on) (ap (λ m. begins_gap (drop m u)) e ∙ gap) (λ x.
-        crlf (sym (ap (λ m. is_line_end (get_or u m 0)) e) ∙ x))
+    of_row Psql n e = pair_stays u v _ _ _ refl refl refl g (subst
+        (λ m. IsOn m g u v) (sym e) on) (ap (λ m. begins_gap (drop m u)) e ∙ gap)
+        (λ x. crlf (sym (ap (λ m. is_line_end (get_or u m 0)) e) ∙ x))
     of_row String n e = form_same strings String asks_calm k u v calm some (omega (arith, e))
     of_row QuotedIdent n e =
         form_same strings QuotedIdent asks_calm k u v calm some (omega (arith, e))

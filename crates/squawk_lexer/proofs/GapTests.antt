@@ -108,8 +108,7 @@ asks_of_second Psql = record {
   line_end = tt;
   not_line_end = tt;
   blank = tt;
-  command_word =
-      tt;
+  command_word = tt;
   ends = tt;
   other = λ x e. tt;
 }

@@ -89,8 +89,8 @@ take_read (x ∷ u) (suc k) = let next : suc k + 1 ≡ suc (k + 1) = omega arith
 -- The last of the k + 1 characters that were taken, in the form in which the code has it.
 pub last_taken : (u bs : List ℕ) (s t : Chars) (at k : ℕ) (r : Option ℕ) → IsUtf8 bs
     → chars bs ≡ take at u → at ≤ length u → at ≡ k + 1 → s.rest.now ≡ bs
-    → MatchOption r ((length s.rest.now ≡ 0) × (t ≡ s)) (λ c.
-    s.rest.now ≡ t.rest.now ++ encode_utf8 c) → r ≡ slice_get u k
+    → MatchOption r ((length s.rest.now ≡ 0) × (t ≡ s))
+    (λ c. s.rest.now ≡ t.rest.now ++ encode_utf8 c) → r ≡ slice_get u k
 last_taken u bs s t at k None utf8 is within e same none =
     let empty : chars bs ≡ [] = none_left bs (ap length (sym same) ∙ none.0) in
     let len : length (take at u) ≡ at = length-take-le at u within in

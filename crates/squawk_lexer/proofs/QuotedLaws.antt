@@ -77,10 +77,10 @@ ends e q (c ∷ d ∷ cs) = by (eqb c q) (eqb d q) (e
   where
     by : (b s p : Bool) → eqb c q ≡ b → eqb d q ≡ s → (e && eqb c backslash) ≡ p
         → Ends e q cs (quoted_len e q cs) → Ends e q (d ∷ cs) (quoted_len e q (d ∷ cs))
-        → Ends e q (c ∷ d ∷ cs) (cond b (cond s (option_map (λ n.
-        n + 2) (quoted_len e q cs)) (Some 1))
-        (cond p (option_map (λ n. n + 2) (quoted_len e q cs)) (option_map (λ n.
-        n + 1) (quoted_len e q (d ∷ cs)))))
+        → Ends e q (c ∷ d ∷ cs) (cond b (cond s (option_map
+        (λ n. n + 2) (quoted_len e q cs)) (Some 1))
+        (cond p (option_map (λ n. n + 2) (quoted_len e q cs)) (option_map
+        (λ n. n + 1) (quoted_len e q (d ∷ cs)))))
     by true true p t s r more next = two e q c d cs (quoted_len e q cs) t s more
     by true false p t s r more next = ends_here e q c d cs t s
     by false s true t u r more next = pair e q c d cs (quoted_len e q cs) t r more
@@ -133,6 +133,6 @@ quoted_ends_once e q cs m (OneItem c [] k t s items) h n = let none : None ≡ S
     sym (after_one c [] (1 + k) k (omega arith)) ∙ h in cc
 quoted_ends_once e q cs m (OneItem c (d ∷ rest) k t s items) h n =
     let more = quoted_ends_once e q (d ∷ rest) k items
-    (sym (after_one c (d ∷ rest) (1 + k) k (omega arith)) ∙ h) (λ g.
-    n (after_one c (d ∷ rest) (1 + k + 1) (k + 1) (omega arith) ∙ g)) in
+    (sym (after_one c (d ∷ rest) (1 + k) k (omega arith)) ∙ h)
+    (λ g. n (after_one c (d ∷ rest) (1 + k + 1) (k + 1) (omega arith) ∙ g)) in
     rw (t, s) (plus (quoted_len e q (d ∷ rest)) 1 (k + 1) (1 + k + 1) more (omega arith))

@@ -122,8 +122,7 @@ quoted_step_pair e q o u i c which s same some next =
     let first = quoted_passed e q u i in
     let p = quoted_pair e q u j some (get_some u j c s ∙ same) next_is in
     rw (b, after_within u (j + 1) k, two) (
-      rw (← which) at (first.0)
-          ∙ sym p.0,
+      rw (← which) at (first.0) ∙ sym p.0,
       rw (← which) at (first.1) ∙ sym p.1,
     )
 
@@ -142,8 +141,7 @@ quoted_step_escaped true q o u i c which s other =
     let p = quoted_escaped q u j c s (ne_eqb c q other) (eq-eqb c 92 back) in
     rw (after_some u j c s) (
       rw (← which) at (first.0) ∙ sym p.0,
-      rw (← which) at (first.1)
-          ∙ sym p.1,
+      rw (← which) at (first.1) ∙ sym p.1,
     )
 
 pub quoted_step_stop : (e : Bool) (q o : ℕ) (u : List ℕ) (i c : ℕ) → o ≡ cond e 92 q
@@ -164,8 +162,7 @@ quoted_step_end e q o u i which s =
     let first = quoted_passed e q u i in
     let p = quoted_at_end e q u (stop_at q o u i) s in
     rw (after_none u (stop_at q o u i) s) (
-      rw (← which) at (first.0)
-          ∙ p.0,
+      rw (← which) at (first.0) ∙ p.0,
       rw (← which) at (first.1) ∙ p.1,
     )
 

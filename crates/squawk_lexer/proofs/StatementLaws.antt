@@ -143,8 +143,7 @@ first_stays strings s a b some same more =
     ap (λ (x : Lexeme). token_from x (a ++ b)) same
     ∙ ap (λ w. record {
       kind = (lexeme_at strings s a).kind;
-      len =
-          utf8_len w;
+      len = utf8_len w;
     }) (take-append-le k a b within) in
     let rest : drop (lexeme_at strings s (a ++ b)).end (a ++ b) ≡ drop k a ++ b =
     ap (λ (x : Lexeme). drop x.end (a ++ b)) same ∙ drop-append-le k a b within in
@@ -222,8 +221,8 @@ step strings s a b some e behind = by (cases_lt 0 (length rest))
     by : (0 < length rest) ⊎ (length rest ≤ 0) → Stands strings s a b
     by (inr none) =
         let empty : length rest ≡ 0 = omega arith in
-        let kind : token.kind ≡ kinds.Semi = subst (λ ts.
-        EndsWithSemi (token ∷ ts)) (tokens_none strings false rest empty) ends in
+        let kind : token.kind ≡ kinds.Semi = subst
+        (λ ts. EndsWithSemi (token ∷ ts)) (tokens_none strings false rest empty) ends in
         first_stays strings s a b some (semi_same strings s a b some kind)
         (none_stands strings rest b empty)
     by (inl more) =

@@ -154,8 +154,8 @@ inside_run a b bs cs n m first part second =
     rw (second, part, first)
     (both_runs (λ x. not ((eqb x a || eqb x b) || eqb x 10)) (λ x. not (eqb x 13)) bs
     ∙ same_runs (λ x. not ((eqb x a || eqb x b) || eqb x 10)
-    && not (eqb x 13)) (is_neither_on_line a b) (λ x.
-    line_tests (eqb x a) (eqb x b) (eqb x 10) (eqb x 13)) bs)
+    && not (eqb x 13)) (is_neither_on_line a b)
+    (λ x. line_tests (eqb x a) (eqb x b) (eqb x 10) (eqb x 13)) bs)
 
 -- A search on a line ends at or after its start.
 pub inside_on : (a b : ℕ) (u : List ℕ) (i : ℕ) → i ≤ stop_on_line a b u i

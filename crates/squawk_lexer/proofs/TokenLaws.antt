@@ -283,8 +283,7 @@ form_real strings BlockComment u = record { real = refl }
 form_real strings String u = record { real = refl }
 form_real strings QuotedIdent u = record { real = refl }
 form_real strings Word u = record {
-  real =
-      (prefix_other (prefix_of (get_or u 0 0) (get_or u 1 0) (get_or u 2 0)) u).real;
+  real = (prefix_other (prefix_of (get_or u 0 0) (get_or u 1 0) (get_or u 2 0)) u).real;
 }
 form_real strings Dollar u = record { real = (dollar_other u).real }
 form_real strings Number u = record { real = (number_other u).real }

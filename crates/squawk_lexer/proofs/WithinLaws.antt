@@ -77,19 +77,19 @@ digits_in digit u i h = omega (arith, len digit (drop i u), length-drop i u)
     len : (digit : ℕ → Bool) (v : List ℕ) → digits_len digit v ≤ length v
     len digit [] = omega arith
     len digit (c ∷ cs) =
-        less (digit c || (eqb c 95 && digit (get_or cs 0 0))) (1 + digits_len digit cs) 0 _ (λ t.
-        omega (arith, len digit cs)) (omega arith)
+        less (digit c || (eqb c 95 && digit (get_or cs 0 0))) (1 + digits_len digit cs) 0 _
+        (λ t. omega (arith, len digit cs)) (omega arith)
 
 junk_in : (u : List ℕ) (i : ℕ) → i ≤ length u → junk_end u i ≤ length u
-junk_in u i h = less (is_ident_start (get_or u i 0)) (run_end is_ident_cont u i) i _ (λ t.
-    run_in is_ident_cont u i h) h
+junk_in u i h = less (is_ident_start (get_or u i 0)) (run_end is_ident_cont u i) i _
+    (λ t. run_in is_ident_cont u i h) h
 
 exponent_in : (u : List ℕ) (i : ℕ) → i < length u → exponent_end u i ≤ length u
 exponent_in u i h =
     less (is_sign (get_or u (i + 1) 0) && is_digit (get_or u (i + 2) 0)) (digits_end u (i + 2)) _ _
     (λ t. digits_in is_digit u (i + 2) (signed t))
-    (less (is_digit (get_or u (i + 1) 0)) (digits_end u (i + 1)) (i + 1) _ (λ t.
-    digits_in is_digit u (i + 1) (omega arith)) (omega arith))
+    (less (is_digit (get_or u (i + 1) 0)) (digits_end u (i + 1)) (i + 1) _
+    (λ t. digits_in is_digit u (i + 1) (omega arith)) (omega arith))
   where
     signed : (is_sign (get_or u (i + 1) 0) && is_digit (get_or u (i + 2) 0)) ≡ true
         → i + 2 ≤ length u
@@ -102,8 +102,8 @@ with_exponent_in : (u : List ℕ) (i : ℕ) → i < length u → (with_exponent 
 with_exponent_in u i h = junk_in u (exponent_end u i) (exponent_in u i h)
 
 fraction_in : (u : List ℕ) (i : ℕ) → i ≤ length u → fraction_end u i ≤ length u
-fraction_in u i h = less (is_digit (get_or u i 0)) (digits_end u i) i _ (λ t.
-    digits_in is_digit u i h) h
+fraction_in u i h = less (is_digit (get_or u i 0)) (digits_end u i) i _
+    (λ t. digits_in is_digit u i h) h
 
 fractional_in : (u : List ℕ) (i : ℕ) → i ≤ length u → (fractional u i).end ≤ length u
 fractional_in u i h =
@@ -130,11 +130,11 @@ base_in u x y p q t =
 -- Every number ends within the text.
 number_in : (u : List ℕ) → 1 ≤ length u → (number u).end ≤ length u
 number_in u h =
-    either _ (based_int Binary u (digits_end u 2)) _ _ (λ t.
-    junk_in u (digits_end u 2) (digits_in is_digit u 2
+    either _ (based_int Binary u (digits_end u 2)) _ _
+    (λ t. junk_in u (digits_end u 2) (digits_in is_digit u 2
     (base_in u 98 66 (omega arith) (omega arith) t)))
-    (either _ (based_int Octal u (digits_end u 2)) _ _ (λ t.
-    junk_in u (digits_end u 2) (digits_in is_digit u 2
+    (either _ (based_int Octal u (digits_end u 2)) _ _
+    (λ t. junk_in u (digits_end u 2) (digits_in is_digit u 2
     (base_in u 111 79 (omega arith) (omega arith) t)))
     (either _ (based_int Hexadecimal u (hex_digits_end u 2)) (decimal_from u (digits_end u 1)) _
     (λ t. junk_in u (hex_digits_end u 2) (digits_in is_hex_digit u 2
@@ -160,8 +160,8 @@ quoted_in escapes q u i h = end_in u i (quoted_len escapes q (drop i u)) h (len 
         (len cs) in
         let one = on (quoted_len escapes q (d ∷ cs)) 1 (length (d ∷ cs)) (length (c ∷ d ∷ cs))
         (omega arith) (len (d ∷ cs)) in
-        found (eqb c q) _ _ _ (λ t. found (eqb d q) _ (Some 1) _ (λ s.
-        two) (omega arith)) (found (escapes && eqb c 92) _ _ _ (λ t. two) one)
+        found (eqb c q) _ _ _ (λ t. found (eqb d q) _ (Some 1) _
+        (λ s. two) (omega arith)) (found (escapes && eqb c 92) _ _ _ (λ t. two) one)
 
 comment_in : (inner : ℕ) (v : List ℕ) → unwrap_or (comment_len inner v) (length v) ≤ length v
 comment_in inner [] = omega arith
@@ -171,8 +171,8 @@ comment_in zero (c ∷ d ∷ cs) =
     (comment_in 1 cs) in
     let one = on (comment_len 0 (d ∷ cs)) 1 (length (d ∷ cs)) (length (c ∷ d ∷ cs)) (omega arith)
     (comment_in 0 (d ∷ cs)) in
-    found (opens_comment c d) _ _ _ (λ t. in_two) (found (closes_comment c d) (Some 2) _ _ (λ t.
-    omega arith) one)
+    found (opens_comment c d) _ _ _ (λ t. in_two) (found (closes_comment c d) (Some 2) _ _
+    (λ t. omega arith) one)
 comment_in (suc n) (c ∷ d ∷ cs) =
     let in_two = on (comment_len (suc (suc n)) cs) 2 (length cs) (length (c ∷ d ∷ cs)) (omega arith)
     (comment_in (suc (suc n)) cs) in
@@ -180,8 +180,8 @@ comment_in (suc n) (c ∷ d ∷ cs) =
     on (comment_len n cs) 2 (length cs) (length (c ∷ d ∷ cs)) (omega arith) (comment_in n cs) in
     let one = on (comment_len (suc n) (d ∷ cs)) 1 (length (d ∷ cs)) (length (c ∷ d ∷ cs))
     (omega arith) (comment_in (suc n) (d ∷ cs)) in
-    found (opens_comment c d) _ _ _ (λ t. in_two) (found (closes_comment c d) _ _ _ (λ t.
-    out_two) one)
+    found (opens_comment c d) _ _ _ (λ t. in_two) (found (closes_comment c d) _ _ _
+    (λ t. out_two) one)
 
 starts_in : (v d : List ℕ) → starts_with nat_eq v d ≡ true → length d ≤ length v
 starts_in v [] e = omega arith
@@ -232,23 +232,23 @@ args_in u i h = omega (arith, len 0 (drop i u), length-drop i u)
   where
     len : (inside : ℕ) (v : List ℕ) → arguments_len inside v ≤ length v
     len inside [] = omega arith
-    len zero (c ∷ cs) = less (ends_arguments c) 0 (1 + arguments_len (part_rest c cs) cs) _ (λ t.
-        omega arith) (omega (arith, len (part_rest c cs) cs))
+    len zero (c ∷ cs) = less (ends_arguments c) 0 (1 + arguments_len (part_rest c cs) cs) _
+        (λ t. omega arith) (omega (arith, len (part_rest c cs) cs))
     len (suc n) (c ∷ cs) = omega (arith, len n cs)
 
 marked_in : (inside : ℕ) (mark : Option ℕ) (v : List ℕ)
     → unwrap_or (marked_len inside mark v) (length v) ≤ length v
-marked_in inside mark [] = found (is_parenthesis mark) (Some 0) None _ (λ t.
-    omega arith) (omega arith)
+marked_in inside mark [] = found (is_parenthesis mark) (Some 0) None _
+    (λ t. omega arith) (omega arith)
 marked_in zero mark (c ∷ cs) =
     let blank = on (marked_len 0 None cs) 1 (length cs) (length (c ∷ cs)) (omega arith)
     (marked_in 0 None cs) in
     let part = on (marked_len (part_rest c cs) (mark_after mark c cs) cs) 1 (length cs)
     (length (c ∷ cs)) (omega arith) (marked_in (part_rest c cs) (mark_after mark c cs) cs) in
-    found (ends_arguments c) _ _ _ (λ t. found (is_parenthesis mark) (Some 0) None _ (λ s.
-    omega arith) (omega arith))
-    (found (is_blank c) _ _ _ (λ t. found (is_parenthesis mark) (Some 0) _ _ (λ s.
-    omega arith) blank) part)
+    found (ends_arguments c) _ _ _ (λ t. found (is_parenthesis mark) (Some 0) None _
+    (λ s. omega arith) (omega arith))
+    (found (is_blank c) _ _ _ (λ t. found (is_parenthesis mark) (Some 0) _ _
+    (λ s. omega arith) blank) part)
 marked_in (suc n) mark (c ∷ cs) =
     on (marked_len n mark cs) 1 (length cs) (length (c ∷ cs)) (omega arith) (marked_in n mark cs)
 
@@ -259,20 +259,20 @@ options_in u i (Some n) h k = run_in is_blank u (i + n) (omega (arith, length-dr
 
 output_start_in : (b : Bool) (u : List ℕ) (i : ℕ) → i ≤ length u → output_start b u i ≤ length u
 output_start_in b u i h =
-    less (b && eqb (get_or u i 0) 40) (options_end u i (marked_len_at u i)) i _ (λ t.
-    options_in u i (marked_len_at u i) h (marked_in 0 None (drop i u))) h
+    less (b && eqb (get_or u i 0) 40) (options_end u i (marked_len_at u i)) i _
+    (λ t. options_in u i (marked_len_at u i) h (marked_in 0 None (drop i u))) h
 
 output_end_in : (u : List ℕ) (p : ℕ) → p ≤ length u → output_end u p ≤ length u
-output_end_in u p h = less (eqb (get_or u p 0) 124) (line_end u p) (arguments_end u p) _ (λ t.
-    run_in is_not_line_end u p h) (args_in u p h)
+output_end_in u p h = less (eqb (get_or u p 0) 124) (line_end u p) (arguments_end u p) _
+    (λ t. run_in is_not_line_end u p h) (args_in u p h)
 
 command_in : (u : List ℕ) → 1 ≤ length u → command_end u ≤ length u
 command_in u h =
     let w : word_end u ≤ length u = run_in is_command_char u 1 h in
     let i = run_end is_blank u (word_end u) in
     let options = is_among option_words (command_word u) in
-    less (takes_line (command_word u)) (line_end u (word_end u)) _ _ (λ t.
-    run_in is_not_line_end u (word_end u) w)
+    less (takes_line (command_word u)) (line_end u (word_end u)) _ _
+    (λ t. run_in is_not_line_end u (word_end u) w)
     (less (is_among pipe_words (command_word u)) (output_end u (output_start options u i))
     (arguments_end u (word_end u)) _
     (λ t. output_end_in u (output_start options u i)
@@ -281,10 +281,10 @@ command_in u h =
 
 psql_in : (u : List ℕ) → 1 ≤ length u → (psql u).end ≤ length u
 psql_in u h =
-    either (eqb (get_or u 1 0) 92) (lexeme_until (kinds.PsqlCommand false) 2) _ _ (λ t.
-    read_in u 1 92 (omega arith) t)
-    (either (eqb (get_or u 1 0) 59) (lexeme_until kinds.Semi 2) _ _ (λ t.
-    read_in u 1 59 (omega arith) t)
+    either (eqb (get_or u 1 0) 92) (lexeme_until (kinds.PsqlCommand false) 2) _ _
+    (λ t. read_in u 1 92 (omega arith) t)
+    (either (eqb (get_or u 1 0) 59) (lexeme_until kinds.Semi 2) _ _
+    (λ t. read_in u 1 59 (omega arith) t)
     (either (eqb (get_or u 1 0) 58) (lexeme_until kinds.Colon 2)
     (lexeme_until (kinds.PsqlCommand (is_among query_ending_words (command_word u)))
     (command_end u)) _
