@@ -59,8 +59,8 @@ quoted_far : (escapes : Bool) (q c : ℕ) (cs : List ℕ)
     → 1 ≤ unwrap_or (quoted_len escapes q (c ∷ cs)) (length (c ∷ cs))
 quoted_far escapes q c [] = either_far (eqb c q) (Some 1) None 1 1 (omega arith) (omega arith)
 quoted_far escapes q c (d ∷ cs) =
-    let two : 1 ≤ unwrap_or (option_map
-    (λ m. m + 2) (quoted_len escapes q cs)) (length (c ∷ d ∷ cs)) =
+    let two : 1 ≤ unwrap_or
+    (option_map (λ m. m + 2) (quoted_len escapes q cs)) (length (c ∷ d ∷ cs)) =
     omega (
       arith,
       far (quoted_len escapes q cs) 2 (length cs) (length (c ∷ d ∷ cs))
@@ -165,8 +165,8 @@ comment_looks (suc i) (x ∷ y ∷ xs) c d r s h =
     let m = λ (o : Option ℕ). unwrap_or o (length (x ∷ y ∷ xs ++ c ∷ r)) in
     let n = length (x ∷ y ∷ xs) in
     branch m (opens_comment x y) _ _ _ _ n
-    (λ t k. later (comment_len (suc (suc i)) (xs ++ c ∷ r)) (comment_len (suc (suc i)) (xs ++ d
-    ∷ s)) 2 (length (xs ++ c ∷ r)) (length (x ∷ y ∷ xs ++ c ∷ r)) (length xs) (omega arith)
+    (λ t k. later (comment_len (suc (suc i)) (xs ++ c ∷ r)) (comment_len (suc (suc i))
+    (xs ++ d ∷ s)) 2 (length (xs ++ c ∷ r)) (length (x ∷ y ∷ xs ++ c ∷ r)) (length xs) (omega arith)
     (comment_looks (suc (suc i)) xs c d r s) (omega arith))
     (λ t. branch m (closes_comment x y) _ _ _ _ n
     (λ t k. later (comment_len i (xs ++ c ∷ r)) (comment_len i (xs ++ d ∷ s)) 2
@@ -248,8 +248,8 @@ find_looks w (x ∷ xs) c d r s h =
     find_short w (x ∷ xs ++ c ∷ r) (length (x ∷ xs)) h (omega (arith, length-append xs (c ∷ r)))
     in
     pick m (starts_with nat_eq (x ∷ xs ++ c ∷ r) w) (starts_with nat_eq (x ∷ xs ++ d ∷ s) w)
-    (Some (length w)) _ (Some (length w)) _ (length (x ∷ xs)) (starts_same w (x ∷ xs) (c ∷ r) (d
-    ∷ s) short) (λ t k. refl)
+    (Some (length w)) _ (Some (length w)) _ (length (x ∷ xs)) (starts_same w (x ∷ xs) (c ∷ r)
+    (d ∷ s) short) (λ t k. refl)
     (λ t k. later (find_end w (xs ++ c ∷ r)) (find_end w (xs ++ d ∷ s)) 1 (length (xs ++ c ∷ r))
     (length (x ∷ xs ++ c ∷ r)) (length xs) (omega arith) (find_looks w xs c d r s)
     (omega arith)) h

@@ -81,8 +81,8 @@ close_looks w q plain (x ∷ []) c d r s f h =
     let m = λ (o : Option ℕ). unwrap_or o total in
     branch m (is_line_end x) None _ None _ 1 (λ t k. refl)
     (λ t. branch m (eqb x q) (Some 1) _ (Some 1) _ 1 (λ e k. refl)
-    (λ e. pick m (is_escape_pair q x c) (is_escape_pair q x d) _ _ _ _ 1 (ap
-    (λ b. (eqb q 39 && eqb x 92) && not b) (f.one is_line_end w.line_end))
+    (λ e. pick m (is_escape_pair q x c) (is_escape_pair q x d) _ _ _ _ 1
+    (ap (λ b. (eqb q 39 && eqb x 92) && not b) (f.one is_line_end w.line_end))
     (λ p k. absurd (omega (
       arith,
       far (close_len q r) 2 (prefix_len is_not_line_end r) total
@@ -304,8 +304,8 @@ output_start_same : {told : Tests} {pairs : PairTests}
     → AsksPsql told → (b : Bool) (k : ℕ) (u v : List ℕ) (i : ℕ) → Alike told pairs k u v
     → output_start b u i ≤ k → output_start b v i ≡ output_start b u i
 output_start_same z b k u v i a h =
-    pick (λ n. n) (b && eqb (get_or u i 0) 40) (b
-    && eqb (get_or v i 0) 40) (options_end u i (marked_len_at u i)) i
+    pick (λ n. n) (b && eqb (get_or u i 0) 40)
+    (b && eqb (get_or v i 0) 40) (options_end u i (marked_len_at u i)) i
     (options_end v i (marked_len_at v i)) i k
     (ap (λ e. b && e) (test (λ c. eqb c 40) (z.other 40 refl) k u v i a
     (omega (arith, output_start_on b u i)))) (λ t e. options_same z k u v i a e) (λ t e. refl) h

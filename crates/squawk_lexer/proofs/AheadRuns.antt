@@ -20,8 +20,8 @@ prefix_looks class t [] c d r s f h =
     pick (λ n. n) (class c) (class d) (1 + prefix_len class r) 0 (1 + prefix_len class s) 0 0
     (f.one class t) (λ e k. absurd (omega arith)) (λ e k. refl) h
 prefix_looks class t (x ∷ xs) c d r s f h =
-    branch (λ n. n) (class x) (1 + prefix_len class (xs ++ c ∷ r)) 0 (1 + prefix_len class (xs ++ d
-    ∷ s)) 0 (length (x ∷ xs))
+    branch (λ n. n) (class x) (1 + prefix_len class (xs ++ c ∷ r)) 0 (1 + prefix_len class
+    (xs ++ d ∷ s)) 0 (length (x ∷ xs))
     (λ e k. ap (λ n. 1 + n) (prefix_looks class t xs c d r s f (omega arith))) (λ e k. refl) h
 
 -- The end of a run is the same in both texts.

@@ -78,10 +78,10 @@ prefix_same w k u v a some =
     && eqb (get_or v 2 0) 39) (eqb (get_or v 1 0) 38 && eqb (get_or v 2 0) 34)) first
     ∙ ap (λ b. prefix_from (get_or u 0 0) b (eqb (get_or v 1 0) 38
     && eqb (get_or v 2 0) 39) (eqb (get_or v 1 0) 38 && eqb (get_or v 2 0) 34)) quote
-    ∙ ap (λ b. prefix_from (get_or u 0 0) (eqb (get_or u 1 0) 39) b (eqb (get_or v 1 0) 38
-    && eqb (get_or v 2 0) 34)) string
-    ∙ ap (prefix_from (get_or u 0 0) (eqb (get_or u 1 0) 39) (eqb (get_or u 1 0) 38
-    && eqb (get_or u 2 0) 39)) ident
+    ∙ ap (λ b. prefix_from (get_or u 0 0) (eqb (get_or u 1 0) 39) b
+    (eqb (get_or v 1 0) 38 && eqb (get_or v 2 0) 34)) string
+    ∙ ap (prefix_from (get_or u 0 0) (eqb (get_or u 1 0) 39)
+    (eqb (get_or u 1 0) 38 && eqb (get_or u 2 0) 39)) ident
     ∙ sym (prefix_is (get_or u 0 0) (get_or u 1 0) (get_or u 2 0))
 
 -- So is the lexeme that it begins.

@@ -300,8 +300,8 @@ through_none token rest needle hay pin r utf8 first same alike finds =
 
 -- All that is left is skipped.
 pub skip_all : (token rest : List ℕ) → IsRest token rest
-    → IsSkip token rest (length rest) (chars_before token rest
-    + length (drop (chars_before token rest) (chars token)))
+    → IsSkip token rest (length rest)
+    (chars_before token rest + length (drop (chars_before token rest) (chars token)))
 skip_all token rest r =
     let utf8 = IsUtf8-from_is_utf8 rest r.rest_utf8 in
     let all : utf8_len (take (length (chars rest)) (chars rest)) ≡ length rest =

@@ -94,8 +94,8 @@ digit_bytes digit low (c ∷ cs) = by (cases_lt c 128) (digit_bytes digit low cs
 -- Skipping digits, in the form in which the code has it.
 pub passed_digits : (digit : ℕ → Bool) → Low digit → (token rest bs : List ℕ) (n : ℕ)
     → IsRest token rest → n ≡ digits_len digit bs → bs ≡ rest
-    → IsSkip token rest n (chars_before token rest
-    + digits_len digit (drop (chars_before token rest) (chars token)))
+    → IsSkip token rest n
+    (chars_before token rest + digits_len digit (drop (chars_before token rest) (chars token)))
 passed_digits digit low token rest bs n r len same =
     let cs = chars rest in
     let rest_is : rest ≡ encode_utf8_all cs =

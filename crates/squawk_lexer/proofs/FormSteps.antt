@@ -62,9 +62,9 @@ picked false false false false false false false false false false false = refl
 
 -- The tests of the chain are those of `form_test`.
 same_test : (r : TokenForm) (c d : ℕ)
-    → pick r (is_whitespace c) (eqb c 45 && eqb d 45) (eqb c 47
-    && eqb d 42) (eqb c 39) (eqb c 34) (is_ident_start c) (eqb c 36) (is_digit c) (eqb c 46
-    && eqb d 46) (eqb c 46 && is_digit d) (eqb c 92) ≡ form_test r c d
+    → pick r (is_whitespace c) (eqb c 45 && eqb d 45) (eqb c 47 && eqb d 42) (eqb c 39) (eqb c 34)
+    (is_ident_start c) (eqb c 36) (is_digit c) (eqb c 46 && eqb d 46) (eqb c 46 && is_digit d)
+    (eqb c 92) ≡ form_test r c d
 same_test Whitespace c d = refl
 same_test LineComment c d = refl
 same_test BlockComment c d = refl
@@ -83,12 +83,12 @@ pub form_fits : (r : TokenForm) (c d : ℕ) → r ≡ token_form c d → form_te
 unfolding token_form
 form_fits r c d e =
     sym (same_test r c d)
-    ∙ subst (λ t. pick t (is_whitespace c) (eqb c 45 && eqb d 45) (eqb c 47
-    && eqb d 42) (eqb c 39) (eqb c 34) (is_ident_start c) (eqb c 36) (is_digit c) (eqb c 46
-    && eqb d 46) (eqb c 46 && is_digit d) (eqb c 92) ≡ true) (sym e)
-    (picked (is_whitespace c) (eqb c 45 && eqb d 45) (eqb c 47
-    && eqb d 42) (eqb c 39) (eqb c 34) (is_ident_start c) (eqb c 36) (is_digit c) (eqb c 46
-    && eqb d 46) (eqb c 46 && is_digit d) (eqb c 92))
+    ∙ subst (λ t. pick t (is_whitespace c) (eqb c 45 && eqb d 45) (eqb c 47 && eqb d 42)
+    (eqb c 39) (eqb c 34) (is_ident_start c) (eqb c 36) (is_digit c) (eqb c 46 && eqb d 46)
+    (eqb c 46 && is_digit d) (eqb c 92) ≡ true) (sym e)
+    (picked (is_whitespace c) (eqb c 45 && eqb d 45) (eqb c 47 && eqb d 42) (eqb c 39) (eqb c 34)
+    (is_ident_start c) (eqb c 36) (is_digit c) (eqb c 46 && eqb d 46) (eqb c 46 && is_digit d)
+    (eqb c 92))
 
 -- White space begins with white space, and a form of two characters has a second one.
 pub form_white : (c d : ℕ) → Whitespace ≡ token_form c d → is_whitespace c ≡ true

@@ -94,8 +94,8 @@ form_from c line_end block dots point =
 
 -- `token_form` in these terms.
 pub form_is : (c d : ℕ) → token_form c d
-    ≡ form_from c (eqb c 45 && eqb d 45) (eqb c 47 && eqb d 42) (eqb c 46 && eqb d 46) (eqb c 46
-    && is_digit d)
+    ≡ form_from c (eqb c 45 && eqb d 45) (eqb c 47 && eqb d 42) (eqb c 46 && eqb d 46)
+    (eqb c 46 && is_digit d)
 unfolding token_form
 form_is c d = refl
 

@@ -96,8 +96,8 @@ no_gap_form c d Symbol e t = tt
 -- The first token of a text that begins with a gap is trivia.
 gap_form : (strings : Strings) (u : List ℕ) → begins_gap u ≡ true
     → is_trivia (lexeme_of strings u).kind ≡ true
-gap_form strings u t = by (is_whitespace c) (eqb c 45 && eqb d 45) (eqb c 47
-    && eqb d 42) refl refl refl
+gap_form strings u t = by (is_whitespace c) (eqb c 45 && eqb d 45)
+    (eqb c 47 && eqb d 42) refl refl refl
   where
     c : ℕ
     c = get_or u 0 0

@@ -71,10 +71,10 @@ closes q (c ∷ d ∷ cs) =
   where
     by : (l b p : Bool) → is_line_end c ≡ l → eqb c q ≡ b → is_escape_pair q c d ≡ p
         → Closes q cs (close_len q cs) → Closes q (d ∷ cs) (close_len q (d ∷ cs))
-        → Closes q (c ∷ d
-        ∷ cs) (cond l None (cond b (Some 1)
-        (cond p (option_map (λ n. n + 2) (close_len q cs)) (option_map
-        (λ n. n + 1) (close_len q (d ∷ cs))))))
+        → Closes q
+        (c ∷ d ∷ cs) (cond l None (cond b (Some 1)
+        (cond p (option_map (λ n. n + 2) (close_len q cs))
+        (option_map (λ n. n + 1) (close_len q (d ∷ cs))))))
     by true b p t s r two one = no_piece q c (d ∷ cs) t
     by false true p t s r two one = is_close q c (d ∷ cs) s
     by false false true t s r two one = pair_piece q c d cs (close_len q cs) t r two

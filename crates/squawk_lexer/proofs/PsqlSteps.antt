@@ -366,8 +366,8 @@ marked_part mark u i c s more no_blank =
     let inside = marked_inside p m (drop (i + 1) u) (rest_in c (drop (i + 1) u)) in
     let there : drop p (drop (i + 1) u) ≡ drop (i + 1 + p) u = drop-drop p (i + 1) u in
     let rest = rw there at inside in
-    rw (drop_some u i c s, more, no_blank) (ap
-    (λ o. option_map (λ n. i + n) (option_map (λ n. n + 1) o)) rest
+    rw (drop_some u i c s, more, no_blank)
+    (ap (λ o. option_map (λ n. i + n) (option_map (λ n. n + 1) o)) rest
     ∙ map_past (marked_len 0 m (drop (i + 1 + p) u)) i p)
 
 -- A blank is no quote.

@@ -72,15 +72,15 @@ ends e q (c ∷ []) = by (eqb c q) refl
     by : (b : Bool) → eqb c q ≡ b → Ends e q (c ∷ []) (cond b (Some 1) None)
     by true t = ends_last e q c t
     by false t = tt
-ends e q (c ∷ d ∷ cs) = by (eqb c q) (eqb d q) (e
-    && eqb c backslash) refl refl refl (ends e q cs) (ends e q (d ∷ cs))
+ends e q (c ∷ d ∷ cs) = by (eqb c q) (eqb d q)
+    (e && eqb c backslash) refl refl refl (ends e q cs) (ends e q (d ∷ cs))
   where
     by : (b s p : Bool) → eqb c q ≡ b → eqb d q ≡ s → (e && eqb c backslash) ≡ p
         → Ends e q cs (quoted_len e q cs) → Ends e q (d ∷ cs) (quoted_len e q (d ∷ cs))
-        → Ends e q (c ∷ d ∷ cs) (cond b (cond s (option_map
-        (λ n. n + 2) (quoted_len e q cs)) (Some 1))
-        (cond p (option_map (λ n. n + 2) (quoted_len e q cs)) (option_map
-        (λ n. n + 1) (quoted_len e q (d ∷ cs)))))
+        → Ends e q (c ∷ d ∷ cs) (cond b (cond s
+        (option_map (λ n. n + 2) (quoted_len e q cs)) (Some 1))
+        (cond p (option_map (λ n. n + 2) (quoted_len e q cs))
+        (option_map (λ n. n + 1) (quoted_len e q (d ∷ cs)))))
     by true true p t s r more next = two e q c d cs (quoted_len e q cs) t s more
     by true false p t s r more next = ends_here e q c d cs t s
     by false s true t u r more next = pair e q c d cs (quoted_len e q cs) t r more

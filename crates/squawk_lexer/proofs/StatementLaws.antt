@@ -206,8 +206,8 @@ step strings s a b some e behind = by (cases_lt 0 (length rest))
 
     same : 1 ≤ length rest → EndsWithSemi (tokens_from strings 0 false rest)
         → lexeme_at strings s (a ++ b) ≡ lexeme_at strings s a
-    same more e = lexeme_next strings s k a (a
-        ++ b) (longer (k + 1) a b (omega (arith, len))) (next (cases_lt 1 (length rest))) refl
+    same more e = lexeme_next strings s k a
+        (a ++ b) (longer (k + 1) a b (omega (arith, len))) (next (cases_lt 1 (length rest))) refl
       where
         next : (1 < length rest) ⊎ (length rest ≤ 1) → Agrees (k + 2) a (a ++ b)
             ⊎ (get_or a k 0 ≡ 59)
