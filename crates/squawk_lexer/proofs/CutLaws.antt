@@ -1,10 +1,9 @@
 -- The tokens of every text cover it from its start to its end.
-use Rattle.std.proofs.Common.{◌≡◌, ℕ, zero, suc, ◌+◌, ◌-◌, ◌<◌, ◌≤◌, Bool, true, false, List, [], ◌∷◌, ◌++◌, length, drop, take, refl, sym, ap, subst, ◌∙◌, inl, inr, ◌⊎◌, ◌&&◌, arith, IsUtf8}
-use Rattle.std.proofs.lemmas.Bool.{cases_lt, false≢true}
+use Rattle.std.proofs.Common.{◌≡◌, ℕ, zero, suc, ◌+◌, ◌-◌, ◌<◌, ◌≤◌, Bool, false, List, [], ◌∷◌, ◌++◌, length, drop, take, refl, sym, ap, subst, ◌∙◌, inl, inr, ◌⊎◌, arith, IsUtf8}
+use Rattle.std.proofs.lemmas.Bool.{cases_lt}
 use Rattle.std.proofs.lemmas.List.{drop-drop, take-append-drop, length-drop}
 use Rattle.std.proofs.lemmas.Str.{encodes-append, encodes-chars, scalars-chars, is_utf8-from_IsUtf8, IsCharBoundary-at_seam, IsCharBoundary-from_rest, chars_from_encodes}
 use Rattle.std.proofs.Math.Seq.{drop-append_seam}
-use Rattle.std.proofs.Math.Utf8.{scalar, scalars}
 use Rattle.std.specs.Str.{chars, encode_utf8_all, IsCharBoundary}
 use Rattle.squawk_lexer.specs.declared.token.Token.{Token}
 use Rattle.squawk_lexer.specs.declared.token.Strings.{Strings}

@@ -118,7 +118,8 @@ there t (c ∷ cs) b o = by (cases_eq b 0) (cases_lt b (length (encode_utf8 c)))
         (encode_utf8_all (c ∷ cs)) =
         at_from_reads 0 (encode_utf8_all (c ∷ cs)) (encode_utf8_all (36 ∷ t)) 0 (rw e at o.fits)
         (rw e at o.reads) in
-        (0, record { is = e; within = omega arith; stands = prefix_chars (36 ∷ t) (c ∷ cs) _ front })
+        let stands = prefix_chars (36 ∷ t) (c ∷ cs) _ front in
+        (0, record { is = e; within = omega arith; stands = stands })
     by (inr n) (inl inside) more = absurd (
         let some = some_needle t in
         let read = o.reads 0 some in

@@ -1,34 +1,22 @@
 -- A text begins with a gap exactly where its first token is trivia.
-use Rattle.std.proofs.Common.{◌≡◌, ℕ, zero, suc, ◌+◌, ◌<◌, ◌≤◌, Bool, true, false, List, [], ◌∷◌, ◌++◌, length, get_or, take, drop, length-drop, length-append, refl, sym, ap, subst, ◌∙◌, inl, inr, ◌⊎◌, not, ◌&&◌, ◌||◌, eqb, cond, arith}
-use Rattle.std.specs.Bool.{⊤}
-use Rattle.std.specs.List.{prefix_len}
-use Rattle.std.proofs.lemmas.Bool.{cases_lt, cases_eq, cases_Bool, false≢true}
+use Rattle.std.proofs.Common.{◌≡◌, ℕ, Bool, true, false, List, get_or, refl, sym, ap, ◌∙◌, ◌&&◌, ◌||◌, eqb, arith}
+use Rattle.std.proofs.lemmas.Bool.{false≢true}
 use Rattle.std.proofs.lemmas.Bool.Decides.{nat_tests}
-use Rattle.std.proofs.lemmas.List.{get_or-drop, length-take-le}
-use Rattle.std.proofs.lemmas.List.Sums.{prefix_len_stops}
-use Rattle.std.proofs.Math.Seq.{take-append_seam, get_or-append_seam}
 use Rattle.squawk_lexer.specs.declared.token.Strings.{Strings}
 use Rattle.squawk_lexer.specs.declared.token.TokenKind.TheVariants as kinds
 use Rattle.squawk_lexer.specs.declared.lexer.TokenForm.{TokenForm}
 use Rattle.squawk_lexer.specs.declared.lexer.TokenForm.TheVariants.{Whitespace, LineComment, BlockComment, String, QuotedIdent, Word, Dollar, Number, DotDot, Fraction, Psql, Symbol}
-use Rattle.squawk_lexer.specs.Kind.{Lexeme, lexeme_until}
-use Rattle.squawk_lexer.specs.Classes.{is_whitespace, is_line_end, is_not_line_end, is_blank, is_digit, is_ident_start, byte_order_mark}
-use Rattle.squawk_lexer.specs.Runs.{run_end, line_end}
-use Rattle.squawk_lexer.specs.PsqlWords.{is_among, query_ending_words, pipe_words, option_words, takes_line}
-use Rattle.squawk_lexer.specs.PsqlParts.{ends_arguments, part_rest, arguments_len, arguments_end}
-use Rattle.squawk_lexer.specs.Psql.{psql, command_word, word_end, output_start, output_end, command_end}
+use Rattle.squawk_lexer.specs.Kind.{lexeme_until}
+use Rattle.squawk_lexer.specs.Classes.{is_whitespace}
+use Rattle.squawk_lexer.specs.PsqlWords.{is_among, query_ending_words}
+use Rattle.squawk_lexer.specs.Psql.{psql, command_word, command_end}
 use Rattle.squawk_lexer.specs.Symbols.{symbol}
 use Rattle.squawk_lexer.specs.Token.{token_form, prefix_of, lexeme_of_form, lexeme_of, lexeme_at}
 use Rattle.squawk_lexer.specs.Cut.{is_trivia}
-use Rattle.squawk_lexer.specs.LookAhead.{Agrees}
-use Rattle.squawk_lexer.specs.Gaps.{begins_gap, GapsAreSeen, IsGap, TokensStay, TokensStayBefore}
-use Rattle.squawk_lexer.proofs.TokenLaws.{lexeme_at_some, command_plain, either_kind, prefix_other, dollar_other, number_other, fractional_other}
+use Rattle.squawk_lexer.specs.Gaps.{begins_gap, GapsAreSeen}
+use Rattle.squawk_lexer.proofs.TokenLaws.{command_plain, either_kind, prefix_other, dollar_other, number_other, fractional_other}
 use Rattle.squawk_lexer.proofs.FormSteps.{form_fits}
-use Rattle.squawk_lexer.proofs.Steps.{within_read}
-use Rattle.squawk_lexer.proofs.Ahead.{agrees_less, agrees_read, Alike, after}
-use Rattle.squawk_lexer.proofs.AheadRuns.{Asks}
-use Rattle.squawk_lexer.proofs.AheadPsql.{AsksPsql, psql_same}
-use Rattle.squawk_lexer.proofs.AheadTokens.{AsksOf, Any, first_form, form_same, lexeme_same}
+use Rattle.squawk_lexer.proofs.AheadTokens.{first_form}
 use Rattle.squawk_lexer.proofs.GapTests.{is_gap}
 use Rattle.squawk_lexer.proofs.GapLaws.{NoGap, form_is}
 

@@ -4,14 +4,13 @@ use Rattle.std.proofs.Common.{◌≡◌, ℕ, zero, suc, ◌+◌, ◌-◌, ◌<�
 use Rattle.std.proofs.lemmas.Bool.{cases_lt, cases_eq, cases_Bool}
 use Rattle.std.proofs.lemmas.Bool.Decides.{nat_tests}
 use Rattle.std.proofs.lemmas.List.{get_or-drop, length-drop}
-use Rattle.std.proofs.lemmas.List.Sums.{prefix_len_stops, prefix_len-drop_no}
+use Rattle.std.proofs.lemmas.List.Sums.{prefix_len_stops}
 use Rattle.std.specs.List.{prefix_len}
 use Rattle.squawk_lexer.specs.Position.{position_after}
 use Rattle.squawk_lexer.specs.Runs.{run_end}
 use Rattle.squawk_lexer.specs.Stops.{is_neither, stop_at, is_neither_on_line, stop_on_line}
-use Rattle.squawk_lexer.specs.Classes.{is_line_end}
 use Rattle.squawk_lexer.proofs.ByteRuns.{Flat}
-use Rattle.squawk_lexer.proofs.Steps.{drop_some, drop_read, drop_past, after_some, within_some, get_some}
+use Rattle.squawk_lexer.proofs.Steps.{drop_read, drop_past, after_some, within_some, get_some}
 
 -- The class of all characters but two of ASCII holds all characters beyond ASCII.
 pub flat_other : (a b : ℕ) → a < 128 → b < 128 → Flat (is_neither a b)
