@@ -63,8 +63,7 @@ quoted_far escapes q c (d ∷ cs) =
     (option_map (λ m. m + 2) (quoted_len escapes q cs)) (length (c ∷ d ∷ cs)) =
     omega (
       arith,
-      far (quoted_len escapes q cs) 2 (length cs) (length (c ∷ d ∷ cs))
-          (omega arith),
+      far (quoted_len escapes q cs) 2 (length cs) (length (c ∷ d ∷ cs)) (omega arith),
     ) in
     either_far (eqb c q) _ _ _ 1 (either_far (eqb d q) _ (Some 1) _ 1 two (omega arith))
     (either_far (escapes && eqb c 92) _ _ _ 1 two
@@ -118,8 +117,7 @@ comment_far (suc n) c (d ∷ cs) =
     either_far (opens_comment c d) _ _ _ 1
     (omega (
       arith,
-      far (comment_len (suc (suc n)) cs) 2 (length cs) (length (c ∷ d ∷ cs))
-          (omega arith),
+      far (comment_len (suc (suc n)) cs) 2 (length cs) (length (c ∷ d ∷ cs)) (omega arith),
     ))
     (either_far (closes_comment c d) _ _ _ 1
     (omega (arith, far (comment_len n cs) 2 (length cs) (length (c ∷ d ∷ cs)) (omega arith)))

@@ -85,8 +85,7 @@ close_looks w q plain (x ∷ []) c d r s f h =
     (ap (λ b. (eqb q 39 && eqb x 92) && not b) (f.one is_line_end w.line_end))
     (λ p k. absurd (omega (
       arith,
-      far (close_len q r) 2 (prefix_len is_not_line_end r) total
-          (two_on q x c r t p),
+      far (close_len q r) 2 (prefix_len is_not_line_end r) total (two_on q x c r t p),
     )))
     (λ p k. later (close_len q (c ∷ r)) (close_len q (d ∷ s)) 1 (prefix_len is_not_line_end (c ∷ r))
     total 0 (one_on x (c ∷ r) t) (close_looks w q plain [] c d r s f) (omega arith)))) h
@@ -223,8 +222,7 @@ marked_looks : {told : Tests} {pairs : PairTests}
 marked_looks w (suc i) mark [] c d r s f h =
     absurd (omega (
       arith,
-      far (marked_len i mark r) 1 (arguments_len i r) (1 + arguments_len i r)
-          (omega arith),
+      far (marked_len i mark r) 1 (arguments_len i r) (1 + arguments_len i r) (omega arith),
     ))
 marked_looks w zero mark [] c d r s f h =
     let total = arguments_len 0 (c ∷ r) in
@@ -235,8 +233,7 @@ marked_looks w zero mark [] c d r s f h =
     (λ b. branch m (is_parenthesis mark) (Some 0) _ (Some 0) _ 0 (λ p k. refl)
     (λ p k. absurd (omega (
       arith,
-      far (marked_len 0 None r) 1 (arguments_len 0 r) total
-          (blank_on c r t b),
+      far (marked_len 0 None r) 1 (arguments_len 0 r) total (blank_on c r t b),
     ))))
     (λ b k. absurd (omega (
       arith,
@@ -342,8 +339,7 @@ end_far w i u = by (takes_line w) (is_among pipe_words w)
         omega (
           arith,
           output_end_on u (output_at w i u),
-          output_start_on (is_among option_words w) u
-              (run_end is_blank u i),
+          output_start_on (is_among option_words w) u (run_end is_blank u i),
         )
     by false false = omega arith
 

@@ -58,8 +58,7 @@ unfolding prefix_of
 prefix_is c d e =
     rw (
       and_assoc (is_letter 117 c) (eqb d 38) (eqb e 39),
-      and_assoc (is_letter 117 c) (eqb d 38)
-          (eqb e 34),
+      and_assoc (is_letter 117 c) (eqb d 38) (eqb e 34),
     ) refl
 
 -- The prefix is the same in both texts.
@@ -108,6 +107,22 @@ AsksOf told pairs Psql = AsksPsql told
 AsksOf told pairs DotDot = ⊤
 AsksOf told pairs Symbol = ⊤
 AsksOf told pairs _ = Asks told pairs
+
+-- The tests of every form, from those of each kind of token.
+pub asks_form : {told : Tests} {pairs : PairTests} → Asks told pairs → AsksPsql told
+    → told is_whitespace → told is_not_line_end → (s : TokenForm) → AsksOf told pairs s
+asks_form asks psql white line Whitespace = white
+asks_form asks psql white line LineComment = line
+asks_form asks psql white line BlockComment = tt
+asks_form asks psql white line String = asks
+asks_form asks psql white line QuotedIdent = asks
+asks_form asks psql white line Word = asks
+asks_form asks psql white line Dollar = asks
+asks_form asks psql white line Number = asks
+asks_form asks psql white line DotDot = tt
+asks_form asks psql white line Fraction = asks
+asks_form asks psql white line Psql = psql
+asks_form asks psql white line Symbol = tt
 
 -- The lexeme of each form is the same in both texts.
 pub form_same : {told : Tests} {pairs : PairTests} (strings : Strings) (s : TokenForm)
@@ -181,7 +196,7 @@ Any p = ⊤
 abbrev pub PastSemi : (ℕ → Bool) → (ℕ → Bool) → Type 0
 PastSemi p q = p 59 ≡ false
 
--- The tests of every form are among these.
+-- The tests of words and numbers are among these, those of psql commands, and those of every form.
 any : Asks Any PastSemi
 any = record {
   id_start = tt;
@@ -202,11 +217,8 @@ any = record {
   and_ident = refl;
 }
 
-asks_any : (s : TokenForm) → AsksOf Any PastSemi s
-asks_any Whitespace = tt
-asks_any LineComment = tt
-asks_any BlockComment = tt
-asks_any Psql = record {
+pub any_psql : AsksPsql Any
+any_psql = record {
   line_end = tt;
   not_line_end = tt;
   blank = tt;
@@ -214,14 +226,9 @@ asks_any Psql = record {
   ends = tt;
   other = λ x e. tt;
 }
-asks_any DotDot = tt
-asks_any Symbol = tt
-asks_any String = any
-asks_any QuotedIdent = any
-asks_any Word = any
-asks_any Dollar = any
-asks_any Number = any
-asks_any Fraction = any
+
+asks_any : (s : TokenForm) → AsksOf Any PastSemi s
+asks_any s = asks_form any any_psql tt tt s
 
 -- Texts that agree on the next character, and on the one after it unless the next is `;`, are
 -- alike.

@@ -45,8 +45,7 @@ more p ps n m (Some l) some e (k, is, b) = (
       b.balanced,
       e,
       sum_by-cons opens_in p (take k ps),
-      sum_by-cons
-          closes_in p (take k ps),
+      sum_by-cons closes_in p (take k ps),
     )
 
     first : (j : ℕ) → j < suc k → StaysOpen n (p ∷ ps) j

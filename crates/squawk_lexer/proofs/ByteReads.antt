@@ -74,8 +74,7 @@ form_second c d e p q =
       apart d 45 p (omega arith),
       apart d 42 p (omega arith),
       apart d 46 p (omega arith),
-      apart e
-          45 q (omega arith),
+      apart e 45 q (omega arith),
       apart e 42 q (omega arith),
       apart e 46 q (omega arith),
       no_digit d p,
@@ -114,8 +113,7 @@ prefix_third c d e f p q =
       apart e 39 p (omega arith),
       apart e 34 p (omega arith),
       apart f 39 q (omega arith),
-      apart f
-          34 q (omega arith),
+      apart f 34 q (omega arith),
     ) refl
 
 -- The prefix by first bytes is the prefix by characters.

@@ -157,16 +157,14 @@ tiles (suc n) strings text at s within utf8 h =
         omega (
           arith,
           ap length rest,
-          length-drop (lexeme_at strings s (chars (drop at text))).end
-              (chars (drop at text)),
+          length-drop (lexeme_at strings s (chars (drop at text))).end (chars (drop at text)),
           lexeme_at_some strings s (chars (drop at text)) some,
           h,
         ) in
         let more = behind (at + token.len) boundary.0 utf8_after less in
         rw (tokens_first strings s (chars (drop at text)) some) (
           token_positive strings s (chars (drop at text)) some,
-          token_never_eof strings s
-              (chars (drop at text)),
+          token_never_eof strings s (chars (drop at text)),
           boundary,
           rw rest at more,
         )

@@ -15,7 +15,7 @@ use Rattle.memchr.specs.Find.{OccursAt, FindsNeedle}
 use Rattle.squawk_lexer.specs.Text.{utf8_len}
 use Rattle.squawk_lexer.specs.Dollar.{find_end}
 use Rattle.squawk_lexer.specs.Laws.{IsFirstOccurrence}
-use Rattle.squawk_lexer.proofs.CursorRest.{length_encodes, length_bytes}
+use Rattle.squawk_lexer.proofs.CursorRest.{length_encodes, length_bytes, fewer_bytes}
 use Rattle.squawk_lexer.specs.CursorModel.{IsRest, chars_before}
 use Rattle.squawk_lexer.proofs.ByteRuns.{some_bytes, IsSkip, skip}
 
@@ -166,8 +166,7 @@ find_is d (c ∷ v) (suc k) f h =
     let before : starts_with nat_eq (c ∷ v) d ≡ false = f.first 0 (omega arith) in
     let rest : IsFirstOccurrence d v k = record {
       stands = f.stands;
-      first = λ j below.
-          f.first (suc j) (omega arith);
+      first = λ j below. f.first (suc j) (omega arith);
     } in
     rw (before, find_is d v k rest (omega arith)) (ap Some (omega arith))
 
@@ -179,22 +178,6 @@ find_none d (c ∷ v) nowhere = rw (
   find_none d v
       (λ k h. nowhere (suc k) (omega arith)),
 ) refl
-
--- A shorter prefix takes fewer bytes.
-pub fewer_bytes : (v : List ℕ) (j k : ℕ) → j < k → k ≤ length v
-    → utf8_len (take j v) < utf8_len (take k v)
-fewer_bytes v j zero h w = absurd (omega arith)
-fewer_bytes [] j (suc k) h w = absurd (omega arith)
-fewer_bytes (c ∷ v) zero (suc k) h w =
-    omega (arith, sum_by-cons len_utf8 c (take k v), (len_utf8_bounds c).0)
-fewer_bytes (c ∷ v) (suc j) (suc k) h w =
-    omega (
-      arith,
-      sum_by-cons len_utf8 c (take k v),
-      sum_by-cons len_utf8 c (take j v),
-      fewer_bytes
-          v j k (omega arith) (omega arith),
-    )
 
 -- A prefix takes no more bytes than the text.
 bytes_within : (v : List ℕ) (k : ℕ) → utf8_len (take k v) ≤ length (encode_utf8_all v)

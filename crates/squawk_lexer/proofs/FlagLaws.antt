@@ -25,28 +25,13 @@ use Rattle.squawk_lexer.specs.Symbols.{symbol}
 use Rattle.squawk_lexer.specs.Token.{token_form, prefix_of, lexeme_of_form, lexeme_of_prefix, lexeme_of, lexeme_at}
 use Rattle.squawk_lexer.specs.Cut.{tokens_from}
 use Rattle.squawk_lexer.specs.Flags.{JunkWithin, FlagsWithin, FlagsLieWithin, AreCut, TokensAreCut}
+use Rattle.squawk_lexer.proofs.CursorRest.{fewer_bytes}
 use Rattle.squawk_lexer.proofs.Steps.{letter_within}
 use Rattle.squawk_lexer.proofs.TokenLaws.{junk_on, exponent_on, fraction_on, token_positive}
 
 -- ---- more characters have more bytes
 
--- Strictly more,
-bytes_less : (n m : ℕ) (u : List ℕ) → n < m → n < length u
-    → utf8_len (take n u) < utf8_len (take m u)
-bytes_less n m [] p h = absurd (omega arith)
-bytes_less n zero (c ∷ cs) p h = absurd (omega arith)
-bytes_less zero (suc m) (c ∷ cs) p h =
-    omega (arith, sum_by-cons len_utf8 c (take m cs), len_utf8_bounds c)
-bytes_less (suc n) (suc m) (c ∷ cs) p h =
-    omega (
-      arith,
-      sum_by-cons len_utf8 c (take n cs),
-      sum_by-cons len_utf8 c (take m cs),
-      bytes_less
-          n m cs (omega arith) (omega arith),
-    )
-
--- and no fewer.
+-- A prefix that is no shorter takes no fewer bytes.
 bytes_le : (n m : ℕ) (u : List ℕ) → n ≤ m → utf8_len (take n u) ≤ utf8_len (take m u)
 bytes_le zero m u p = omega arith
 bytes_le (suc n) zero u p = absurd (omega arith)
@@ -56,15 +41,14 @@ bytes_le (suc n) (suc m) (c ∷ cs) p =
       arith,
       sum_by-cons len_utf8 c (take n cs),
       sum_by-cons len_utf8 c (take m cs),
-      bytes_le n
-          m cs (omega arith),
+      bytes_le n m cs (omega arith),
     )
 
 -- Junk after at least one character begins after at least one byte, and ends no earlier.
 junk_within : (u : List ℕ) (n : ℕ) → 1 ≤ length u → 1 ≤ n
     → JunkWithin (utf8_len (take n u)) (utf8_len (take (junk_end u n) u))
 junk_within u n h p = (
-  omega (arith, bytes_less 0 n u (omega arith) (omega arith)),
+  omega (arith, fewer_bytes u 0 n (omega arith) (omega arith)),
   bytes_le n (junk_end u n) u
       (junk_on u n),
 )
@@ -84,7 +68,7 @@ either_flags u false x y p q = q
 -- The offset of an exponent without digits is before the junk.
 exponent_flags : (b : Bool) (u : List ℕ) (i n : ℕ) → 1 ≤ length u → i < length u → i < n
     → Flagged u (numeric (cond b (Some (utf8_len (take i u))) None) u n)
-exponent_flags true u i n h within p = (bytes_less i n u p within, junk_within u n h (omega arith))
+exponent_flags true u i n h within p = (fewer_bytes u i n p within, junk_within u n h (omega arith))
 exponent_flags false u i n h within p = (tt, junk_within u n h (omega arith))
 
 -- Numbers with an exponent, with a point, and without a base prefix.

@@ -13,7 +13,7 @@ use Rattle.squawk_lexer.proofs.TokenLaws.{lexeme_at_some}
 use Rattle.squawk_lexer.proofs.Steps.{within_read}
 use Rattle.squawk_lexer.proofs.Ahead.{agrees_less, agrees_read, Alike, after}
 use Rattle.squawk_lexer.proofs.AheadRuns.{Asks}
-use Rattle.squawk_lexer.proofs.AheadTokens.{AsksOf, Any, first_form, lexeme_same}
+use Rattle.squawk_lexer.proofs.AheadTokens.{AsksOf, Any, first_form, lexeme_same, any_psql, asks_form}
 
 -- ---- what a gap begins with
 
@@ -86,25 +86,7 @@ asks_second = record {
 
 -- and so are those of every form.
 asks_of_second : (s : TokenForm) → AsksOf Any Second s
-asks_of_second Whitespace = tt
-asks_of_second LineComment = tt
-asks_of_second BlockComment = tt
-asks_of_second Psql = record {
-  line_end = tt;
-  not_line_end = tt;
-  blank = tt;
-  command_word = tt;
-  ends = tt;
-  other = λ x e. tt;
-}
-asks_of_second DotDot = tt
-asks_of_second Symbol = tt
-asks_of_second String = asks_second
-asks_of_second QuotedIdent = asks_second
-asks_of_second Word = asks_second
-asks_of_second Dollar = asks_second
-asks_of_second Number = asks_second
-asks_of_second Fraction = asks_second
+asks_of_second s = asks_form asks_second any_psql tt tt s
 
 -- v begins with the first n characters of u, and goes on with g.
 pub record IsOn (n g : ℕ) (u v : List ℕ) : Type 0 where

@@ -170,8 +170,7 @@ only ends cs n (OnePart c rest m t more) stops =
     rw t (omega (
       arith,
       only ends (drop r rest) m more stops',
-      parts_inside ends r rest
-          (rest_in c rest),
+      parts_inside ends r rest (rest_in c rest),
     ))
 
 -- The arguments together, and one of them, are such sequences.

@@ -126,8 +126,7 @@ tail bs c cs utf8 e ascii =
     let first : get_or bs 0 0 ≡ c = ap (λ x. get_or x 0 0) bytes_are in (
       omega arith,
       IsCharBoundary-after_ascii bs 0 utf8 (omega arith) (omega arith),
-      ap
-          (λ x. chars (drop 1 x)) bytes_are ∙ rest,
+      ap (λ x. chars (drop 1 x)) bytes_are ∙ rest,
     )
 
 -- The word after the backslash.

@@ -12,7 +12,7 @@ use Rattle.squawk_lexer.specs.Stops.{is_neither, is_neither_on_line, stop_on_lin
 use Rattle.squawk_lexer.specs.Text.{utf8_len}
 use Rattle.squawk_lexer.proofs.PsqlArgumentLaws.{rest_in}
 use Rattle.squawk_lexer.proofs.StopSteps.{some_read, run_kept, other_not, inside_on}
-use Rattle.squawk_lexer.proofs.DelimiterSearch.{fewer_bytes}
+use Rattle.squawk_lexer.proofs.CursorRest.{fewer_bytes}
 use Rattle.squawk_lexer.specs.PsqlParts.{is_quote, is_escape_pair, close_len, quote_len, last_inside, ends_arguments, part_rest, arguments_len, arguments_end, mark_after, is_parenthesis, marked_len, marked_len_at}
 use Rattle.squawk_lexer.proofs.Steps.{drop_some, drop_none, drop_read, drop_past, within_some, within_read, after_some, after_none, after_within, after_past, after_on, ne_eqb, run_more, run_stop, run_at_end}
 
@@ -264,7 +264,7 @@ pub last_here : (u : List ℕ) (j i n m : ℕ) → j ≤ length u → i ≤ j �
 last_here u j i n m within on here start same = by (cases_lt i j)
   where
     by : (i < j) ⊎ (j ≤ i) → None ≡ last_before u i j
-    by (inl less) = absurd (let fewer = fewer_bytes u i j less within in omega arith)
+    by (inl less) = absurd (let fewer = fewer_bytes u i j less (omega arith) in omega arith)
     by (inr more) = let none : j - i ≡ 0 = omega arith in rw none refl
 
 pub last_there : (u : List ℕ) (j i n m : ℕ) (r : Option ℕ) → j ≤ length u → i ≤ j

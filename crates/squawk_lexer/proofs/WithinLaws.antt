@@ -330,6 +330,5 @@ lengths_within strings at_start (suc n) (c ∷ cs) =
       arith,
       lengths_within strings false n (drop e u),
       length-drop e u,
-      tokens_within strings
-          at_start u (omega arith),
+      tokens_within strings at_start u (omega arith),
     )

@@ -15,7 +15,8 @@ use Rattle.squawk_lexer.specs.Cut.{tokens_from}
 
 -- ---- runs
 
--- The characters of u from index i up to index j are of the class, and the one at j, if any, is not.
+-- The characters of u from index i up to index j are of the class, and the one at j, if any, is
+-- not.
 pub record IsRun (class : ℕ → Bool) (u : List ℕ) (i j : ℕ) : Type 0 where
   pub on : i ≤ j
   pub within : j ≤ length u
@@ -119,8 +120,8 @@ pub data CommentPart : Type 0 where
   Close : CommentPart
   Plain : CommentPart
 
--- The parts of a text from the left: `/*` or `*/` where the next two characters are one of them, else
--- the next character.
+-- The parts of a text from the left: `/*` or `*/` where the next two characters are one of them,
+-- else the next character.
 abbrev pub comment_parts : List ℕ → List CommentPart
 comment_parts [] = []
 comment_parts (c ∷ []) = Plain ∷ []
@@ -144,8 +145,8 @@ abbrev pub closes_in : CommentPart → ℕ
 closes_in Close = 1
 closes_in _ = 0
 
--- Of n comments open before the parts and those that the first k parts open, one is still open after
--- these k parts.
+-- Of n comments open before the parts and those that the first k parts open, one is still open
+-- after these k parts.
 abbrev pub StaysOpen : ℕ → List CommentPart → ℕ → Type 0
 StaysOpen n ps k = sum_by closes_in (take k ps) < n + sum_by opens_in (take k ps)
 

@@ -1,5 +1,5 @@
--- A token is decided by its own characters and the two after it. The tokens after a token, and those
--- after a semicolon, do not depend on what comes before.
+-- A token is decided by its own characters and the two after it. The tokens after a token, and
+-- those after a semicolon, do not depend on what comes before.
 use Rattle.std.specs.Prelude.{◌≡◌, ℕ, ◌+◌, ◌≤◌, Bool, false, List, [], ◌∷◌, ◌++◌, length, take, drop}
 use Rattle.std.specs.List.{sum_by}
 use Rattle.std.specs.Str.{chars, IsUtf8, IsCharBoundary}
@@ -35,8 +35,8 @@ EndsWithSemi [] = ⊥
 EndsWithSemi (t ∷ []) = t.kind ≡ Semi
 EndsWithSemi (t ∷ next ∷ ts) = EndsWithSemi (next ∷ ts)
 
--- Where the last token of a is a semicolon, the tokens of a and b together are those of a, then those
--- of b by itself, but that a byte order mark there is no white space.
+-- Where the last token of a is a semicolon, the tokens of a and b together are those of a, then
+-- those of b by itself, but that a byte order mark there is no white space.
 abbrev pub StatementsStandAlone : Type 0
 StatementsStandAlone =
     (strings : Strings) (at_start : Bool) (a b : List ℕ)

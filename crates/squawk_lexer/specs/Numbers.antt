@@ -1,5 +1,5 @@
--- Numeric constants (the manual of PostgreSQL, 4.1.2.6) and positional parameters. The ends here are
--- indexes in characters; the offsets in kinds are in bytes.
+-- Numeric constants (the manual of PostgreSQL, 4.1.2.6) and positional parameters. The ends here
+-- are indexes in characters; the offsets in kinds are in bytes.
 use Rattle.std.specs.Prelude.{ℕ, ◌+◌, Bool, false, not, ◌&&◌, ◌==◌, List, take, slice_index, Option, Some, None, if◌then◌else◌}
 use Rattle.squawk_lexer.specs.declared.token.Base.{Base}
 use Rattle.squawk_lexer.specs.declared.token.Base.TheVariants.{Binary, Octal, Decimal, Hexadecimal}
@@ -46,8 +46,8 @@ decimal_from u a =
     else if is_exponent_letter (slice_index u a) then with_exponent u a
     else int Decimal false u a
 
--- The lexeme at the start of a text that begins with a digit. The prefixes `0b`, `0o` and `0x`, with
--- the letter in either case, set the base.
+-- The lexeme at the start of a text that begins with a digit. The prefixes `0b`, `0o` and `0x`,
+-- with the letter in either case, set the base.
 abbrev pub number : List ℕ → Lexeme
 number u =
     if slice_index u 0 == digit_0 && is_letter letter_b (slice_index u 1)

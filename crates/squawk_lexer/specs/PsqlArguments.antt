@@ -1,5 +1,5 @@
--- Quotes, arguments and marks of psql's commands, as sequences of pieces and parts. The laws say that
--- the definitions in `PsqlParts` agree with them, each for every text.
+-- Quotes, arguments and marks of psql's commands, as sequences of pieces and parts. The laws say
+-- that the definitions in `PsqlParts` agree with them, each for every text.
 use Rattle.std.specs.Prelude.{◌≡◌, ℕ, zero, suc, ◌+◌, ◌<◌, Bool, true, false, ◌||◌, ◌==◌, List, [], ◌∷◌, length, drop, slice_index, slice_get, Option, Some, None, option_map, if◌then◌else◌}
 use Rattle.std.specs.List.{prefix_len}
 use Rattle.squawk_lexer.specs.Classes.{is_line_end, is_not_line_end, is_blank}
@@ -12,8 +12,8 @@ abbrev pub begins_pair : ℕ → List ℕ → Bool
 begins_pair q (c ∷ d ∷ cs) = is_escape_pair q c d
 begins_pair q cs = false
 
--- The first n characters of what follows an opening quote q are whole pieces on one line. A piece is
--- an escape pair or a single character, and none is q by itself.
+-- The first n characters of what follows an opening quote q are whole pieces on one line. A piece
+-- is an escape pair or a single character, and none is q by itself.
 pub data IsPieces (q : ℕ) : List ℕ → ℕ → Type 0 where
   NoPiece : (cs : List ℕ) → IsPieces q cs 0
   OnePiece : (c : ℕ) (cs : List ℕ) (n : ℕ) → is_line_end c ≡ false → (c == q) ≡ false
@@ -33,8 +33,8 @@ OpenQuotesStayOpen = (q : ℕ) (cs : List ℕ) → close_len q cs ≡ None
 
 -- ---- sequences of parts
 
--- The first n characters of a text are whole parts, and none of them begins with a character that is
--- `ends`.
+-- The first n characters of a text are whole parts, and none of them begins with a character that
+-- is `ends`.
 pub data IsParts (ends : ℕ → Bool) : List ℕ → ℕ → Type 0 where
   NoPart : (cs : List ℕ) → IsParts ends cs 0
   OnePart : (c : ℕ) (cs : List ℕ) (n : ℕ) → ends c ≡ false
@@ -74,8 +74,8 @@ ArgumentIsLongest = (cs : List ℕ) → IsLongest ends_argument cs (argument_len
 abbrev pub ArgumentIsUnique : Type 0
 ArgumentIsUnique = (cs : List ℕ) (n : ℕ) → IsLongest ends_argument cs n → n ≡ argument_len 0 cs
 
--- The mark of an argument whose rest is the start of a text, where it is `mark` before that rest. The
--- first `inside` characters of the rest belong to a part that began before.
+-- The mark of an argument whose rest is the start of a text, where it is `mark` before that rest.
+-- The first `inside` characters of the rest belong to a part that began before.
 abbrev pub mark_from : ℕ → Option ℕ → List ℕ → Option ℕ
 mark_from inside mark [] = mark
 mark_from zero mark (c ∷ cs) = if ends_argument c then mark

@@ -1,6 +1,6 @@
--- The arguments of a psql command (psql's page, "Meta-Commands"): a sequence of parts on one line. A
--- part is a text in quotes, or a single character. Blanks outside quotes separate the arguments, and
--- a backslash outside quotes begins the next command.
+-- The arguments of a psql command (psql's page, "Meta-Commands"): a sequence of parts on one line.
+-- A part is a text in quotes, or a single character. Blanks outside quotes separate the arguments,
+-- and a backslash outside quotes begins the next command.
 use Rattle.std.specs.Prelude.{ℕ, ◌+◌, ◌-◌, zero, suc, Bool, false, not, ◌&&◌, ◌||◌, ◌==◌, List, [], ◌∷◌, take, drop, Option, Some, None, option_map, unwrap_or, if◌then◌else◌}
 use Rattle.std.specs.List.{prefix_len, last_or}
 use Rattle.std.specs.Option.{option_or}
@@ -15,8 +15,8 @@ is_quote c = (c == apostrophe || c == quotation_mark) || c == backquote
 abbrev pub is_escape_pair : ℕ → ℕ → ℕ → Bool
 is_escape_pair q c d = (q == apostrophe && c == backslash) && not (is_line_end d)
 
--- The number of characters after an opening quote q, up to and including the first q that is no part
--- of an escape pair, or `None` where the line ends before that.
+-- The number of characters after an opening quote q, up to and including the first q that is no
+-- part of an escape pair, or `None` where the line ends before that.
 abbrev pub close_len : ℕ → List ℕ → Option ℕ
 close_len q [] = None
 close_len q (c ∷ []) = if c == q then Some 1 else None
@@ -44,8 +44,8 @@ ends_arguments c = is_line_end c || c == backslash
 abbrev pub part_rest : ℕ → List ℕ → ℕ
 part_rest c cs = if is_quote c then quote_len c cs else 0
 
--- The number of characters of the longest sequence of parts. The first `inside` characters belong to
--- a part that began before.
+-- The number of characters of the longest sequence of parts. The first `inside` characters belong
+-- to a part that began before.
 abbrev pub arguments_len : ℕ → List ℕ → ℕ
 arguments_len inside [] = 0
 arguments_len zero (c ∷ cs) = if ends_arguments c then 0 else 1 + arguments_len (part_rest c cs) cs
@@ -55,10 +55,11 @@ arguments_len (suc inside) (c ∷ cs) = 1 + arguments_len inside cs
 abbrev pub arguments_end : List ℕ → ℕ → ℕ
 arguments_end u i = i + arguments_len 0 (drop i u)
 
--- The mark of an argument after its part that begins with c, where it was `mark` before that part. It
--- is the last character that psql compares with `)`: a single character is its own mark, a quote in
--- `'` sets its last character and leaves the mark where it is empty, one in `"` sets `"`, and one in
--- backquotes sets none. The mark of an unclosed quote decides nothing: the arguments end with it.
+-- The mark of an argument after its part that begins with c, where it was `mark` before that part.
+-- It is the last character that psql compares with `)`: a single character is its own mark, a quote
+-- in `'` sets its last character and leaves the mark where it is empty, one in `"` sets `"`, and
+-- one in backquotes sets none. The mark of an unclosed quote decides nothing: the arguments end
+-- with it.
 abbrev pub mark_after : Option ℕ → ℕ → List ℕ → Option ℕ
 mark_after mark c cs =
     if c == apostrophe then option_or (last_inside cs (close_len c cs)) mark
@@ -71,8 +72,8 @@ is_parenthesis None = false
 is_parenthesis (Some c) = c == close_paren
 
 -- The number of characters up to the end of the first argument whose mark is `)`, or `None` where
--- there is none. The first `inside` characters belong to a part that began before, and `mark` is the
--- mark of the argument up to the end of that part.
+-- there is none. The first `inside` characters belong to a part that began before, and `mark` is
+-- the mark of the argument up to the end of that part.
 abbrev pub marked_len : ℕ → Option ℕ → List ℕ → Option ℕ
 marked_len inside mark [] = if is_parenthesis mark then Some 0 else None
 marked_len zero mark (c ∷ cs) =

@@ -1,5 +1,5 @@
--- A text is a list of characters, and an index in it counts the characters before it. The lengths of
--- tokens and the offsets in them are in bytes.
+-- A text is a list of characters, and an index in it counts the characters before it. The lengths
+-- of tokens and the offsets in them are in bytes.
 use Rattle.std.specs.Prelude.{ℕ, List}
 use Rattle.std.specs.List.{sum_by}
 use Rattle.std.specs.Char.{len_utf8}

@@ -1,4 +1,5 @@
--- The first token of a text that is not empty (the manual of PostgreSQL, 4.1, and `docs/GRAMMAR.md`).
+-- The first token of a text that is not empty (the manual of PostgreSQL, 4.1, and
+-- `docs/GRAMMAR.md`).
 use Rattle.std.specs.Prelude.{ℕ, Bool, true, false, ◌&&◌, ◌==◌, List, take, slice_index, if◌then◌else◌}
 use Rattle.squawk_lexer.specs.declared.token.Token.{Token}
 use Rattle.squawk_lexer.specs.declared.token.TokenKind.TheVariants as kinds
@@ -39,9 +40,9 @@ quoted_ident uescape u i =
     lexeme_until (kinds.QuotedIdent (is_terminated false quotation_mark u i) uescape)
     (quoted_end false quotation_mark u i)
 
--- The prefix of a string or quoted identifier that the first three characters are, where the first may
--- begin an identifier: `n'`, `b'`, `x'`, `e'`, `u&'` or `u&"`, with the letter in either case. `Plain`
--- where they are none.
+-- The prefix of a string or quoted identifier that the first three characters are, where the first
+-- may begin an identifier: `n'`, `b'`, `x'`, `e'`, `u&'` or `u&"`, with the letter in either case.
+-- `Plain` where they are none.
 unfoldable pub prefix_of : ℕ → ℕ → ℕ → StringPrefix
 prefix_of c d e =
     if is_letter letter_n c && d == apostrophe then National
@@ -52,8 +53,9 @@ prefix_of c d e =
     else if (is_letter letter_u c && d == ampersand) && e == quotation_mark then UnicodeIdent
     else Plain
 
--- The lexeme that a prefix begins: `N'..'`, `B'..'`, `X'..'`, `E'..'`, `U&'..'`, `U&".."` (4.1.2.1 to
--- 4.1.2.3, 4.1.2.5), or an identifier or keyword without quotes (4.1.1). Only `E'..'` has escapes.
+-- The lexeme that a prefix begins: `N'..'`, `B'..'`, `X'..'`, `E'..'`, `U&'..'`, `U&".."` (4.1.2.1
+-- to 4.1.2.3, 4.1.2.5), or an identifier or keyword without quotes (4.1.1). Only `E'..'` has
+-- escapes.
 abbrev pub lexeme_of_prefix : StringPrefix → List ℕ → Lexeme
 lexeme_of_prefix National u = string NationalStr false u 2
 lexeme_of_prefix Bit u = string BitStr false u 2
@@ -68,8 +70,8 @@ abbrev pub ident_or_string : List ℕ → Lexeme
 ident_or_string u =
     lexeme_of_prefix (prefix_of (slice_index u 0) (slice_index u 1) (slice_index u 2)) u
 
--- The form of the token that begins with c and then d: the first row that fits. Where the text ends
--- after c, d is 0, which no row asks for.
+-- The form of the token that begins with c and then d: the first test that passes decides. Where
+-- the text ends after c, d is 0, which passes no test.
 unfoldable pub token_form : ℕ → ℕ → TokenForm
 token_form c d =
     if is_whitespace c then Whitespace
