@@ -99,7 +99,7 @@ rest_in c cs = by (is_quote c) (close_len c cs) (closes c cs)
 
 -- ---- longest sequences of parts
 
--- The length of the longest sequence of parts before a character that is `ends`. The first
+-- The length of the longest sequence of parts before a character of which `ends` holds. The first
 -- `inside` characters belong to a part that began before.
 abbrev parts_len : (ℕ → Bool) → ℕ → List ℕ → ℕ
 parts_len ends inside [] = 0

@@ -65,8 +65,8 @@ abbrev pub LengthsWithin : Type 0
 LengthsWithin = (strings : Strings) (at_start : Bool) (n : ℕ) (u : List ℕ)
     → chars_of_tokens strings at_start n u ≤ length u
 
--- The tokens after the first n are those of the rest of the text by itself, but that a byte order
--- mark there is no white space.
+-- The tokens after the first n are those of the rest of the text by itself, where a leading byte
+-- order mark is not white space.
 abbrev pub TokensRestart : Type 0
 TokensRestart =
     (strings : Strings) (at_start : Bool) (n : ℕ) (u : List ℕ) → 1 ≤ n
@@ -145,8 +145,7 @@ abbrev pub closes_in : CommentPart → ℕ
 closes_in Close = 1
 closes_in _ = 0
 
--- Of n comments open before the parts and those that the first k parts open, one is still open
--- after these k parts.
+-- Where n comments are open before the parts, at least one is open after the first k.
 abbrev pub StaysOpen : ℕ → List CommentPart → ℕ → Type 0
 StaysOpen n ps k = sum_by closes_in (take k ps) < n + sum_by opens_in (take k ps)
 

@@ -36,7 +36,7 @@ EndsWithSemi (t ∷ []) = t.kind ≡ Semi
 EndsWithSemi (t ∷ next ∷ ts) = EndsWithSemi (next ∷ ts)
 
 -- Where the last token of a is a semicolon, the tokens of a and b together are those of a, then
--- those of b by itself, but that a byte order mark there is no white space.
+-- those of b by itself, where a leading byte order mark is not white space.
 abbrev pub StatementsStandAlone : Type 0
 StatementsStandAlone =
     (strings : Strings) (at_start : Bool) (a b : List ℕ)
@@ -66,8 +66,8 @@ TextsProgress =
     → (1 ≤ (token_at strings at_start (chars text)).len)
     × IsCharBoundary text (token_at strings at_start (chars text)).len
 
--- The tokens of a text are its first token, then those of the rest by itself, but that a byte order
--- mark there is no white space.
+-- The tokens of a text are its first token, then those of the rest by itself, where a leading byte
+-- order mark is not white space.
 abbrev pub TextsRestart : Type 0
 TextsRestart =
     (strings : Strings) (at_start : Bool) (text : List ℕ) → IsUtf8 text → 1 ≤ length text
@@ -77,15 +77,15 @@ TextsRestart =
     text))
 
 -- Where n tokens end at offset `at`, the tokens after them are those of the text from `at` on by
--- itself, but that a byte order mark there is no white space.
+-- itself, where a leading byte order mark is not white space.
 abbrev pub RestartsAt : Strings → List ℕ → ℕ → Type 0
 RestartsAt strings text at =
     (n : ℕ) → 1 ≤ n → at ≡ sum_by (λ (t : Token). t.len) (take n (tokens strings (chars text)))
     → drop n (tokens strings (chars text)) ≡ tokens_from strings 0 false (chars (drop at text))
 
 -- Where the last token of the text before offset `at` is a semicolon, the tokens of the whole text
--- are those of that part, then those of the text from `at` on by itself, but that a byte order mark
--- there is no white space.
+-- are those of that part, then those of the text from `at` on by itself, where a leading byte order
+-- mark is not white space.
 abbrev pub SplitsAt : Strings → List ℕ → ℕ → Type 0
 SplitsAt strings text at =
     EndsWithSemi (tokens strings (chars (take at text)))

@@ -33,14 +33,14 @@ OpenQuotesStayOpen = (q : ℕ) (cs : List ℕ) → close_len q cs ≡ None
 
 -- ---- sequences of parts
 
--- The first n characters of a text are whole parts, and none of them begins with a character that
--- is `ends`.
+-- The first n characters of a text are whole parts, and the test `ends` holds of the first
+-- character of none.
 pub data IsParts (ends : ℕ → Bool) : List ℕ → ℕ → Type 0 where
   NoPart : (cs : List ℕ) → IsParts ends cs 0
   OnePart : (c : ℕ) (cs : List ℕ) (n : ℕ) → ends c ≡ false
       → IsParts ends (drop (part_rest c cs) cs) n → IsParts ends (c ∷ cs) (1 + part_rest c cs + n)
 
--- The same, and no further part follows: the next character, if any, is `ends`.
+-- The same, and no further part follows: `ends` holds of the next character, if there is one.
 pub record IsLongest (ends : ℕ → Bool) (cs : List ℕ) (n : ℕ) : Type 0 where
   pub parts : IsParts ends cs n
   pub stops : n < length cs → ends (slice_index cs n) ≡ true

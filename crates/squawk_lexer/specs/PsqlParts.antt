@@ -56,10 +56,10 @@ abbrev pub arguments_end : List ℕ → ℕ → ℕ
 arguments_end u i = i + arguments_len 0 (drop i u)
 
 -- The mark of an argument after its part that begins with c, where it was `mark` before that part.
--- It is the last character that psql compares with `)`: a single character is its own mark, a quote
--- in `'` sets its last character and leaves the mark where it is empty, one in `"` sets `"`, and
--- one in backquotes sets none. The mark of an unclosed quote decides nothing: the arguments end
--- with it.
+-- It stands for the last character of the argument, which psql compares with `)`: a single
+-- character is its own mark, a quote in `'` has the mark of its last character and keeps the old
+-- one where it is empty, one in `"` has the mark `"`, and one in backquotes has none. The mark of
+-- an unclosed quote decides nothing, since the arguments end with it.
 abbrev pub mark_after : Option ℕ → ℕ → List ℕ → Option ℕ
 mark_after mark c cs =
     if c == apostrophe then option_or (last_inside cs (close_len c cs)) mark
