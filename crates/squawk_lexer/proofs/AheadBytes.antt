@@ -1,4 +1,4 @@
--- Look-ahead, restart and the law of statements, of texts in bytes.
+-- Look-ahead, restart and the law of statements, for texts as bytes.
 use Rattle.std.proofs.Common.{◌≡◌, ℕ, zero, suc, ◌+◌, ◌≤◌, Bool, true, false, List, [], ◌∷◌, ◌++◌, length, take, drop, length-append, append_assoc, refl, sym, ap, ◌∙◌, arith, IsUtf8}
 use Rattle.std.proofs.lemmas.List.{take-append-le, take-append-drop}
 use Rattle.std.proofs.lemmas.List.Sums.{sum_by-cons}
@@ -13,31 +13,31 @@ use Rattle.squawk_lexer.specs.Token.{lexeme_at, token_at}
 use Rattle.squawk_lexer.specs.Cut.{tokens_from, tokens}
 use Rattle.squawk_lexer.specs.Laws.{chars_of_tokens}
 use Rattle.squawk_lexer.specs.LookAhead.{Agrees, TextsLookAhead, TextsProgress, TextsRestart, RestartsAt, SplitsAt}
-use Rattle.squawk_lexer.proofs.Chars.{length-bytes, some_chars}
+use Rattle.squawk_lexer.proofs.CursorRest.{length_bytes, some_chars}
 use Rattle.squawk_lexer.proofs.TokenLaws.{token_positive}
-use Rattle.squawk_lexer.proofs.CutLaws.{tokens_first, cut_behind}
-use Rattle.squawk_lexer.proofs.LawLemmas.{tokens_restart, places_add_up}
+use Rattle.squawk_lexer.proofs.CutLaws.{tokens_first, cut_after}
+use Rattle.squawk_lexer.proofs.LawLemmas.{tokens_restart, lengths_add_up}
 use Rattle.squawk_lexer.proofs.WithinLaws.{tokens_within}
 use Rattle.squawk_lexer.proofs.AheadTokens.{tokens_look_ahead}
 use Rattle.squawk_lexer.proofs.StatementLaws.{statements_stand_alone}
 
 -- ---- look-ahead
 
--- as many bytes are as many characters
-same_place : (u : List ℕ) (m n : ℕ) → m ≤ length u → n ≤ length u
+-- Prefixes of a text with the same number of bytes have the same number of characters.
+same_count : (u : List ℕ) (m n : ℕ) → m ≤ length u → n ≤ length u
     → utf8_len (take m u) ≡ utf8_len (take n u) → m ≡ n
-same_place [] m n h k e = omega arith
-same_place (c ∷ cs) zero zero h k e = refl
-same_place (c ∷ cs) zero (suc n) h k e =
+same_count [] m n h k e = omega arith
+same_count (c ∷ cs) zero zero h k e = refl
+same_count (c ∷ cs) zero (suc n) h k e =
     absurd (omega (arith, e, sum_by-cons len_utf8 c (take n cs), len_utf8_bounds c))
-same_place (c ∷ cs) (suc m) zero h k e =
+same_count (c ∷ cs) (suc m) zero h k e =
     absurd (omega (arith, e, sum_by-cons len_utf8 c (take m cs), len_utf8_bounds c))
-same_place (c ∷ cs) (suc m) (suc n) h k e =
-    ap suc (same_place cs m n (omega arith) (omega arith)
+same_count (c ∷ cs) (suc m) (suc n) h k e =
+    ap suc (same_count cs m n (omega arith) (omega arith)
     (omega (arith, e, sum_by-cons len_utf8 c (take m cs), sum_by-cons len_utf8 c (take n cs))))
 
--- where the first token has the bytes of `front`, and two characters follow, any other text with
--- these has it too
+-- Where the first token has the bytes of `front` and the two characters of `two` follow, any other
+-- text with these has it too.
 of_parts : (strings : Strings) (at_start : Bool) (front two rest other : List ℕ)
     → (token_at strings at_start (chars (front ++ (two ++ rest)))).len ≡ length front
     → IsUtf8 front → IsUtf8 two → 2 ≤ length (chars two)
@@ -73,10 +73,10 @@ of_parts strings at_start front two rest other len utf8 utf8_two some =
         ∙ take-append-le n known (chars rest)
         (omega (arith, length-append (chars front) (chars two)))
         ∙ take-append_seam (chars front) (chars two) in
-        ap utf8_len taken ∙ sym (length-bytes front (is_utf8-from_IsUtf8 front utf8))
+        ap utf8_len taken ∙ sym (length_bytes front (is_utf8-from_IsUtf8 front utf8))
 
     end : (lexeme_at strings at_start u).end ≡ length (chars front)
-    end = same_place u _ _ (tokens_within strings at_start u (omega (arith, long)))
+    end = same_count u _ _ (tokens_within strings at_start u (omega (arith, long)))
         (omega (arith, long)) (len ∙ sym front_bytes)
 
     agrees : Agrees ((lexeme_at strings at_start u).end + 2) u v
@@ -89,6 +89,7 @@ of_parts strings at_start front two rest other len utf8 utf8_two some =
               ∙ sym (ap (take n) (split rest) ∙ take-append-le n known (chars rest) less);
         }
 
+-- The first token is decided by its bytes and the two characters after it.
 pub texts_look_ahead : TextsLookAhead
 texts_look_ahead strings at_start text front two rest other e len utf8 utf8_two some =
     let same = ap (λ w. token_at strings at_start (chars w)) e in
@@ -97,36 +98,40 @@ texts_look_ahead strings at_start text front two rest other e len utf8 utf8_two 
 
 -- ---- progress
 
+-- The first token has at least one byte and ends at a character boundary.
 pub texts_progress : TextsProgress
 texts_progress strings at_start text utf8 some = (
   token_positive strings at_start (chars text) (some_chars text utf8 some),
-  (cut_behind text (lexeme_at strings at_start (chars text)).end utf8).boundary,
+  (cut_after text (lexeme_at strings at_start (chars text)).end utf8).boundary,
 )
 
 -- ---- restart
 
+-- The tokens of a text are the first one and those of the rest.
 pub texts_restart : TextsRestart
 texts_restart strings at_start text utf8 some =
     let n = (lexeme_at strings at_start (chars text)).end in
     tokens_first strings at_start (chars text) (some_chars text utf8 some)
     ∙ ap (λ w. token_at strings at_start (chars text)
-    ∷ tokens_from strings 0 false w) (sym (cut_behind text n utf8).rest)
+    ∷ tokens_from strings 0 false w) (sym (cut_after text n utf8).rest)
 
+-- The same after n tokens, by the offset at which they end.
 pub restarts_at : (strings : Strings) (text : List ℕ) (at : ℕ) → IsUtf8 text
     → RestartsAt strings text at
 restarts_at strings text at utf8 n some e =
     let p = chars_of_tokens strings true n (chars text) in
     let here : at ≡ utf8_len (take p (chars text)) = e
-    ∙ sym (places_add_up strings true n (chars text)) in
+    ∙ sym (lengths_add_up strings true n (chars text)) in
     tokens_restart strings true n (chars text) some
     ∙ ap (tokens_from strings 0 false) (sym (ap (λ m. chars (drop m text)) here
-    ∙ (cut_behind text p utf8).rest))
+    ∙ (cut_after text p utf8).rest))
 
 -- ---- statements
 
-pub parts_at : (strings : Strings) (text : List ℕ) (at : ℕ) → IsUtf8 text → IsCharBoundary text at
+-- A text may be split after a semicolon.
+pub splits_at : (strings : Strings) (text : List ℕ) (at : ℕ) → IsUtf8 text → IsCharBoundary text at
     → SplitsAt strings text at
-parts_at strings text at utf8 boundary e =
+splits_at strings text at utf8 boundary e =
     let both : chars text ≡ chars (take at text) ++ chars (drop at text) =
     ap chars (sym (take-append-drop at text))
     ∙ chars-append (take at text) (drop at text) (IsUtf8-take text at utf8 boundary) in

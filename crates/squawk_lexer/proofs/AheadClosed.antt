@@ -1,5 +1,5 @@
--- Elements that close are decided by the characters up to their end, and by what the tests say of
--- the next.
+-- Quoted texts, block comments and dollar-quoted strings are decided by the characters up to their
+-- end, and by tests of the next.
 use Rattle.std.proofs.Common.{◌≡◌, ℕ, zero, suc, ◌+◌, ◌<◌, ◌≤◌, Bool, true, false, List, [], ◌∷◌, ◌++◌, length, get_or, take, drop, length-drop, length-append, Option, None, Some, option_map, unwrap_or, is_some, nat_eq, refl, sym, ap, ◌∙◌, ◌&&◌, eqb, cond, arith}
 use Rattle.std.proofs.lemmas.List.{take-append-le}
 use Rattle.std.proofs.lemmas.Bool.{and_parts, false≢true}
@@ -17,34 +17,36 @@ use Rattle.squawk_lexer.specs.Dollar.{tag_end, is_dollar_quote_start, delimiter,
 use Rattle.squawk_lexer.proofs.TokenLaws.{junk_on}
 use Rattle.squawk_lexer.proofs.DollarLaws as dollars
 use Rattle.squawk_lexer.proofs.Steps.{drop_read, within_read, junk_past}
-use Rattle.squawk_lexer.proofs.Ahead.{Looks, branch, pick, Alike, take_same, test, seen}
+use Rattle.squawk_lexer.proofs.Ahead.{Tests, PairTests, Looks, branch, pick, Alike, take_same, test, seen}
 use Rattle.squawk_lexer.proofs.AheadRuns.{Asks, run_same, parameter_same}
 
 -- ---- ends that are found or not
 
--- an end that is found j characters further on
+-- A length found j characters later is within n + j only where the length itself is within n.
 pub shorter : (o : Option ℕ) (j len total n : ℕ) → total ≡ len + j
     → unwrap_or (option_map (λ m. m + j) o) total ≤ n + j → unwrap_or o len ≤ n
 shorter None j len total n e h = omega arith
 shorter (Some m) j len total n e h = omega arith
 
+-- Two lengths found j characters later are equal where the lengths are.
 pub later : (o p : Option ℕ) (j len total n : ℕ) → total ≡ len + j → (unwrap_or o len ≤ n → p ≡ o)
     → unwrap_or (option_map (λ m. m + j) o) total ≤ n + j
     → option_map (λ m. m + j) p ≡ option_map (λ m. m + j) o
 later o p j len total n e same h = ap (option_map (λ m. m + j)) (same (shorter o j len total n e h))
 
--- at least j, where that many more follow
+-- A length found j characters later is at least j,
 pub far : (o : Option ℕ) (j len total : ℕ) → total ≡ len + j
     → j ≤ unwrap_or (option_map (λ m. m + j) o) total
 far None j len total e = omega arith
 far (Some m) j len total e = omega arith
 
--- and n more than that
+-- and at least n + j where the length itself is at least n.
 pub farther : (o : Option ℕ) (j len total n : ℕ) → total ≡ len + j → n ≤ unwrap_or o len
     → n + j ≤ unwrap_or (option_map (λ m. m + j) o) total
 farther None j len total n e h = omega arith
 farther (Some m) j len total n e h = omega arith
 
+-- Of two lengths, the chosen one is at least n where both are.
 pub either_far : (b : Bool) (x y : Option ℕ) (len n : ℕ) → n ≤ unwrap_or x len → n ≤ unwrap_or y len
     → n ≤ unwrap_or (cond b x y) len
 either_far true x y len n p q = p
@@ -52,24 +54,25 @@ either_far false x y len n p q = q
 
 -- ---- quoted texts
 
+-- The rest of a quoted text reads at least one character.
 quoted_far : (escapes : Bool) (q c : ℕ) (cs : List ℕ)
     → 1 ≤ unwrap_or (quoted_len escapes q (c ∷ cs)) (length (c ∷ cs))
 quoted_far escapes q c [] = either_far (eqb c q) (Some 1) None 1 1 (omega arith) (omega arith)
 quoted_far escapes q c (d ∷ cs) =
-    let two : 1 ≤ unwrap_or (option_map (λ m.
-    m + 2) (quoted_len escapes q cs)) (length (c ∷ d ∷ cs)) =
+    let two : 1 ≤ unwrap_or
+    (option_map (λ m. m + 2) (quoted_len escapes q cs)) (length (c ∷ d ∷ cs)) =
     omega (
       arith,
-      far (quoted_len escapes q cs) 2 (length cs) (length (c ∷ d ∷ cs))
-          (omega arith),
+      far (quoted_len escapes q cs) 2 (length cs) (length (c ∷ d ∷ cs)) (omega arith),
     ) in
     either_far (eqb c q) _ _ _ 1 (either_far (eqb d q) _ (Some 1) _ 1 two (omega arith))
     (either_far (escapes && eqb c 92) _ _ _ 1 two
     (far (quoted_len escapes q (d ∷ cs)) 1 (length (d ∷ cs)) (length (c ∷ d ∷ cs))
     (omega arith)))
 
-quoted_looks : {told : (ℕ → Bool) → Type 0} {pairs : (ℕ → Bool) → (ℕ → Bool)
-    → Type 0} (escapes : Bool) (q : ℕ) → told (λ c. eqb c q)
+-- The length of a quoted text is decided by its characters and by the test of the next for the
+-- quote.
+quoted_looks : {told : Tests} {pairs : PairTests} (escapes : Bool) (q : ℕ) → told (λ c. eqb c q)
     → Looks told pairs (quoted_len escapes q) (λ v. unwrap_or (quoted_len escapes q v) (length v))
 quoted_looks escapes q t [] c d r s f h = absurd (omega (arith, quoted_far escapes q c r))
 quoted_looks escapes q t (x ∷ []) c d r s f h =
@@ -77,30 +80,31 @@ quoted_looks escapes q t (x ∷ []) c d r s f h =
     let two = far (quoted_len escapes q r) 2 (length r) (length (x ∷ c ∷ r)) (omega arith) in
     let one = farther (quoted_len escapes q (c ∷ r)) 1 (length (c ∷ r)) (length (x ∷ c ∷ r)) 1
     (omega arith) (quoted_far escapes q c r) in
-    branch m (eqb x q) _ _ _ _ 1 (λ e.
-    pick m (eqb c q) (eqb d q) _ (Some 1) _ (Some 1) 1 (f.one (λ c. eqb c q) t) (λ e k.
-    absurd (omega (arith, two))) (λ e k. refl))
-    (λ e. branch m (escapes && eqb x 92) _ _ _ _ 1 (λ e k. absurd (omega (arith, two))) (λ e k.
-    absurd (omega (arith, one)))) h
+    branch m (eqb x q) _ _ _ _ 1
+    (λ e. pick m (eqb c q) (eqb d q) _ (Some 1) _ (Some 1) 1 (f.one (λ c. eqb c q) t)
+    (λ e k. absurd (omega (arith, two))) (λ e k. refl))
+    (λ e. branch m (escapes && eqb x 92) _ _ _ _ 1 (λ e k. absurd (omega (arith, two)))
+    (λ e k. absurd (omega (arith, one)))) h
 quoted_looks escapes q t (x ∷ y ∷ xs) c d r s f h =
     let m = λ (o : Option ℕ). unwrap_or o (length (x ∷ y ∷ xs ++ c ∷ r)) in
     let n = length (x ∷ y ∷ xs) in
-    let two = λ (k : unwrap_or (option_map (λ n.
-    n + 2) (quoted_len escapes q (xs ++ c ∷ r))) (length (x ∷ y ∷ xs ++ c ∷ r)) ≤ n).
+    let two = λ (k : unwrap_or (option_map
+    (λ n. n + 2) (quoted_len escapes q (xs ++ c ∷ r))) (length (x ∷ y ∷ xs ++ c ∷ r)) ≤ n).
     later (quoted_len escapes q (xs ++ c ∷ r)) (quoted_len escapes q (xs ++ d ∷ s)) 2
     (length (xs ++ c ∷ r)) (length (x ∷ y ∷ xs ++ c ∷ r)) (length xs) (omega arith)
     (quoted_looks escapes q t xs c d r s f) (omega arith) in
-    let one = λ (k : unwrap_or (option_map (λ n.
-    n + 1) (quoted_len escapes q (y ∷ xs ++ c ∷ r))) (length (x ∷ y ∷ xs ++ c ∷ r)) ≤ n).
+    let one = λ (k : unwrap_or (option_map
+    (λ n. n + 1) (quoted_len escapes q (y ∷ xs ++ c ∷ r))) (length (x ∷ y ∷ xs ++ c ∷ r)) ≤ n).
     later (quoted_len escapes q (y ∷ xs ++ c ∷ r)) (quoted_len escapes q (y ∷ xs ++ d ∷ s)) 1
     (length (y ∷ xs ++ c ∷ r)) (length (x ∷ y ∷ xs ++ c ∷ r)) (length (y ∷ xs)) (omega arith)
     (quoted_looks escapes q t (y ∷ xs) c d r s f) (omega arith) in
-    branch m (eqb x q) _ _ _ _ n (λ e. branch m (eqb y q) _ (Some 1) _ (Some 1) n (λ e k.
-    two k) (λ e k. refl))
+    branch m (eqb x q) _ _ _ _ n (λ e. branch m (eqb y q) _ (Some 1) _ (Some 1) n
+    (λ e k. two k) (λ e k. refl))
     (λ e. branch m (escapes && eqb x 92) _ _ _ _ n (λ e k. two k) (λ e k. one k)) h
 
 -- ---- block comments
 
+-- The rest of a comment reads at least one character of one,
 comment_far : (inner c : ℕ) (cs : List ℕ)
     → 1 ≤ unwrap_or (comment_len inner (c ∷ cs)) (length (c ∷ cs))
 comment_far inner c [] = omega arith
@@ -113,15 +117,14 @@ comment_far (suc n) c (d ∷ cs) =
     either_far (opens_comment c d) _ _ _ 1
     (omega (
       arith,
-      far (comment_len (suc (suc n)) cs) 2 (length cs) (length (c ∷ d ∷ cs))
-          (omega arith),
+      far (comment_len (suc (suc n)) cs) 2 (length cs) (length (c ∷ d ∷ cs)) (omega arith),
     ))
     (either_far (closes_comment c d) _ _ _ 1
     (omega (arith, far (comment_len n cs) 2 (length cs) (length (c ∷ d ∷ cs)) (omega arith)))
     (far (comment_len (suc n) (d ∷ cs)) 1 (length (d ∷ cs)) (length (c ∷ d ∷ cs))
     (omega arith)))
 
--- and at least two of two
+-- and at least two of two.
 comment_farther : (inner x c : ℕ) (cs : List ℕ)
     → 2 ≤ unwrap_or (comment_len inner (x ∷ c ∷ cs)) (length (x ∷ c ∷ cs))
 comment_farther zero x c cs =
@@ -139,6 +142,7 @@ comment_farther (suc n) x c cs =
     (omega arith)) (farther (comment_len (suc n) (c ∷ cs)) 1 (length (c ∷ cs)) total 1
     (omega arith) (comment_far (suc n) c cs)))
 
+-- The length of a block comment is decided by its characters.
 comment_looks : (inner : ℕ) (xs : List ℕ) (c d : ℕ) (r s : List ℕ)
     → unwrap_or (comment_len inner (xs ++ c ∷ r)) (length (xs ++ c ∷ r)) ≤ length xs
     → comment_len inner (xs ++ d ∷ s) ≡ comment_len inner (xs ++ c ∷ r)
@@ -159,8 +163,8 @@ comment_looks (suc i) (x ∷ y ∷ xs) c d r s h =
     let m = λ (o : Option ℕ). unwrap_or o (length (x ∷ y ∷ xs ++ c ∷ r)) in
     let n = length (x ∷ y ∷ xs) in
     branch m (opens_comment x y) _ _ _ _ n
-    (λ t k. later (comment_len (suc (suc i)) (xs ++ c ∷ r)) (comment_len (suc (suc i)) (xs ++ d
-    ∷ s)) 2 (length (xs ++ c ∷ r)) (length (x ∷ y ∷ xs ++ c ∷ r)) (length xs) (omega arith)
+    (λ t k. later (comment_len (suc (suc i)) (xs ++ c ∷ r)) (comment_len (suc (suc i))
+    (xs ++ d ∷ s)) 2 (length (xs ++ c ∷ r)) (length (x ∷ y ∷ xs ++ c ∷ r)) (length xs) (omega arith)
     (comment_looks (suc (suc i)) xs c d r s) (omega arith))
     (λ t. branch m (closes_comment x y) _ _ _ _ n
     (λ t k. later (comment_len i (xs ++ c ∷ r)) (comment_len i (xs ++ d ∷ s)) 2
@@ -170,13 +174,13 @@ comment_looks (suc i) (x ∷ y ∷ xs) c d r s h =
     (length (y ∷ xs ++ c ∷ r)) (length (x ∷ y ∷ xs ++ c ∷ r)) (length (y ∷ xs)) (omega arith)
     (comment_looks (suc i) (y ∷ xs) c d r s) (omega arith))) h
 
--- ---- from lists to places
+-- ---- from lists to indexes
 
--- what is found from a place on, and where it ends: one that ends before the text does is found
-pub found_same : {told : (ℕ → Bool) → Type 0} {pairs : (ℕ → Bool) → (ℕ → Bool) → Type 0} (g : List ℕ
-    → Option ℕ) → Looks told pairs g (λ v. unwrap_or (g v) (length v))
-    → (k : ℕ) (u v : List ℕ) (i : ℕ) → Alike told pairs k u v
-    → end_or_text_end u i (g (drop i u)) ≤ k
+-- What is found from index i on, and the index at which it ends, are the same in both texts. An
+-- end at k or before it was found, since the text is longer.
+pub found_same : {told : Tests} {pairs : PairTests} (g : List ℕ → Option ℕ)
+    → Looks told pairs g (λ v. unwrap_or (g v) (length v)) → (k : ℕ) (u v : List ℕ) (i : ℕ)
+    → Alike told pairs k u v → end_or_text_end u i (g (drop i u)) ≤ k
     → (g (drop i v) ≡ g (drop i u))
     × (end_or_text_end v i (g (drop i v)) ≡ end_or_text_end u i (g (drop i u)))
 found_same g looks k u v i a h = by (seen g (λ w. unwrap_or (g w) (length w)) looks k u v i a h)
@@ -192,30 +196,31 @@ found_same g looks k u v i a h = by (seen g (λ w. unwrap_or (g w) (length w)) l
         × (end_or_text_end v i (g (drop i v)) ≡ end_or_text_end u i (g (drop i u)))
     by e = (e, ap (end_or_text_end v i) e ∙ end (g (drop i u)) h)
 
-pub quoted_same : {told : (ℕ → Bool) → Type 0} {pairs : (ℕ → Bool) → (ℕ → Bool)
-    → Type 0} (escapes : Bool) (q : ℕ) → told (λ c. eqb c q) → (k : ℕ) (u v : List ℕ) (i : ℕ)
-    → Alike told pairs k u v → quoted_end escapes q u i ≤ k
+-- So for a quoted text,
+pub quoted_same : {told : Tests} {pairs : PairTests} (escapes : Bool) (q : ℕ) → told (λ c. eqb c q)
+    → (k : ℕ) (u v : List ℕ) (i : ℕ) → Alike told pairs k u v → quoted_end escapes q u i ≤ k
     → (quoted_len escapes q (drop i v) ≡ quoted_len escapes q (drop i u))
     × (quoted_end escapes q v i ≡ quoted_end escapes q u i)
 quoted_same escapes q t k u v i a h =
     found_same (quoted_len escapes q) (quoted_looks escapes q t) k u v i a h
 
-pub comment_same : {told : (ℕ → Bool) → Type 0} {pairs : (ℕ → Bool) → (ℕ → Bool)
-    → Type 0} (inner k : ℕ) (u v : List ℕ) (i : ℕ) → Alike told pairs k u v
-    → comment_end inner u i ≤ k
+-- and for a block comment.
+pub comment_same : {told : Tests} {pairs : PairTests} (inner k : ℕ) (u v : List ℕ) (i : ℕ)
+    → Alike told pairs k u v → comment_end inner u i ≤ k
     → (comment_len inner (drop i v) ≡ comment_len inner (drop i u))
     × (comment_end inner v i ≡ comment_end inner u i)
-comment_same inner k u v i a h = found_same (comment_len inner) (λ xs c d r s f.
-    comment_looks inner xs c d r s) k u v i a h
+comment_same inner k u v i a h = found_same (comment_len inner)
+    (λ xs c d r s f. comment_looks inner xs c d r s) k u v i a h
 
--- ---- dollar strings
+-- ---- dollar-quoted strings
 
+-- Whether a text begins with d is decided by as many characters as d has.
 starts_same : (d xs r s : List ℕ) → length d ≤ length xs
     → starts_with nat_eq (xs ++ s) d ≡ starts_with nat_eq (xs ++ r) d
 starts_same d xs r s h = ap (pointwise nat_eq d) (take-append-le (length d) xs s h
     ∙ sym (take-append-le (length d) xs r h))
 
--- where it is found, it stands before there
+-- A delimiter that is found is no longer than the text up to its end.
 find_short : (d v : List ℕ) (n : ℕ) → unwrap_or (find_end d v) (length v) ≤ n → n < length v
     → length d ≤ n
 find_short d v n h within = by (find_end d v) refl h
@@ -224,6 +229,7 @@ find_short d v n h within = by (find_end d v) refl h
     by None e h = absurd (omega arith)
     by (Some m) e h = omega (arith, (dollars.found d v m e).0)
 
+-- The first occurrence of a delimiter is decided by the characters up to its end.
 find_looks : (w xs : List ℕ) (c d : ℕ) (r s : List ℕ)
     → unwrap_or (find_end w (xs ++ c ∷ r)) (length (xs ++ c ∷ r)) ≤ length xs
     → find_end w (xs ++ d ∷ s) ≡ find_end w (xs ++ c ∷ r)
@@ -240,13 +246,13 @@ find_looks w (x ∷ xs) c d r s h =
     find_short w (x ∷ xs ++ c ∷ r) (length (x ∷ xs)) h (omega (arith, length-append xs (c ∷ r)))
     in
     pick m (starts_with nat_eq (x ∷ xs ++ c ∷ r) w) (starts_with nat_eq (x ∷ xs ++ d ∷ s) w)
-    (Some (length w)) _ (Some (length w)) _ (length (x ∷ xs)) (starts_same w (x ∷ xs) (c ∷ r) (d
-    ∷ s) short) (λ t k. refl)
+    (Some (length w)) _ (Some (length w)) _ (length (x ∷ xs)) (starts_same w (x ∷ xs) (c ∷ r)
+    (d ∷ s) short) (λ t k. refl)
     (λ t k. later (find_end w (xs ++ c ∷ r)) (find_end w (xs ++ d ∷ s)) 1 (length (xs ++ c ∷ r))
     (length (x ∷ xs ++ c ∷ r)) (length xs) (omega arith) (find_looks w xs c d r s)
     (omega arith)) h
 
--- a run of fewer characters is no longer
+-- A run of a smaller class is no longer.
 fewer : (p q : ℕ → Bool) → ((c : ℕ) → p c ≡ true → q c ≡ true) → (v : List ℕ)
     → prefix_len p v ≤ prefix_len q v
 fewer p q only [] = omega arith
@@ -258,7 +264,7 @@ fewer p q only (c ∷ cs) = by (p c) (q c) refl refl (fewer p q only cs)
     by true false e f h = absurd (false≢true (sym f ∙ only c e))
     by false d e f h = omega arith
 
--- a tag ends in what would be junk without the `$` behind it
+-- A tag ends within the junk that it is part of where no `$` follows it.
 tag_in_junk : (u : List ℕ) → tag_end u ≤ junk_end u (run_end is_digit u 1)
 tag_in_junk u = by (is_ident_start (get_or u 1 0)) refl
   where
@@ -280,16 +286,16 @@ tag_in_junk u = by (is_ident_start (get_or u 1 0)) refl
         rw (no_digit t, all) (omega arith)
     by false t = omega (arith, junk_on u (run_end is_digit u 1))
 
--- what follows the tag is tested there
-tag_same : {told : (ℕ → Bool) → Type 0} {pairs : (ℕ → Bool) → (ℕ → Bool) → Type 0} → Asks told pairs
-    → (k : ℕ) (u v : List ℕ) → Alike told pairs k u v → 1 ≤ k → tag_end u ≤ k
-    → tag_end v ≡ tag_end u
+-- The end of a tag is the same in both texts, by tests of the character there.
+tag_same : {told : Tests} {pairs : PairTests} → Asks told pairs → (k : ℕ) (u v : List ℕ)
+    → Alike told pairs k u v → 1 ≤ k → tag_end u ≤ k → tag_end v ≡ tag_end u
 tag_same w k u v a some h =
     pick (λ n. n) (is_ident_start (get_or u 1 0)) (is_ident_start (get_or v 1 0))
     (run_end is_tag_cont u 1) 1 (run_end is_tag_cont v 1) 1 k
     (test is_ident_start w.id_start k u v 1 a some)
     (λ t e. run_same is_tag_cont w.tag_cont k u v 1 a e) (λ t e. refl) h
 
+-- A tag ends within its token.
 tag_in : (u : List ℕ) → tag_end u ≤ (dollar u).end
 tag_in u = by (is_dollar_quote_start u)
   where
@@ -297,9 +303,9 @@ tag_in u = by (is_dollar_quote_start u)
     by true = omega arith
     by false = tag_in_junk u
 
-string_same : {told : (ℕ → Bool) → Type 0} {pairs : (ℕ → Bool) → (ℕ → Bool)
-    → Type 0} (k : ℕ) (u v : List ℕ) → Alike told pairs k u v → tag_end v ≡ tag_end u
-    → (dollar_string u).end ≤ k → dollar_string v ≡ dollar_string u
+-- A dollar-quoted string is the same in both texts.
+string_same : {told : Tests} {pairs : PairTests} (k : ℕ) (u v : List ℕ) → Alike told pairs k u v
+    → tag_end v ≡ tag_end u → (dollar_string u).end ≤ k → dollar_string v ≡ dollar_string u
 string_same k u v a e h =
     let i = tag_end u + 1 in
     let d = delimiter u in
@@ -317,9 +323,9 @@ string_same k u v a e h =
     (end_or_text_end v (tag_end v + 1) (delimiter_end v))) closes_comment
     ∙ ap (literal_until (DollarQuotedString (is_some (delimiter_end u)))) stops
 
-pub dollar_same : {told : (ℕ → Bool) → Type 0} {pairs : (ℕ → Bool) → (ℕ → Bool) → Type 0}
-    → Asks told pairs → (k : ℕ) (u v : List ℕ) → Alike told pairs k u v → 1 ≤ k → (dollar u).end ≤ k
-    → dollar v ≡ dollar u
+-- So is every token that begins with `$`.
+pub dollar_same : {told : Tests} {pairs : PairTests} → Asks told pairs → (k : ℕ) (u v : List ℕ)
+    → Alike told pairs k u v → 1 ≤ k → (dollar u).end ≤ k → dollar v ≡ dollar u
 dollar_same w k u v a some h =
     let within : tag_end u ≤ k = omega (arith, tag_in u) in
     let e : tag_end v ≡ tag_end u = tag_same w k u v a some within in

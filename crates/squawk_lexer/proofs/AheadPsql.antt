@@ -1,9 +1,8 @@
--- Psql commands are decided by the characters up to their end, and by what the tests say of the
--- next.
-use Rattle.std.proofs.Common.{◌≡◌, ℕ, zero, suc, ◌+◌, ◌-◌, ◌≤◌, Bool, true, false, List, [], ◌∷◌, ◌++◌, length, get_or, slice_get, take, drop, Option, None, Some, option_map, unwrap_or, refl, sym, ap, ◌∙◌, ◌&&◌, not, eqb, cond, arith}
+-- Psql commands are decided by the characters up to their end, and by tests of the next.
+use Rattle.std.proofs.Common.{◌≡◌, ℕ, zero, suc, ◌+◌, ◌-◌, ◌≤◌, Bool, true, false, List, [], ◌∷◌, ◌++◌, length, get_or, take, drop, Option, None, Some, option_map, unwrap_or, refl, sym, ap, ◌∙◌, ◌&&◌, not, eqb, cond, arith}
 use Rattle.std.proofs.lemmas.List.{take-append-le}
 use Rattle.std.proofs.lemmas.Bool.Decides.{nat_tests}
-use Rattle.std.specs.List.{prefix_len}
+use Rattle.std.specs.List.{prefix_len, last_or}
 use Rattle.std.specs.Option.{option_or}
 use Rattle.squawk_lexer.specs.declared.token.TokenKind.TheVariants as kinds
 use Rattle.squawk_lexer.specs.Kind.{Lexeme, lexeme_until}
@@ -14,13 +13,15 @@ use Rattle.squawk_lexer.specs.PsqlParts.{is_quote, is_escape_pair, close_len, qu
 use Rattle.squawk_lexer.specs.Psql.{psql, command_word, word_end, options_end, output_start, output_end, command_end}
 use Rattle.squawk_lexer.proofs.TokenLaws.{output_start_on, output_end_on, psql_on}
 use Rattle.squawk_lexer.proofs.PsqlArgumentLaws.{pair_plain, rest_in}
-use Rattle.squawk_lexer.proofs.Ahead.{Follows, Looks, branch, pick, Alike, take_same, test, seen}
+use Rattle.squawk_lexer.proofs.PsqlSteps.{blank_is_plain}
+use Rattle.squawk_lexer.proofs.Ahead.{Tests, PairTests, Follows, Looks, branch, pick, Alike, take_same, test, seen}
 use Rattle.squawk_lexer.proofs.AheadRuns.{prefix_looks, run_same}
 use Rattle.squawk_lexer.proofs.AheadClosed.{far, later, shorter, either_far}
 
--- ---- the tests that commands do on the character after them
+-- ---- the tests of psql commands
 
-pub record AsksPsql (told : (ℕ → Bool) → Type 0) : Type 0 where
+-- The tests of the character after a command.
+pub record AsksPsql (told : Tests) : Type 0 where
   pub line_end : told is_line_end
   pub not_line_end : told is_not_line_end
   pub blank : told is_blank
@@ -30,20 +31,23 @@ pub record AsksPsql (told : (ℕ → Bool) → Type 0) : Type 0 where
 
 -- ---- quotes
 
+-- A quote is no line end.
 quote_plain : (q : ℕ) → is_quote q ≡ true → is_line_end q ≡ false
 quote_plain q t = grind (arith, nat_tests)
 
--- no quote closes at the end of its line
+-- A line end closes no quote.
 line_closes : (q c : ℕ) (cs : List ℕ) → is_line_end q ≡ false → is_line_end c ≡ true
     → close_len q (c ∷ cs) ≡ None
 line_closes q c [] plain t = let other : eqb c q ≡ false = grind (arith, nat_tests) in rw other refl
 line_closes q c (d ∷ cs) plain t = rw t refl
 
+-- A length found later is at least 1.
 far_one : (o : Option ℕ) (j total : ℕ) → 1 ≤ j → 1 ≤ total
     → 1 ≤ unwrap_or (option_map (λ m. m + j) o) total
 far_one None j total p q = q
 far_one (Some m) j total p q = omega arith
 
+-- A quote reads a character that is no line end.
 quote_far : (q c : ℕ) (cs : List ℕ) → is_line_end c ≡ false → 1 ≤ quote_len q (c ∷ cs)
 quote_far q c [] t = rw t (either_far (eqb c q) (Some 1) None 1 1 (omega arith) (omega arith))
 quote_far q c (d ∷ cs) t =
@@ -54,6 +58,7 @@ quote_far q c (d ∷ cs) t =
     (far_one (close_len q cs) 2 total (omega arith) (omega arith))
     (far_one (close_len q (d ∷ cs)) 1 total (omega arith) (omega arith))))
 
+-- The rest of a line, from a single character and from an escape pair.
 one_on : (x : ℕ) (v : List ℕ) → is_line_end x ≡ false
     → prefix_len is_not_line_end (x ∷ v) ≡ prefix_len is_not_line_end v + 1
 one_on x v t = rw t (omega arith)
@@ -62,7 +67,8 @@ two_on : (q x y : ℕ) (v : List ℕ) → is_line_end x ≡ false → is_escape_
     → prefix_len is_not_line_end (x ∷ y ∷ v) ≡ prefix_len is_not_line_end v + 2
 two_on q x y v t p = rw (t, pair_plain q x y p) (omega arith)
 
-close_looks : {told : (ℕ → Bool) → Type 0} {pairs : (ℕ → Bool) → (ℕ → Bool) → Type 0}
+-- Where a quote is closed is decided by its characters and by tests of the next.
+close_looks : {told : Tests} {pairs : PairTests}
     → AsksPsql told → (q : ℕ) → is_line_end q ≡ false → Looks told pairs (close_len q) (quote_len q)
 close_looks w q plain [] c d r s f h = by (is_line_end c) refl
   where
@@ -75,12 +81,11 @@ close_looks w q plain (x ∷ []) c d r s f h =
     let m = λ (o : Option ℕ). unwrap_or o total in
     branch m (is_line_end x) None _ None _ 1 (λ t k. refl)
     (λ t. branch m (eqb x q) (Some 1) _ (Some 1) _ 1 (λ e k. refl)
-    (λ e. pick m (is_escape_pair q x c) (is_escape_pair q x d) _ _ _ _ 1 (ap (λ b.
-    (eqb q 39 && eqb x 92) && not b) (f.one is_line_end w.line_end))
+    (λ e. pick m (is_escape_pair q x c) (is_escape_pair q x d) _ _ _ _ 1
+    (ap (λ b. (eqb q 39 && eqb x 92) && not b) (f.one is_line_end w.line_end))
     (λ p k. absurd (omega (
       arith,
-      far (close_len q r) 2 (prefix_len is_not_line_end r) total
-          (two_on q x c r t p),
+      far (close_len q r) 2 (prefix_len is_not_line_end r) total (two_on q x c r t p),
     )))
     (λ p k. later (close_len q (c ∷ r)) (close_len q (d ∷ s)) 1 (prefix_len is_not_line_end (c ∷ r))
     total 0 (one_on x (c ∷ r) t) (close_looks w q plain [] c d r s f) (omega arith)))) h
@@ -98,7 +103,8 @@ close_looks w q plain (x ∷ y ∷ xs) c d r s f h =
     (prefix_len is_not_line_end (y ∷ xs ++ c ∷ r)) total (length (y ∷ xs))
     (one_on x (y ∷ xs ++ c ∷ r) t) (close_looks w q plain (y ∷ xs) c d r s f) (omega arith)))) h
 
-quote_looks : {told : (ℕ → Bool) → Type 0} {pairs : (ℕ → Bool) → (ℕ → Bool) → Type 0}
+-- So is the length of a quote,
+quote_looks : {told : Tests} {pairs : PairTests}
     → AsksPsql told → (q : ℕ) → is_line_end q ≡ false → Looks told pairs (quote_len q) (quote_len q)
 quote_looks w q plain xs c d r s f h =
     ap (λ o. unwrap_or o (prefix_len is_not_line_end (xs ++ d ∷ s)))
@@ -112,55 +118,59 @@ quote_looks w q plain xs c d r s f h =
 
 -- ---- parts and arguments
 
-part_looks : {told : (ℕ → Bool) → Type 0} {pairs : (ℕ → Bool) → (ℕ → Bool) → Type 0} → AsksPsql told
+-- The length of a part is decided so.
+part_looks : {told : Tests} {pairs : PairTests} → AsksPsql told
     → (x : ℕ) → Looks told pairs (part_rest x) (part_rest x)
 part_looks w x xs c d r s f h =
     branch (λ n. n) (is_quote x) (quote_len x (xs ++ c ∷ r)) 0 (quote_len x (xs ++ d ∷ s)) 0
     (length xs) (λ t k. quote_looks w x (quote_plain x t) xs c d r s f k) (λ t k. refl) h
 
+-- The arguments reach past the part that they begin inside.
 args_far : (inside : ℕ) (v : List ℕ) → inside ≤ length v → inside ≤ arguments_len inside v
 args_far zero v h = omega arith
 args_far (suc i) [] h = absurd (omega arith)
 args_far (suc i) (c ∷ cs) h = omega (arith, args_far i cs (omega arith))
 
-args_looks : {told : (ℕ → Bool) → Type 0} {pairs : (ℕ → Bool) → (ℕ → Bool) → Type 0} → AsksPsql told
+-- The length of the arguments is decided so.
+args_looks : {told : Tests} {pairs : PairTests} → AsksPsql told
     → (inside : ℕ) → Looks told pairs (arguments_len inside) (arguments_len inside)
 args_looks w (suc i) [] c d r s f h = absurd (omega arith)
 args_looks w zero [] c d r s f h =
     pick (λ n. n) (ends_arguments c) (ends_arguments d) 0 (1 + arguments_len (part_rest c r) r) 0
-    (1 + arguments_len (part_rest d s) s) 0 (f.one ends_arguments w.ends) (λ t k. refl) (λ t k.
-    absurd (omega arith)) h
+    (1 + arguments_len (part_rest d s) s) 0 (f.one ends_arguments w.ends) (λ t k. refl)
+    (λ t k. absurd (omega arith)) h
 args_looks w zero (x ∷ xs) c d r s f h =
     let i = part_rest x (xs ++ c ∷ r) in
     branch (λ n. n) (ends_arguments x) 0 (1 + arguments_len i (xs ++ c ∷ r)) 0
-    (1 + arguments_len (part_rest x (xs ++ d ∷ s)) (xs ++ d ∷ s)) (length (x ∷ xs)) (λ t k.
-    refl)
+    (1 + arguments_len (part_rest x (xs ++ d ∷ s)) (xs ++ d ∷ s)) (length (x ∷ xs))
+    (λ t k. refl)
     (λ t k. ap (λ j. 1 + arguments_len j (xs ++ d ∷ s))
     (part_looks w x xs c d r s f (omega (
       arith,
-      args_far i (xs ++ c
-          ∷ r) (rest_in x (xs ++ c ∷ r)),
+      args_far i (xs ++ c ∷ r) (rest_in x (xs ++ c ∷ r)),
     )))
     ∙ ap (λ n. 1 + n) (args_looks w i xs c d r s f (omega arith))) h
 args_looks w (suc i) (x ∷ xs) c d r s f h =
     ap (λ n. 1 + n) (args_looks w i xs c d r s f (omega arith))
 
-pub args_same : {told : (ℕ → Bool) → Type 0} {pairs : (ℕ → Bool) → (ℕ → Bool) → Type 0}
-    → AsksPsql told → (k : ℕ) (u v : List ℕ) (i : ℕ) → Alike told pairs k u v
-    → arguments_end u i ≤ k → arguments_end v i ≡ arguments_end u i
+-- The end of the arguments is the same in both texts.
+pub args_same : {told : Tests} {pairs : PairTests} → AsksPsql told → (k : ℕ) (u v : List ℕ) (i : ℕ)
+    → Alike told pairs k u v → arguments_end u i ≤ k → arguments_end v i ≡ arguments_end u i
 args_same w k u v i a h =
     ap (λ n. i + n) (seen (arguments_len 0) (arguments_len 0) (args_looks w 0) k u v i a h)
 
 -- ---- marks
 
+-- The last character of a quoted text is decided by the characters up to its closing quote.
 inside_same : (xs r s : List ℕ) (o : Option ℕ) (len : ℕ) → unwrap_or o len ≤ length xs
     → last_inside (xs ++ s) o ≡ last_inside (xs ++ r) o
 inside_same xs r s None len h = refl
 inside_same xs r s (Some n) len h =
-    ap (λ w. slice_get w (n - 2)) (take-append-le (n - 1) xs s (omega arith)
+    ap (last_or None) (take-append-le (n - 1) xs s (omega arith)
     ∙ sym (take-append-le (n - 1) xs r (omega arith)))
 
-mark_same : {told : (ℕ → Bool) → Type 0} {pairs : (ℕ → Bool) → (ℕ → Bool) → Type 0} → AsksPsql told
+-- So is the mark after a part.
+mark_same : {told : Tests} {pairs : PairTests} → AsksPsql told
     → (mark : Option ℕ) (x : ℕ) (xs : List ℕ) (c d : ℕ) (r s : List ℕ) → Follows told pairs c d r s
     → part_rest x (xs ++ c ∷ r) ≤ length xs
     → mark_after mark x (xs ++ d ∷ s) ≡ mark_after mark x (xs ++ c ∷ r)
@@ -181,7 +191,8 @@ mark_same w mark x xs c d r s f h = by (eqb x 39) refl
 
 -- ---- the first argument whose mark is `)`
 
--- how far the marks are read: to the end of that argument, or of all arguments
+-- The first marked argument, or all arguments where none is marked, reach past the part that they
+-- begin inside.
 marked_far : (inside : ℕ) (mark : Option ℕ) (v : List ℕ) → inside ≤ length v
     → inside ≤ unwrap_or (marked_len inside mark v) (arguments_len inside v)
 marked_far zero mark v h = omega arith
@@ -193,38 +204,36 @@ marked_far (suc i) mark (c ∷ cs) h = by (marked_len i mark cs) (marked_far i m
     by None h = omega arith
     by (Some m) h = omega arith
 
-blank_plain : (c : ℕ) → is_blank c ≡ true → is_quote c ≡ false
-blank_plain c t = grind (arith, nat_tests)
-
+-- The length of the arguments, from a part and from a blank.
 part_on : (x : ℕ) (v : List ℕ) → ends_arguments x ≡ false
     → arguments_len 0 (x ∷ v) ≡ arguments_len (part_rest x v) v + 1
 part_on x v t = rw t (omega arith)
 
 blank_on : (x : ℕ) (v : List ℕ) → ends_arguments x ≡ false → is_blank x ≡ true
     → arguments_len 0 (x ∷ v) ≡ arguments_len 0 v + 1
-blank_on x v t b = rw (t, blank_plain x b) (omega arith)
+blank_on x v t b = rw (t, blank_is_plain x b) (omega arith)
 
-marked_looks : {told : (ℕ → Bool) → Type 0} {pairs : (ℕ → Bool) → (ℕ → Bool) → Type 0}
+-- The end of the first marked argument is decided by the characters up to it, or up to the end of
+-- the arguments where none is marked.
+marked_looks : {told : Tests} {pairs : PairTests}
     → AsksPsql told → (inside : ℕ) (mark : Option ℕ)
-    → Looks told pairs (marked_len inside mark) (λ v.
-    unwrap_or (marked_len inside mark v) (arguments_len inside v))
+    → Looks told pairs (marked_len inside mark)
+    (λ v. unwrap_or (marked_len inside mark v) (arguments_len inside v))
 marked_looks w (suc i) mark [] c d r s f h =
     absurd (omega (
       arith,
-      far (marked_len i mark r) 1 (arguments_len i r) (1 + arguments_len i r)
-          (omega arith),
+      far (marked_len i mark r) 1 (arguments_len i r) (1 + arguments_len i r) (omega arith),
     ))
 marked_looks w zero mark [] c d r s f h =
     let total = arguments_len 0 (c ∷ r) in
     let m = λ (o : Option ℕ). unwrap_or o total in
-    pick m (ends_arguments c) (ends_arguments d) _ _ _ _ 0 (f.one ends_arguments w.ends) (λ t k.
-    refl)
+    pick m (ends_arguments c) (ends_arguments d) _ _ _ _ 0 (f.one ends_arguments w.ends)
+    (λ t k. refl)
     (λ t. pick m (is_blank c) (is_blank d) _ _ _ _ 0 (f.one is_blank w.blank)
     (λ b. branch m (is_parenthesis mark) (Some 0) _ (Some 0) _ 0 (λ p k. refl)
     (λ p k. absurd (omega (
       arith,
-      far (marked_len 0 None r) 1 (arguments_len 0 r) total
-          (blank_on c r t b),
+      far (marked_len 0 None r) 1 (arguments_len 0 r) total (blank_on c r t b),
     ))))
     (λ b k. absurd (omega (
       arith,
@@ -265,21 +274,22 @@ marked_looks w (suc i) mark (x ∷ xs) c d r s f h =
     (arguments_len i (xs ++ c ∷ r)) (1 + arguments_len i (xs ++ c ∷ r)) (length xs)
     (omega arith) (marked_looks w i mark xs c d r s f) (omega arith)
 
--- ---- the output of pipe words
+-- ---- the output of commands with a pipe
 
+-- The options end at or after the argument that ends them.
 options_far : (u : List ℕ) (i : ℕ) (o : Option ℕ)
     → i + unwrap_or o (arguments_len 0 (drop i u)) ≤ options_end u i o
 options_far u i None = omega arith
 options_far u i (Some n) = omega arith
 
-options_same : {told : (ℕ → Bool) → Type 0} {pairs : (ℕ → Bool) → (ℕ → Bool) → Type 0}
-    → AsksPsql told → (k : ℕ) (u v : List ℕ) (i : ℕ) → Alike told pairs k u v
-    → options_end u i (marked_len_at u i) ≤ k
+-- The end of the options, and the start and the end of the output, are the same in both texts.
+options_same : {told : Tests} {pairs : PairTests} → AsksPsql told → (k : ℕ) (u v : List ℕ) (i : ℕ)
+    → Alike told pairs k u v → options_end u i (marked_len_at u i) ≤ k
     → options_end v i (marked_len_at v i) ≡ options_end u i (marked_len_at u i)
 options_same z k u v i a h =
     let e : marked_len_at v i ≡ marked_len_at u i =
-    seen (marked_len 0 None) (λ w.
-    unwrap_or (marked_len 0 None w) (arguments_len 0 w)) (marked_looks z 0 None) k u v i a
+    seen (marked_len 0 None)
+    (λ w. unwrap_or (marked_len 0 None w) (arguments_len 0 w)) (marked_looks z 0 None) k u v i a
     (omega (arith, options_far u i (marked_len_at u i))) in
     ap (options_end v i) e ∙ by (marked_len_at u i) h
   where
@@ -287,37 +297,38 @@ options_same z k u v i a h =
     by None h = args_same z k u v i a h
     by (Some n) h = run_same is_blank z.blank k u v (i + n) a h
 
-output_start_same : {told : (ℕ → Bool) → Type 0} {pairs : (ℕ → Bool) → (ℕ → Bool) → Type 0}
+output_start_same : {told : Tests} {pairs : PairTests}
     → AsksPsql told → (b : Bool) (k : ℕ) (u v : List ℕ) (i : ℕ) → Alike told pairs k u v
     → output_start b u i ≤ k → output_start b v i ≡ output_start b u i
 output_start_same z b k u v i a h =
-    pick (λ n. n) (b && eqb (get_or u i 0) 40) (b
-    && eqb (get_or v i 0) 40) (options_end u i (marked_len_at u i)) i
+    pick (λ n. n) (b && eqb (get_or u i 0) 40)
+    (b && eqb (get_or v i 0) 40) (options_end u i (marked_len_at u i)) i
     (options_end v i (marked_len_at v i)) i k
     (ap (λ e. b && e) (test (λ c. eqb c 40) (z.other 40 refl) k u v i a
     (omega (arith, output_start_on b u i)))) (λ t e. options_same z k u v i a e) (λ t e. refl) h
 
-output_end_same : {told : (ℕ → Bool) → Type 0} {pairs : (ℕ → Bool) → (ℕ → Bool) → Type 0}
+output_end_same : {told : Tests} {pairs : PairTests}
     → AsksPsql told → (k : ℕ) (u v : List ℕ) (p : ℕ) → Alike told pairs k u v → output_end u p ≤ k
     → output_end v p ≡ output_end u p
 output_end_same z k u v p a h =
     pick (λ n. n) (eqb (get_or u p 0) 124) (eqb (get_or v p 0) 124) (line_end u p)
     (arguments_end u p) (line_end v p) (arguments_end v p) k
-    (test (λ c. eqb c 124) (z.other 124 refl) k u v p a (omega (arith, output_end_on u p))) (λ t e.
-    run_same is_not_line_end z.not_line_end k u v p a e) (λ t e. args_same z k u v p a e) h
+    (test (λ c. eqb c 124) (z.other 124 refl) k u v p a (omega (arith, output_end_on u p)))
+    (λ t e. run_same is_not_line_end z.not_line_end k u v p a e) (λ t e. args_same z k u v p a e) h
 
 -- ---- commands
 
--- where the output begins of a pipe word w that ends at i
+-- The index at which the output begins, of a command whose word is w and ends at index i.
 abbrev output_at : List ℕ → ℕ → List ℕ → ℕ
 output_at w i u = output_start (is_among option_words w) u (run_end is_blank u i)
 
--- where the command of the word w ends that ends at i
+-- The index at which such a command ends.
 abbrev end_at : List ℕ → ℕ → List ℕ → ℕ
 end_at w i u =
     cond (takes_line w) (line_end u i) (cond (is_among pipe_words w)
     (output_end u (output_at w i u)) (arguments_end u i))
 
+-- A command ends at or after its word.
 end_far : (w : List ℕ) (i : ℕ) (u : List ℕ) → i ≤ end_at w i u
 end_far w i u = by (takes_line w) (is_among pipe_words w)
   where
@@ -328,12 +339,12 @@ end_far w i u = by (takes_line w) (is_among pipe_words w)
         omega (
           arith,
           output_end_on u (output_at w i u),
-          output_start_on (is_among option_words w) u
-              (run_end is_blank u i),
+          output_start_on (is_among option_words w) u (run_end is_blank u i),
         )
     by false false = omega arith
 
-output_same : {told : (ℕ → Bool) → Type 0} {pairs : (ℕ → Bool) → (ℕ → Bool) → Type 0}
+-- The end of the output, and that of the command, are the same in both texts.
+output_same : {told : Tests} {pairs : PairTests}
     → AsksPsql told → (w : List ℕ) (k : ℕ) (u v : List ℕ) (i : ℕ) → Alike told pairs k u v
     → output_end u (output_at w i u) ≤ k → output_end v (output_at w i v)
     ≡ output_end u (output_at w i u)
@@ -348,18 +359,18 @@ output_same z w k u v i a h =
     ∙ ap (output_end v) (output_start_same z b k u v blanks a start)
     ∙ output_end_same z k u v p a h
 
-end_same : {told : (ℕ → Bool) → Type 0} {pairs : (ℕ → Bool) → (ℕ → Bool) → Type 0} → AsksPsql told
+end_same : {told : Tests} {pairs : PairTests} → AsksPsql told
     → (w : List ℕ) (k : ℕ) (u v : List ℕ) (i : ℕ) → Alike told pairs k u v → end_at w i u ≤ k
     → end_at w i v ≡ end_at w i u
 end_same z w k u v i a h =
-    branch (λ n. n) (takes_line w) (line_end u i) _ (line_end v i) _ k (λ t e.
-    run_same is_not_line_end z.not_line_end k u v i a e)
+    branch (λ n. n) (takes_line w) (line_end u i) _ (line_end v i) _ k
+    (λ t e. run_same is_not_line_end z.not_line_end k u v i a e)
     (λ t. branch (λ n. n) (is_among pipe_words w) _ (arguments_end u i) _ (arguments_end v i) k
     (λ s e. output_same z w k u v i a e) (λ s e. args_same z k u v i a e)) h
 
-pub psql_same : {told : (ℕ → Bool) → Type 0} {pairs : (ℕ → Bool) → (ℕ → Bool) → Type 0}
-    → AsksPsql told → (k : ℕ) (u v : List ℕ) → Alike told pairs k u v → (psql u).end ≤ k
-    → psql v ≡ psql u
+-- A psql command is the same in both texts.
+pub psql_same : {told : Tests} {pairs : PairTests} → AsksPsql told → (k : ℕ) (u v : List ℕ)
+    → Alike told pairs k u v → (psql u).end ≤ k → psql v ≡ psql u
 psql_same z k u v a h =
     pick end _ _ (lexeme_until (kinds.PsqlCommand false) 2) _
     (lexeme_until (kinds.PsqlCommand false) 2) _ k (second 92 refl) (λ t e. refl)

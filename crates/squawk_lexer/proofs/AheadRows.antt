@@ -1,5 +1,5 @@
--- Worked rows of look-ahead: where one character behind a token does not decide it, and what ends
--- with a `;`.
+-- Worked examples of look-ahead: tokens that one character after them does not decide, and texts
+-- that end with a semicolon.
 use Rattle.std.proofs.Common.{◌≡◌, true, false, [], ◌∷◌, ◌++◌, length, refl, codes}
 use Rattle.squawk_lexer.specs.declared.token.LiteralKind.TheVariants.{UnicodeEscStr, Int, Numeric}
 use Rattle.squawk_lexer.specs.declared.token.Base.TheVariants.{Decimal}
@@ -13,7 +13,7 @@ use Rattle.squawk_lexer.specs.Token.{token_form, prefix_of, lexeme_at}
 use Rattle.squawk_lexer.specs.Cut.{tokens}
 use Rattle.squawk_lexer.specs.LookAhead.{EndsWithSemi}
 
--- `1` before `..` and before `.5`
+-- `1` before `..`, and before `.5`.
 before_range : lexeme_at Standard true (codes "1..") ≡ literal_until (Int Decimal false 1) 1
 unfolding token_form prefix_of symbol
 before_range = refl
@@ -22,7 +22,7 @@ with_fraction : lexeme_at Standard true (codes "1.5") ≡ literal_until (Numeric
 unfolding token_form prefix_of symbol
 with_fraction = refl
 
--- `u` before `&` without a quote, and with one
+-- `u` before `&` without a quote, and with one.
 before_and : lexeme_at Standard true (codes "u&a") ≡ lexeme_until Ident 1
 unfolding token_form prefix_of symbol
 before_and = refl
@@ -31,7 +31,7 @@ with_quote : lexeme_at Standard true (codes "u&'") ≡ literal_until (UnicodeEsc
 unfolding token_form prefix_of symbol
 with_quote = refl
 
--- `1e` before a sign without a digit, and with one
+-- `1e` before a sign without a digit, and with one.
 before_sign : lexeme_at Standard true (codes "1e+a") ≡ literal_until (Numeric (Some 1) 2) 2
 unfolding token_form prefix_of symbol
 before_sign = refl
@@ -40,7 +40,7 @@ with_exponent : lexeme_at Standard true (codes "1e+5") ≡ literal_until (Numeri
 unfolding token_form prefix_of symbol
 with_exponent = refl
 
--- a statement, a pair of psql, and a command that takes the `;`
+-- A statement, `\;` of psql, and a command with `;` among its arguments.
 statement : EndsWithSemi (tokens Standard (codes "a;"))
 unfolding token_form prefix_of symbol
 statement = refl
@@ -53,7 +53,7 @@ command : tokens Standard (codes "\\echo x;") ≡ record { kind = PsqlCommand fa
 unfolding token_form prefix_of symbol
 command = refl
 
--- behind a `;`, U+FEFF is a letter
-mark_behind : length (tokens Standard (codes ";" ++ byte_order_mark ∷ codes "x")) ≡ 2
+-- After a `;`, U+FEFF begins an identifier.
+mark_after_semicolon : length (tokens Standard (codes ";" ++ byte_order_mark ∷ codes "x")) ≡ 2
 unfolding token_form prefix_of symbol
-mark_behind = refl
+mark_after_semicolon = refl

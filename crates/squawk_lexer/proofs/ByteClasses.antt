@@ -1,5 +1,5 @@
--- The table of id-cont is held against the definition at each of the 256 bytes, by computing; and a
--- class has each character from U+0080 on, or none of them.
+-- The table of the bytes that continue an identifier, and classes that hold all characters beyond
+-- ASCII or none.
 use Rattle.std.proofs.Common.{◌≡◌, ℕ, zero, suc, ◌<◌, Bool, true, false, ◌&&◌, not, eqb, get_or, List, refl, arith, inl, inr}
 use Rattle.std.specs.Bool.{beq}
 use Rattle.std.proofs.lemmas.Bool.{cases_eq}
@@ -13,18 +13,20 @@ use Rattle.squawk_lexer.proofs.ByteRuns.{Flat}
 
 -- ---- the table
 
--- the two tests agree below n
-agree_below : (ℕ → Bool) → (ℕ → Bool) → ℕ → Bool
+-- Whether two tests agree on the numbers below n.
+unfoldable pub agree_below : (ℕ → Bool) → (ℕ → Bool) → ℕ → Bool
 agree_below f g zero = true
 agree_below f g (suc n) = beq (f n) (g n) && agree_below f g n
 
+-- A conjunction of an equality of tests and another test.
 both_of : (x y rest : Bool) → (beq x y && rest) ≡ true → (x ≡ y) × (rest ≡ true)
 both_of true true rest h = (refl, h)
 both_of true false rest h = cc
 both_of false true rest h = cc
 both_of false false rest h = (refl, h)
 
-agree_at : (f g : ℕ → Bool) (n : ℕ) → agree_below f g n ≡ true → (b : ℕ) → b < n → f b ≡ g b
+-- Tests that agree below n agree at each number below n.
+pub agree_at : (f g : ℕ → Bool) (n : ℕ) → agree_below f g n ≡ true → (b : ℕ) → b < n → f b ≡ g b
 unfolding agree_below
 agree_at f g zero h b lt = absurd (omega arith)
 agree_at f g (suc n) h b lt =
@@ -35,17 +37,20 @@ agree_at f g (suc n) h b lt =
           (omega arith)
     ]
 
+-- An entry of the table, from the computed test of all 256.
 from_table : (table : List ℕ) (b : ℕ) → b < 256
     → agree_below (λ k. not (eqb (get_or table k 0) 44)) is_ident_cont 256 ≡ true
     → not (eqb (get_or table b 0) 44) ≡ is_ident_cont b
 from_table table b lt h = agree_at _ _ 256 h b lt
 
-pub HasIdCont-ID_CONT : HasIdentCont ID_CONT
+-- The table is right.
+pub ident_cont_table : HasIdentCont ID_CONT
 unfolding agree_below
-HasIdCont-ID_CONT = record { len = refl; each = λ b lt. from_table ID_CONT b lt refl }
+ident_cont_table = record { len = refl; each = λ b lt. from_table ID_CONT b lt refl }
 
 -- ---- flat classes
 
+-- Each class of the cursor holds all characters beyond ASCII, or none.
 flat_white : Flat (class_test Whitespace)
 flat_white b c p q = grind (arith, nat_tests)
 

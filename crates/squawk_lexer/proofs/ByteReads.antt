@@ -1,4 +1,4 @@
--- What the bytes at a place say of the characters there.
+-- What the bytes at an index tell about the characters there.
 use Rattle.std.proofs.Common.{◌≡◌, ℕ, zero, suc, ◌+◌, ◌<◌, ◌≤◌, false, List, [], ◌∷◌, ◌++◌, get_or, refl, sym, ◌∙◌, ap, subst, inl, inr, ◌⊎◌, eqb, arith, IsUtf8, add-zero}
 use Rattle.std.proofs.lemmas.Bool.{cases_lt}
 use Rattle.std.proofs.lemmas.Bool.Decides.{nat_tests}
@@ -18,6 +18,7 @@ use Rattle.squawk_lexer.proofs.ByteRuns.{high, some_bytes}
 
 -- ---- the first byte of a character
 
+-- The first byte of an ASCII character is the character, and that of any other is at least 128.
 pub lead_ascii : (c : ℕ) → c < 128 → first_byte c ≡ c
 unfolding first_byte
 lead_ascii c small = rw (encode_ascii c small) refl
@@ -26,20 +27,22 @@ pub lead_high : (c : ℕ) → 128 ≤ c → 128 ≤ first_byte c
 unfolding first_byte
 lead_high c big = high c 0 big (some_bytes c)
 
+-- A text begins with the first byte of its first character.
 pub lead_first : (c : ℕ) (bs : List ℕ) → get_or (encode_utf8 c ++ bs) 0 0 ≡ first_byte c
 unfolding first_byte
 lead_first c bs = get_or_append_left (encode_utf8 c) bs 0 0 (some_bytes c)
 
+-- After k ASCII characters, the byte at k is the first byte of the character at k.
 pub read_ahead : (k : ℕ) (cs : List ℕ) → ((j : ℕ) → j < k → get_or cs j 0 < 128)
     → get_or (encode_utf8_all cs) k 0 ≡ first_byte (get_or cs k 0)
 read_ahead zero [] ascii = sym (lead_ascii 0 (omega arith))
 read_ahead zero (c ∷ cs) ascii = lead_first c (encode_utf8_all cs)
 read_ahead (suc k) [] ascii = sym (lead_ascii 0 (omega arith))
 read_ahead (suc k) (c ∷ cs) ascii =
-    rw (encode_ascii c (ascii 0 (omega arith))) (read_ahead k cs (λ j below.
-    ascii (suc j) (omega arith)))
+    rw (encode_ascii c (ascii 0 (omega arith))) (read_ahead k cs
+    (λ j below. ascii (suc j) (omega arith)))
 
--- the byte so many behind rest's first
+-- The byte n bytes into the rest, where the n characters before it are ASCII.
 pub read_byte : (token rest : List ℕ) (n : ℕ) → IsRest token rest
     → IsAsciiRun (chars token) (chars_before token rest) n
     → get_or rest n 0 ≡ first_byte (get_or (chars token) (chars_before token rest + n) 0)
@@ -55,22 +58,23 @@ read_byte token rest n r ascii =
 
 -- ---- what a token begins with, by its bytes
 
+-- A character beyond ASCII equals none of ASCII.
 apart : (c q : ℕ) → 128 ≤ c → q < 128 → eqb c q ≡ false
 apart c q big small = grind (arith, nat_tests)
 
-start_high : (c d : ℕ) → 128 ≤ c → token_form c d ≡ Word
+-- A character beyond ASCII begins a word, and which one is second does not matter.
+form_high : (c d : ℕ) → 128 ≤ c → token_form c d ≡ Word
 unfolding token_form
-start_high c d big = grind (arith, nat_tests)
+form_high c d big = grind (arith, nat_tests)
 
-start_second : (c d e : ℕ) → 128 ≤ d → 128 ≤ e → token_form c d ≡ token_form c e
+form_second : (c d e : ℕ) → 128 ≤ d → 128 ≤ e → token_form c d ≡ token_form c e
 unfolding token_form
-start_second c d e p q =
+form_second c d e p q =
     rw (
       apart d 45 p (omega arith),
       apart d 42 p (omega arith),
       apart d 46 p (omega arith),
-      apart e
-          45 q (omega arith),
+      apart e 45 q (omega arith),
       apart e 42 q (omega arith),
       apart e 46 q (omega arith),
       no_digit d p,
@@ -80,61 +84,62 @@ start_second c d e p q =
     no_digit : (x : ℕ) → 128 ≤ x → is_digit x ≡ false
     no_digit x big = grind (arith, nat_tests)
 
-pub start_lead : (c d b e : ℕ) → b ≡ first_byte c → (c < 128 → e ≡ first_byte d)
+-- The form by first bytes is the form by characters.
+pub form_lead : (c d b e : ℕ) → b ≡ first_byte c → (c < 128 → e ≡ first_byte d)
     → token_form b e ≡ token_form c d
-start_lead c d b e first second = by (cases_lt c 128) (cases_lt d 128)
+form_lead c d b e first second = by (cases_lt c 128) (cases_lt d 128)
   where
     by : (c < 128) ⊎ (128 ≤ c) → (d < 128) ⊎ (128 ≤ d) → token_form b e ≡ token_form c d
     by (inl small) (inl low) = rw (first ∙ lead_ascii c small, second small ∙ lead_ascii d low) refl
     by (inl small) (inr big) =
-        rw (first ∙ lead_ascii c small) (start_second c e d (subst (λ x.
-        128 ≤ x) (sym (second small)) (lead_high d big)) big)
-    by (inr big) other = start_high b e (subst (λ x. 128 ≤ x) (sym first) (lead_high c big))
-        ∙ sym (start_high c d big)
+        rw (first ∙ lead_ascii c small) (form_second c e d (subst
+        (λ x. 128 ≤ x) (sym (second small)) (lead_high d big)) big)
+    by (inr big) other = form_high b e (subst (λ x. 128 ≤ x) (sym first) (lead_high c big))
+        ∙ sym (form_high c d big)
 
-opening_high : (c d e : ℕ) → 128 ≤ c → prefix_of c d e ≡ Plain
+-- A character beyond ASCII is in no prefix.
+prefix_high : (c d e : ℕ) → 128 ≤ c → prefix_of c d e ≡ Plain
 unfolding prefix_of
-opening_high c d e big = grind (arith, nat_tests)
+prefix_high c d e big = grind (arith, nat_tests)
 
-opening_plain : (c d e : ℕ) → 128 ≤ d → prefix_of c d e ≡ Plain
+prefix_plain : (c d e : ℕ) → 128 ≤ d → prefix_of c d e ≡ Plain
 unfolding prefix_of
-opening_plain c d e big = grind (arith, nat_tests)
+prefix_plain c d e big = grind (arith, nat_tests)
 
-opening_third : (c d e f : ℕ) → 128 ≤ e → 128 ≤ f → prefix_of c d e ≡ prefix_of c d f
+prefix_third : (c d e f : ℕ) → 128 ≤ e → 128 ≤ f → prefix_of c d e ≡ prefix_of c d f
 unfolding prefix_of
-opening_third c d e f p q =
+prefix_third c d e f p q =
     rw (
       apart e 39 p (omega arith),
       apart e 34 p (omega arith),
       apart f 39 q (omega arith),
-      apart f
-          34 q (omega arith),
+      apart f 34 q (omega arith),
     ) refl
 
-pub opening_lead : (c d x b e f : ℕ) → b ≡ first_byte c → (c < 128 → e ≡ first_byte d)
+-- The prefix by first bytes is the prefix by characters.
+pub prefix_lead : (c d x b e f : ℕ) → b ≡ first_byte c → (c < 128 → e ≡ first_byte d)
     → (c < 128 → d < 128 → f ≡ first_byte x) → prefix_of b e f ≡ prefix_of c d x
-opening_lead c d x b e f first second third = by (cases_lt c 128) (cases_lt d 128) (cases_lt x 128)
+prefix_lead c d x b e f first second third = by (cases_lt c 128) (cases_lt d 128) (cases_lt x 128)
   where
     by : (c < 128) ⊎ (128 ≤ c) → (d < 128) ⊎ (128 ≤ d) → (x < 128) ⊎ (128 ≤ x)
         → prefix_of b e f ≡ prefix_of c d x
     by (inl small) (inl low) (inl last) = rw (
       first ∙ lead_ascii c small,
-      second small
-          ∙ lead_ascii d low,
+      second small ∙ lead_ascii d low,
       third small low ∙ lead_ascii x last,
     ) refl
     by (inl small) (inl low) (inr big) = rw (
       first ∙ lead_ascii c small,
-      second small
-          ∙ lead_ascii d low,
-    ) (opening_third c d f x (subst (λ y.
-        128 ≤ y) (sym (third small low)) (lead_high x big)) big)
+      second small ∙ lead_ascii d low,
+    ) (prefix_third c d f x (subst
+        (λ y. 128 ≤ y) (sym (third small low)) (lead_high x big)) big)
     by (inl small) (inr big) other =
-        opening_plain b e f (subst (λ y. 128 ≤ y) (sym (second small)) (lead_high d big))
-        ∙ sym (opening_plain c d x big)
-    by (inr big) other more = opening_high b e f (subst (λ y.
-        128 ≤ y) (sym first) (lead_high c big)) ∙ sym (opening_high c d x big)
+        prefix_plain b e f (subst (λ y. 128 ≤ y) (sym (second small)) (lead_high d big))
+        ∙ sym (prefix_plain c d x big)
+    by (inr big) other more = prefix_high b e f (subst
+        (λ y. 128 ≤ y) (sym first) (lead_high c big)) ∙ sym (prefix_high c d x big)
 
+-- A character beyond ASCII is no symbol, so the symbol by the first byte is that by the character.
 symbol_high : (c : ℕ) → 128 ≤ c → symbol c ≡ Unknown
 unfolding symbol
 symbol_high c big = grind (arith, nat_tests)
@@ -147,8 +152,9 @@ symbol_lead c b first = by (cases_lt c 128)
     by (inr big) = symbol_high b (subst (λ x. 128 ≤ x) (sym first) (lead_high c big))
         ∙ sym (symbol_high c big)
 
--- ---- the same with the premises that the code has
+-- ---- in the form in which the code has it
 
+-- Runs of none, one and two ASCII characters.
 ascii_none : (u : List ℕ) (i : ℕ) → IsAsciiRun u i 0
 ascii_none u i k h = absurd (omega arith)
 
@@ -161,6 +167,7 @@ ascii_two u i first second zero h = rw add-zero first
 ascii_two u i first second (suc zero) h = second
 ascii_two u i first second (suc (suc k)) h = absurd (omega arith)
 
+-- The first bytes of the first three characters.
 pub first_read : (u : List ℕ) (i b : ℕ) → i ≡ 0
     → (IsAsciiRun u i 0 → b ≡ first_byte (get_or u (i + 0) 0)) → b ≡ first_byte (get_or u 0 0)
 first_read u i b none read = read (ascii_none u i) ∙ rw none refl
@@ -175,19 +182,20 @@ third_read : (u : List ℕ) (i b : ℕ) → i ≡ 0 → (IsAsciiRun u i 2
 third_read u i b none read small low = read (ascii_two u i (rw none small) (rw none low))
     ∙ rw none refl
 
-pub begun_by : (u : List ℕ) (i b e : ℕ) → i ≡ 0
+-- The form and the prefix, by the bytes that the code reads.
+pub form_by : (u : List ℕ) (i b e : ℕ) → i ≡ 0
     → (IsAsciiRun u i 0 → b ≡ first_byte (get_or u (i + 0) 0))
     → (IsAsciiRun u i 1 → e ≡ first_byte (get_or u (i + 1) 0))
     → token_form b e ≡ token_form (get_or u 0 0) (get_or u 1 0)
-begun_by u i b e none first second =
-    start_lead (get_or u 0 0) (get_or u 1 0) b e (first_read u i b none first)
+form_by u i b e none first second =
+    form_lead (get_or u 0 0) (get_or u 1 0) b e (first_read u i b none first)
     (second_read u i e none second)
 
-pub opened_by : (u : List ℕ) (i b e f : ℕ) → i ≡ 0
+pub prefix_by : (u : List ℕ) (i b e f : ℕ) → i ≡ 0
     → (IsAsciiRun u i 0 → b ≡ first_byte (get_or u (i + 0) 0))
     → (IsAsciiRun u i 1 → e ≡ first_byte (get_or u (i + 1) 0))
     → (IsAsciiRun u i 2 → f ≡ first_byte (get_or u (i + 2) 0))
     → prefix_of b e f ≡ prefix_of (get_or u 0 0) (get_or u 1 0) (get_or u 2 0)
-opened_by u i b e f none first second third =
-    opening_lead (get_or u 0 0) (get_or u 1 0) (get_or u 2 0) b e f (first_read u i b none first)
+prefix_by u i b e f none first second third =
+    prefix_lead (get_or u 0 0) (get_or u 1 0) (get_or u 2 0) b e f (first_read u i b none first)
     (second_read u i e none second) (third_read u i f none third)

@@ -1,4 +1,4 @@
--- Runs of digits over the bytes of a text end where those over its characters do.
+-- A run of digits over the bytes of a text ends where the run over its characters ends.
 use Rattle.std.proofs.Common.{◌≡◌, ℕ, suc, ◌+◌, ◌<◌, ◌≤◌, Bool, true, false, ◌&&◌, ◌||◌, List, [], ◌∷◌, ◌++◌, length, get_or, take, drop, refl, sym, ◌∙◌, ap, subst, inl, inr, ◌⊎◌, eqb, cond, arith}
 use Rattle.std.proofs.lemmas.Bool.{cases_lt}
 use Rattle.std.proofs.lemmas.Bool.Decides.{nat_tests}
@@ -14,16 +14,18 @@ use Rattle.squawk_lexer.specs.CursorModel.{IsRest, chars_before}
 use Rattle.squawk_lexer.proofs.ByteRuns.{IsSkip, skip}
 use Rattle.squawk_lexer.proofs.ByteReads.{lead_ascii, lead_high, lead_first, read_ahead}
 
--- a class that has no character from U+0080 on
+-- A class that holds no character beyond ASCII.
 abbrev pub Low : (ℕ → Bool) → Type 0
 Low digit = (c : ℕ) → 128 ≤ c → digit c ≡ false
 
+-- Both classes of digits are such.
 pub low_digit : Low is_digit
 low_digit c h = grind (arith, nat_tests)
 
 pub low_hex : Low is_hex_digit
 low_hex c h = grind (arith, nat_tests)
 
+-- The first byte and the first character are tested alike.
 next_same : (digit : ℕ → Bool) → Low digit → (cs : List ℕ)
     → digit (get_or (encode_utf8_all cs) 0 0) ≡ digit (get_or cs 0 0)
 next_same digit low cs = by (cases_lt (get_or cs 0 0) 128)
@@ -37,6 +39,7 @@ next_same digit low cs = by (cases_lt (get_or cs 0 0) 128)
     by (inr big) = ap digit read ∙ low (first_byte (get_or cs 0 0)) (lead_high (get_or cs 0 0) big)
         ∙ sym (low (get_or cs 0 0) big)
 
+-- A byte of at least 128 begins no run of digits.
 none_first : (digit : ℕ → Bool) → Low digit → (bs : List ℕ) → 128 ≤ get_or bs 0 0
     → digits_len digit bs ≡ 0
 none_first digit low [] h = refl
@@ -44,6 +47,7 @@ none_first digit low (b ∷ bs) h =
     let other : eqb b 95 ≡ false = grind (arith, nat_tests) in
     rw (low b h, other) refl
 
+-- A run of digits ends within the text.
 within : (digit : ℕ → Bool) (cs : List ℕ) → digits_len digit cs ≤ length cs
 within digit [] = omega arith
 within digit (c ∷ cs) = each (digit c || (eqb c 95 && digit (get_or cs 0 0))) (within digit cs)
@@ -53,7 +57,7 @@ within digit (c ∷ cs) = each (digit c || (eqb c 95 && digit (get_or cs 0 0))) 
     each true h = omega arith
     each false h = omega arith
 
--- as many bytes as characters, and each takes one
+-- A run of digits has as many bytes as characters.
 digit_bytes : (digit : ℕ → Bool) → Low digit → (cs : List ℕ)
     → (digits_len digit (encode_utf8_all cs) ≡ digits_len digit cs)
     × (utf8_len (take (digits_len digit cs) cs) ≡ digits_len digit cs)
@@ -87,11 +91,11 @@ digit_bytes digit low (c ∷ cs) = by (cases_lt c 128) (digit_bytes digit low cs
         rw (none_first digit low (encode_utf8 c ++ encode_utf8_all cs) first, low c big, other)
         (refl, refl)
 
--- a step over digits, with the premises that the code has
+-- Skipping digits, in the form in which the code has it.
 pub passed_digits : (digit : ℕ → Bool) → Low digit → (token rest bs : List ℕ) (n : ℕ)
     → IsRest token rest → n ≡ digits_len digit bs → bs ≡ rest
-    → IsSkip token rest n (chars_before token rest
-    + digits_len digit (drop (chars_before token rest) (chars token)))
+    → IsSkip token rest n
+    (chars_before token rest + digits_len digit (drop (chars_before token rest) (chars token)))
 passed_digits digit low token rest bs n r len same =
     let cs = chars rest in
     let rest_is : rest ≡ encode_utf8_all cs =
@@ -101,7 +105,7 @@ passed_digits digit low token rest bs n r len same =
     ∙ ap (digits_len digit) (sym rest_is) ∙ ap (digits_len digit) (sym same) ∙ sym len in
     rw (← count, ← r.is) (skip token rest (digits_len digit cs) r (within digit cs))
 
--- and some were passed exactly where there are some
+-- The number of bytes skipped is the length of the run.
 pub digits_count : (digit : ℕ → Bool) → Low digit → (token rest bs : List ℕ) (n : ℕ)
     → IsRest token rest → n ≡ digits_len digit bs → bs ≡ rest
     → n ≡ digits_len digit (drop (chars_before token rest) (chars token))

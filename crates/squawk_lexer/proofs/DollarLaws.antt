@@ -1,14 +1,15 @@
--- What a found delimiter is: the first one.
+-- `find_end` is the end of the first occurrence.
 use Rattle.std.proofs.Common.{◌≡◌, ℕ, zero, suc, ◌+◌, ◌-◌, ◌<◌, ◌≤◌, Bool, true, false, List, [], ◌∷◌, length, drop, Option, Some, None, nat_eq, refl, arith}
 use Rattle.std.specs.List.{starts_with}
 use Rattle.squawk_lexer.specs.Dollar.{find_end}
 use Rattle.squawk_lexer.specs.Laws.{IsFirstOccurrence}
 
+-- A delimiter that is found ends with its first occurrence.
 pub found : (d v : List ℕ) (n : ℕ) → find_end d v ≡ Some n → (length d ≤ n)
     × IsFirstOccurrence d v (n - length d)
 found d [] n e = absurd (cc)
-found d (c ∷ v) n e = by (starts_with nat_eq (c ∷ v) d) refl (find_end d v) refl (λ m h.
-    found d v m h)
+found d (c ∷ v) n e = by (starts_with nat_eq (c ∷ v) d) refl (find_end d v) refl
+    (λ m h. found d v m h)
   where
     by : (b : Bool) → starts_with nat_eq (c ∷ v) d ≡ b → (o : Option ℕ) → find_end d v ≡ o
         → ((m : ℕ) → find_end d v ≡ Some m → (length d ≤ m) × IsFirstOccurrence d v (m - length d))
@@ -28,8 +29,7 @@ found d (c ∷ v) n e = by (starts_with nat_eq (c ∷ v) d) refl (find_end d v) 
           omega arith,
           rw next (record {
             stands = rest.1.stands;
-            first =
-                before (m - length d) t rest.1.first;
+            first = before (m - length d) t rest.1.first;
           }),
         )
       where
@@ -39,12 +39,12 @@ found d (c ∷ v) n e = by (starts_with nat_eq (c ∷ v) d) refl (find_end d v) 
         before j t first zero h = t
         before j t first (suc k) h = first k (omega arith)
 
--- where none is found, d stands nowhere
+-- A delimiter that is not found does not occur.
 pub nowhere : (d v : List ℕ) → find_end d v ≡ None → (k : ℕ) → k < length v
     → starts_with nat_eq (drop k v) d ≡ false
 nowhere d [] e k h = absurd (omega arith)
-nowhere d (c ∷ v) e k h = by (starts_with nat_eq (c ∷ v) d) refl (find_end d v) refl k h (λ f j i.
-    nowhere d v f j i)
+nowhere d (c ∷ v) e k h = by (starts_with nat_eq (c ∷ v) d) refl (find_end d v) refl k h
+    (λ f j i. nowhere d v f j i)
   where
     by : (b : Bool) → starts_with nat_eq (c ∷ v) d ≡ b → (o : Option ℕ) → find_end d v ≡ o → (k : ℕ)
         → k < length (c ∷ v)

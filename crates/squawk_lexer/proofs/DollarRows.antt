@@ -1,11 +1,12 @@
--- Worked rows of what a `$` begins, computed by its definition.
+-- Worked examples of tokens that begin with `$`, computed by their definition. Each name says what
+-- the text shows.
 use Rattle.std.proofs.Common.{◌≡◌, ℕ, Bool, true, false, refl, codes}
 use Rattle.squawk_lexer.specs.Kind.{Lexeme, lexeme_until, literal_until}
 use Rattle.squawk_lexer.specs.declared.token.TokenKind.TheVariants.{PositionalParam}
 use Rattle.squawk_lexer.specs.declared.token.LiteralKind.TheVariants.{DollarQuotedString}
 use Rattle.squawk_lexer.specs.Dollar.{dollar}
 
--- a dollar string, whether it is terminated, and its end
+-- A dollar-quoted string, by whether it is terminated and where it ends.
 string : Bool → ℕ → Lexeme
 string terminated end = literal_until (DollarQuotedString terminated) end
 
@@ -17,7 +18,6 @@ no_text : dollar (codes "$$") ≡ string false 2
 unfolding string
 no_text = refl
 
--- the delimiters share no `$`
 shared : dollar (codes "$a$a$") ≡ string false 5
 unfolding string
 shared = refl
@@ -34,11 +34,11 @@ longer_tag : dollar (codes "$a$ $ab$ $a $a$ x") ≡ string true 15
 unfolding string
 longer_tag = refl
 
-digit_behind : dollar (codes "$1$") ≡ lexeme_until (PositionalParam 2) 2
-digit_behind = refl
+digit_after : dollar (codes "$1$") ≡ lexeme_until (PositionalParam 2) 2
+digit_after = refl
 
-junk_behind : dollar (codes "$x;") ≡ lexeme_until (PositionalParam 1) 2
-junk_behind = refl
+junk_after : dollar (codes "$x;") ≡ lexeme_until (PositionalParam 1) 2
+junk_after = refl
 
 lone : dollar (codes "$") ≡ lexeme_until (PositionalParam 1) 1
 lone = refl

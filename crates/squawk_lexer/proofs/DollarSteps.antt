@@ -1,4 +1,4 @@
--- Steps within what a `$` begins.
+-- Steps of the functions that read a token at `$`.
 use Rattle.std.proofs.Common.{◌≡◌, ℕ, suc, ◌+◌, Bool, true, false, ◌&&◌, List, [], ◌∷◌, take, get_or, refl, sym, ap, ◌∙◌, inl, inr, ◌⊎◌, eq-eqb, arith, cond}
 use Rattle.std.specs.List.{prefix_len}
 use Rattle.std.proofs.lemmas.Bool.Decides.{nat_tests}
@@ -10,10 +10,11 @@ use Rattle.squawk_lexer.specs.Dollar.{tag_end, is_dollar_quote_start, dollar, do
 use Rattle.squawk_lexer.specs.Numbers.{parameter}
 use Rattle.squawk_lexer.specs.Kind.{lexeme_until}
 use Rattle.squawk_lexer.specs.declared.token.TokenKind.TheVariants.{PositionalParam}
-use Rattle.squawk_lexer.proofs.Steps.{drop_some, drop_none, drop_read, drop_past, within_some, within_read, behind_some, behind_none, behind_within, behind_on, mapped, ne-eqb, behind_read}
+use Rattle.squawk_lexer.proofs.Steps.{drop_some, drop_none, drop_read, drop_past, within_some, within_read, after_some, after_none, after_within, after_on, mapped, ne_eqb, after_read}
 
 -- ---- the delimiter that opens a string
 
+-- A delimiter begins with `$` (36).
 pub delimiter_first : (u d : List ℕ) (i : ℕ) → i ≡ tag_end u + 1 → d ≡ take i u → get_or u 0 0 ≡ 36
     → get_or d 0 0 ≡ 36
 delimiter_first u d i e is first =
@@ -28,7 +29,7 @@ pub ruleset delimiter_steps = (delimiter_first)
 
 -- ---- a parameter
 
--- a tag that no `$` follows is the longest run of id-cont
+-- A tag that no `$` follows is the longest run of identifier characters.
 tag_is_run : (v : List ℕ) → (get_or v (prefix_len is_tag_cont v) 0 ≡ 36 → ⊥)
     → prefix_len is_ident_cont v ≡ prefix_len is_tag_cont v
 tag_is_run [] n = refl
@@ -38,7 +39,7 @@ tag_is_run (c ∷ v) n = by (cases_eq c 36) (λ k. tag_is_run v k)
         → prefix_len is_ident_cont v ≡ prefix_len is_tag_cont v)
         → prefix_len is_ident_cont (c ∷ v) ≡ prefix_len is_tag_cont (c ∷ v)
     by (inl e) more = absurd ((rw e at n) refl)
-    by (inr ne) more = each (is_ident_cont c) (is_not_dollar c) (rw (ne-eqb c 36 ne) refl) n
+    by (inr ne) more = each (is_ident_cont c) (is_not_dollar c) (rw (ne_eqb c 36 ne) refl) n
       where
         each : (b t : Bool) → t ≡ true
             → (get_or (c ∷ v) (cond (b && t) (1 + prefix_len is_tag_cont v) 0) 0 ≡ 36 → ⊥)
@@ -51,18 +52,21 @@ tag_is_run (c ∷ v) n = by (cases_eq c 36) (λ k. tag_is_run v k)
         each true false e m = absurd (cc)
         each false t e m = refl
 
+-- A character that begins an identifier is no digit.
 no_digit : (c : ℕ) → is_ident_start c ≡ true → is_digit c ≡ false
 no_digit c e = grind (arith, nat_tests)
 
+-- A string begins where `$` follows the tag; a parameter where it does not.
 pub opens : (u : List ℕ) (i : ℕ) → i ≡ tag_end u → get_or u i 0 ≡ 36
     → (is_dollar_quote_start u ≡ true) × (dollar u ≡ dollar_string u)
 opens u i e here = let test : is_dollar_quote_start u ≡ true = rw (← e) (eq-eqb _ _ here) in
     (test, rw test refl)
 
 opens_not : (u : List ℕ) (i : ℕ) → i ≡ tag_end u → (get_or u i 0 ≡ 36 → ⊥) → dollar u ≡ parameter u
-opens_not u i e other = let test : is_dollar_quote_start u ≡ false = rw (← e) (ne-eqb _ 36 other) in
+opens_not u i e other = let test : is_dollar_quote_start u ≡ false = rw (← e) (ne_eqb _ 36 other) in
     rw test refl
 
+-- A parameter without a tag, and one whose tag is junk.
 pub no_tag : (u : List ℕ) (i : ℕ) → is_ident_start (get_or u 1 0) ≡ false → i ≡ tag_end u
     → (get_or u i 0 ≡ 36 → ⊥) → (dollar u ≡ parameter u) × (i ≡ 1)
 no_tag u i none e other = (opens_not u i e other, e ∙ rw none refl)
@@ -88,4 +92,4 @@ junk_tag (c ∷ x ∷ v) i first tag e other =
     ∙ rw (one, end) refl in
     sym (opens_not u i e other ∙ param_is)
 
-pub ruleset dollar_steps = (opens, no_tag, junk_tag, behind_read, nat_tests)
+pub ruleset dollar_steps = (opens, no_tag, junk_tag, after_read, nat_tests)

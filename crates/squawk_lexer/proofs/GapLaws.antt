@@ -1,217 +1,33 @@
--- Which gap follows a token does not change it.
-use Rattle.std.proofs.Common.{◌≡◌, ℕ, zero, suc, ◌+◌, ◌<◌, ◌≤◌, Bool, true, false, List, [], ◌∷◌, ◌++◌, length, get_or, take, drop, length-drop, length-append, refl, sym, ap, subst, ◌∙◌, inl, inr, ◌⊎◌, not, ◌&&◌, ◌||◌, eqb, cond, arith}
+-- A token stays the same whichever gap follows it directly.
+use Rattle.std.proofs.Common.{◌≡◌, ℕ, zero, suc, ◌+◌, ◌<◌, ◌≤◌, Bool, true, false, List, [], ◌∷◌, ◌++◌, length, get_or, take, drop, length-drop, refl, sym, ap, subst, ◌∙◌, inl, inr, ◌⊎◌, not, ◌&&◌, eqb, cond, arith}
 use Rattle.std.specs.Bool.{⊤}
 use Rattle.std.specs.List.{prefix_len}
 use Rattle.std.proofs.lemmas.Bool.{cases_lt, cases_eq, cases_Bool, false≢true}
 use Rattle.std.proofs.lemmas.Bool.Decides.{nat_tests}
-use Rattle.std.proofs.lemmas.List.{get_or-drop, length-take-le}
+use Rattle.std.proofs.lemmas.List.{get_or-drop}
 use Rattle.std.proofs.lemmas.List.Sums.{prefix_len_stops}
-use Rattle.std.proofs.Math.Seq.{take-append_seam, get_or-append_seam}
 use Rattle.squawk_lexer.specs.declared.token.Strings.{Strings}
-use Rattle.squawk_lexer.specs.declared.token.TokenKind.TheVariants as kinds
 use Rattle.squawk_lexer.specs.declared.lexer.TokenForm.{TokenForm}
 use Rattle.squawk_lexer.specs.declared.lexer.TokenForm.TheVariants.{Whitespace, LineComment, BlockComment, String, QuotedIdent, Word, Dollar, Number, DotDot, Fraction, Psql, Symbol}
-use Rattle.squawk_lexer.specs.Kind.{Lexeme, lexeme_until}
+use Rattle.squawk_lexer.specs.Kind.{Lexeme}
 use Rattle.squawk_lexer.specs.Classes.{is_whitespace, is_line_end, is_not_line_end, is_blank, is_digit, is_ident_start, byte_order_mark}
 use Rattle.squawk_lexer.specs.Runs.{run_end, line_end}
-use Rattle.squawk_lexer.specs.PsqlWords.{is_among, query_ending_words, pipe_words, option_words, takes_line}
+use Rattle.squawk_lexer.specs.PsqlWords.{is_among, pipe_words, option_words, takes_line}
 use Rattle.squawk_lexer.specs.PsqlParts.{ends_arguments, part_rest, arguments_len, arguments_end}
 use Rattle.squawk_lexer.specs.Psql.{psql, command_word, word_end, output_start, output_end, command_end}
-use Rattle.squawk_lexer.specs.Symbols.{symbol}
-use Rattle.squawk_lexer.specs.Token.{token_form, prefix_of, lexeme_of_form, lexeme_of, lexeme_at}
+use Rattle.squawk_lexer.specs.Token.{token_form, lexeme_of_form, lexeme_of, lexeme_at}
 use Rattle.squawk_lexer.specs.Cut.{is_trivia}
-use Rattle.squawk_lexer.specs.LookAhead.{Agrees}
-use Rattle.squawk_lexer.specs.Gaps.{begins_gap, GapsAreSeen, IsGap, TokensStay, TokensStayBefore}
-use Rattle.squawk_lexer.proofs.TokenLaws.{lexeme_at_some, command_plain, opened_other, dollar_other, number_other, fractional_other}
-use Rattle.squawk_lexer.proofs.StartSteps.{row_fits}
-use Rattle.squawk_lexer.proofs.Steps.{within_read}
-use Rattle.squawk_lexer.proofs.Ahead.{agrees_less, agrees_read, Alike, after}
+use Rattle.squawk_lexer.specs.Gaps.{begins_gap, TokensStay}
+use Rattle.squawk_lexer.proofs.TokenLaws.{lexeme_at_some}
+use Rattle.squawk_lexer.proofs.Ahead.{Alike}
 use Rattle.squawk_lexer.proofs.AheadRuns.{Asks}
 use Rattle.squawk_lexer.proofs.AheadPsql.{AsksPsql, psql_same}
-use Rattle.squawk_lexer.proofs.AheadTokens.{AsksOf, Any, row, begun_same, lexeme_same}
+use Rattle.squawk_lexer.proofs.AheadTokens.{first_form, form_same}
+use Rattle.squawk_lexer.proofs.GapTests.{is_gap_start, gap_white, white_start, Calm, white_gap, CalmPair, calm_letters, IsOn, put, gap_within, on_read, gap_at, gap_pair}
 
--- ---- what a gap begins with
+-- ---- directly after
 
--- white, `-` (45) or `/` (47)
-abbrev is_gap_start : ℕ → Bool
-is_gap_start c = is_whitespace c || (eqb c 45 || eqb c 47)
-
-gap_start : (u : List ℕ) → begins_gap u ≡ true → is_gap_start (get_or u 0 0) ≡ true
-gap_start u t = grind (arith, nat_tests)
-
-gap_white : (g : ℕ) → IsGap g → is_whitespace g ≡ true
-gap_white g (inl e) = rw e refl
-gap_white g (inr e) = rw e refl
-
-white_start : (g : ℕ) → is_whitespace g ≡ true → is_gap_start g ≡ true
-white_start g t = rw t refl
-
--- the test says the same of all such characters
-abbrev Calm : (ℕ → Bool) → Type 0
-Calm p = (c : ℕ) → is_gap_start c ≡ true → p c ≡ p 10
-
--- white, `--` or `/*` (42)
-abbrev is_gap : ℕ → ℕ → Bool
-is_gap c e = is_whitespace c || ((eqb c 45 && eqb e 45) || (eqb c 47 && eqb e 42))
-
-white_gap : (g e : ℕ) → is_whitespace g ≡ true → is_gap g e ≡ true
-white_gap g e t = rw t refl
-
--- the test of two characters passes at no gap
-abbrev CalmPair : (ℕ → Bool) → (ℕ → Bool) → Type 0
-CalmPair p q = (c e : ℕ) → is_gap c e ≡ true → (p c && q e) ≡ false
-
-calm_letters : (x y : ℕ) → 65 ≤ x → 65 ≤ y → Calm (λ c. eqb c x || eqb c y)
-calm_letters x y p q c t =
-    let here : (eqb c x || eqb c y) ≡ false = grind (arith, nat_tests) in
-    let there : (eqb 10 x || eqb 10 y) ≡ false = grind (arith, nat_tests) in
-    here ∙ sym there
-
--- ---- behind one more character
-
--- the first test may be any, since the first character is the same
-abbrev Second : (ℕ → Bool) → (ℕ → Bool) → Type 0
-Second p q = Calm q
-
-asks_second : Asks Any Second
-asks_second = record {
-  id_start = tt;
-  id_cont = tt;
-  tag_cont = tt;
-  digit = tt;
-  hex = tt;
-  letters = λ x y p q. tt;
-  no_point = tt;
-  dollar = tt;
-  apostrophe = tt;
-  quotation = tt;
-  points = λ c t. grind (arith, nat_tests);
-  signs = λ c t. grind (arith, nat_tests);
-  low_digit = λ c t. grind (arith, nat_tests);
-  low_hex = λ c t. grind (arith, nat_tests);
-  and_string = λ c t. grind (arith, nat_tests);
-  and_ident = λ c t. grind (arith, nat_tests);
-}
-
-asks_of_second : (s : TokenForm) → AsksOf Any Second s
-asks_of_second Whitespace = tt
-asks_of_second LineComment = tt
-asks_of_second BlockComment = tt
-asks_of_second Psql = record {
-  line_end = tt;
-  not_line_end = tt;
-  blank = tt;
-  command_word =
-      tt;
-  ends = tt;
-  other = λ x e. tt;
-}
-asks_of_second DotDot = tt
-asks_of_second Symbol = tt
-asks_of_second String = asks_second
-asks_of_second QuotedIdent = asks_second
-asks_of_second Word = asks_second
-asks_of_second Dollar = asks_second
-asks_of_second Number = asks_second
-asks_of_second Fraction = asks_second
-
--- a text that goes on with g behind its first n characters
-record IsOn (n g : ℕ) (u v : List ℕ) : Type 0 where
-  within : n < length u
-  right : n < length v
-  same : take n v ≡ take n u
-  at : get_or v n 0 ≡ g
-
-put : (n g : ℕ) (rest u : List ℕ) → n < length u → IsOn n g u (take n u ++ g ∷ rest)
-put n g rest u h =
-    let len : length (take n u) ≡ n = length-take-le n u (omega arith) in
-    record {
-      within = h;
-      right = omega (arith, len, length-append (take n u) (g ∷ rest));
-      same = ap (λ m. take m (take n u ++ g ∷ rest)) (sym len)
-          ∙ take-append_seam (take n u) (g ∷ rest);
-      at = ap (λ m. get_or (take n u ++ g ∷ rest) m 0) (sym len)
-          ∙ get_or-append_seam (take n u) g rest 0;
-    }
-
-gap_within : (n : ℕ) (u : List ℕ) → begins_gap (drop n u) ≡ true → n < length u
-gap_within n u t =
-    let first : is_gap_start (get_or (drop n u) 0 0) ≡ true = gap_start (drop n u) t in
-    let some : 0 < get_or (drop n u) 0 0 = grind (arith, nat_tests) in
-    let more : 0 < length (drop n u) = within_read (drop n u) 0 some in
-    omega (arith, length-drop n u)
-
-on_read : (n g : ℕ) (u v : List ℕ) (j : ℕ) → IsOn n g u v → j < n → get_or v j 0 ≡ get_or u j 0
-on_read n g u v j on h = agrees_read n u v j (record {
-  within = let w : n < length u = on.within in
-      omega arith;
-  same = on.same;
-}) h
-
--- what stands at a gap
-gap_at : (n : ℕ) (u : List ℕ) → begins_gap (drop n u) ≡ true → is_gap_start (get_or u n 0) ≡ true
-gap_at n u t = sym (ap is_gap_start (get_or-drop n u 0 0 ∙ ap (λ m. get_or u m 0) (omega arith)))
-    ∙ gap_start (drop n u) t
-
-gap_pair : (n : ℕ) (u : List ℕ) → begins_gap (drop n u) ≡ true
-    → is_gap (get_or u n 0) (get_or (drop (n + 1) u) 0 0) ≡ true
-gap_pair n u t =
-    ap (λ c. is_gap c (get_or (drop (n + 1) u) 0 0)) (sym (get_or-drop n u 0 0
-    ∙ ap (λ m. get_or u m 0) (omega arith)))
-    ∙ ap (is_gap (get_or (drop n u) 0 0)) (after n u ∙ sym (get_or-drop n u 1 0))
-    ∙ t
-
-pub tokens_stay_before : TokensStayBefore
-tokens_stay_before strings s u g rest t gap =
-    lexeme_same strings s k u v a rows (asks_of_second (row u)) refl
-  where
-    k : ℕ
-    k = (lexeme_at strings s u).end
-
-    v : List ℕ
-    v = take (k + 1) u ++ g ∷ rest
-
-    on : IsOn (k + 1) g u v
-    on = put (k + 1) g rest u (gap_within (k + 1) u t)
-
-    within : k + 1 < length u
-    within = on.within
-
-    right : k + 1 < length v
-    right = on.right
-
-    agrees : Agrees (k + 1) u v
-    agrees = record { within = omega (arith, within); same = on.same }
-
-    here : get_or v k 0 ≡ get_or u k 0
-    here = agrees_read (k + 1) u v k agrees (omega arith)
-
-    calm : (q : ℕ → Bool) → Calm q → q (get_or (drop (k + 1) v) 0 0)
-        ≡ q (get_or (drop (k + 1) u) 0 0)
-    calm q c = ap q (after k v ∙ on.at) ∙ c g (white_start g (gap_white g gap))
-        ∙ sym (c (get_or (drop (k + 1) u) 0 0) (gap_start (drop (k + 1) u) t))
-
-    a : Alike Any Second k u v
-    a = record {
-      left = omega (arith, within);
-      right = omega (arith, right);
-      same = (agrees_less k (k + 1) u v (omega arith) agrees).same;
-      follows = record {
-        one = λ p x. ap p here;
-        two = λ p q x. ap (λ c. p c && q (get_or (drop (k + 1) v) 0 0)) here
-            ∙ ap (λ b. p (get_or u k 0) && b) (calm q x);
-      };
-    }
-
-    some : 1 ≤ k
-    some = lexeme_at_some strings s u (omega (arith, within))
-
-    rows : row v ≡ row u
-    rows = ap (λ c. token_form c (get_or v 1 0)) (agrees_read (k + 1) u v 0 agrees (omega arith))
-        ∙ ap (token_form (get_or u 0 0)) (agrees_read (k + 1) u v 1 agrees (omega (arith, some)))
-
--- ---- directly behind
-
+-- The tests of words and numbers are calm.
 asks_calm : Asks Calm CalmPair
 asks_calm = record {
   id_start = λ c t. grind (arith, nat_tests);
@@ -232,13 +48,14 @@ asks_calm = record {
   and_ident = λ c e t. grind (arith, nat_tests);
 }
 
--- a row whose tokens are no gaps
-abbrev NoGap : TokenForm → Type 0
+-- A form whose tokens are no trivia.
+abbrev pub NoGap : TokenForm → Type 0
 NoGap Whitespace = ⊥
 NoGap LineComment = ⊥
 NoGap BlockComment = ⊥
 NoGap _ = ⊤
 
+-- A lexeme that is no trivia has such a form.
 no_gap : (strings : Strings) (s : TokenForm) (u : List ℕ)
     → is_trivia (lexeme_of_form strings s u).kind ≡ false → NoGap s
 no_gap strings Whitespace u t = absurd (false≢true (sym t))
@@ -254,9 +71,9 @@ no_gap strings Fraction u t = tt
 no_gap strings Psql u t = tt
 no_gap strings Symbol u t = tt
 
--- the row by the first character, and by four tests of the first two
-abbrev row_by : ℕ → Bool → Bool → Bool → Bool → TokenForm
-row_by c line_end block dots point =
+-- The form by the first character and by four tests of the first two.
+abbrev form_from : ℕ → Bool → Bool → Bool → Bool → TokenForm
+form_from c line_end block dots point =
     cond (is_whitespace c) Whitespace
     (cond line_end LineComment
     (cond block BlockComment
@@ -269,43 +86,47 @@ row_by c line_end block dots point =
     (cond point Fraction
     (cond (eqb c 92) Psql Symbol))))))))))
 
-row_is : (c d : ℕ) → token_form c d
-    ≡ row_by c (eqb c 45 && eqb d 45) (eqb c 47 && eqb d 42) (eqb c 46 && eqb d 46) (eqb c 46
-    && is_digit d)
+-- `token_form` in these terms.
+pub form_is : (c d : ℕ) → token_form c d
+    ≡ form_from c (eqb c 45 && eqb d 45) (eqb c 47 && eqb d 42) (eqb c 46 && eqb d 46)
+    (eqb c 46 && is_digit d)
 unfolding token_form
-row_is c d = refl
+form_is c d = refl
 
-line_row : (c d : ℕ) → (eqb c 45 && eqb d 45) ≡ true → token_form c d ≡ LineComment
+-- Two `-` begin a line comment.
+line_form : (c d : ℕ) → (eqb c 45 && eqb d 45) ≡ true → token_form c d ≡ LineComment
 unfolding token_form
-line_row c d t =
+line_form c d t =
     let white : is_whitespace c ≡ false = grind (arith, nat_tests) in
     rw (white, t) refl
 
--- where a gap begins at the second character, and none at the first, the first alone decides the
--- row
-row_before : (c d : ℕ) → is_gap_start d ≡ true → NoGap (token_form c d)
-    → token_form c d ≡ row_by c false false false false
-row_before c d t n =
+-- Before a gap, the first character alone decides a form that is no trivia.
+form_before : (c d : ℕ) → is_gap_start d ≡ true → NoGap (token_form c d)
+    → token_form c d ≡ form_from c false false false false
+form_before c d t n =
     let line_end : (eqb c 45 && eqb d 45) ≡ false =
     elim (cases_Bool (eqb c 45 && eqb d 45))
-    [ inl is ↦ absurd (subst NoGap (line_row c d is) n) | inr not ↦ not ] in
+    [ inl is ↦ absurd (subst NoGap (line_form c d is) n) | inr not ↦ not ] in
     let block : (eqb c 47 && eqb d 42) ≡ false = grind (arith, nat_tests) in
     let dots : (eqb c 46 && eqb d 46) ≡ false = grind (arith, nat_tests) in
     let point : (eqb c 46 && is_digit d) ≡ false = grind (arith, nat_tests) in
-    row_is c d ∙ rw (line_end, block, dots, point) refl
+    form_is c d ∙ rw (line_end, block, dots, point) refl
 
-row_white : (c g : ℕ) → is_whitespace g ≡ true → token_form c g ≡ row_by c false false false false
-row_white c g t =
+-- Before white space, the first character alone decides the form.
+form_before_white : (c g : ℕ) → is_whitespace g ≡ true
+    → token_form c g ≡ form_from c false false false false
+form_before_white c g t =
     let line_end : (eqb c 45 && eqb g 45) ≡ false = grind (arith, nat_tests) in
     let block : (eqb c 47 && eqb g 42) ≡ false = grind (arith, nat_tests) in
     let dots : (eqb c 46 && eqb g 46) ≡ false = grind (arith, nat_tests) in
     let point : (eqb c 46 && is_digit g) ≡ false = grind (arith, nat_tests) in
-    row_is c g ∙ rw (line_end, block, dots, point) refl
+    form_is c g ∙ rw (line_end, block, dots, point) refl
 
--- a command ends with the text, or before LF, CR or a backslash
+-- The text ends at index n, or a line end or a backslash is there.
 abbrev Stops : List ℕ → ℕ → Type 0
 Stops u n = n < length u → ends_arguments (get_or u n 0) ≡ true
 
+-- A psql command ends so: each of its possible ends, and the one that is chosen.
 either_stops : (b : Bool) (u : List ℕ) (x y : ℕ) → Stops u x → Stops u y → Stops u (cond b x y)
 either_stops true u x y p q = p
 either_stops false u x y p q = q
@@ -350,21 +171,22 @@ command_stops u =
     (either_stops (eqb (get_or u p 0) 124) u (line_end u p) (arguments_end u p) (line_stops u p)
     (args_stop u p)) (args_stop u w))
 
--- the test says the same of LF and CR
+-- A test that says the same of LF (10) and CR (13).
 abbrev OfLineEnds : (ℕ → Bool) → Type 0
 OfLineEnds p = p 13 ≡ p 10
 
+-- No pair of tests.
 abbrev NoPair : (ℕ → Bool) → (ℕ → Bool) → Type 0
 NoPair p q = ⊥
 
+-- The tests of a psql command are such.
 asks_psql : AsksPsql OfLineEnds
 asks_psql = record {
   line_end = refl;
   not_line_end = refl;
   blank = refl;
   command_word = refl;
-  ends =
-      refl;
+  ends = refl;
   other = λ x e. of x e;
 }
   where
@@ -374,14 +196,14 @@ asks_psql = record {
         let right : eqb 10 x ≡ false = grind (arith, nat_tests) in
         left ∙ sym right
 
+-- Such a test says the same of LF and any line end.
 of_line_ends : (p : ℕ → Bool) → OfLineEnds p → (c : ℕ) → is_line_end c ≡ true → p 10 ≡ p c
 of_line_ends p same c t = elim (cases_eq c 10) [
   | inl is ↦ ap p (sym is)
-  | inr is_not ↦ sym same
-      ∙ ap p (let other : 13 ≡ c = grind (arith, nat_tests) in other)
+  | inr is_not ↦ sym same ∙ ap p (let other : 13 ≡ c = grind (arith, nat_tests) in other)
 ]
 
--- before LF or CR, a command stays before LF
+-- A psql command before a line end stays the same before LF.
 command_stays : (u v : List ℕ) → IsOn (psql u).end 10 u v
     → is_line_end (get_or u (psql u).end 0) ≡ true → psql v ≡ psql u
 command_stays u v on t = psql_same asks_psql (psql u).end u v a (omega arith)
@@ -392,13 +214,12 @@ command_stays u v on t = psql_same asks_psql (psql u).end u v a (omega arith)
       right = on.right;
       same = on.same;
       follows = record {
-        one = λ p x. ap p on.at
-            ∙ of_line_ends p x (get_or u (psql u).end 0) t;
+        one = λ p x. ap p on.at ∙ of_line_ends p x (get_or u (psql u).end 0) t;
         two = λ p q x. absurd x;
       };
     }
 
--- two characters that begin no command
+-- A token that begins with a backslash stays the same, whichever gap follows it.
 pair_stays : (u v : List ℕ) (b c d : Bool) → eqb (get_or u 1 0) 92 ≡ b → eqb (get_or u 1 0) 59 ≡ c
     → eqb (get_or u 1 0) 58 ≡ d → (g : ℕ) → IsOn (psql u).end g u v
     → begins_gap (drop (psql u).end u) ≡ true
@@ -424,6 +245,7 @@ pair_stays u v false false false e f h g on t crlf =
     let line_end : is_line_end (get_or u (psql u).end 0) ≡ true = grind (arith, nat_tests) in
     command_stays u v (subst (λ n. IsOn (psql u).end n u v) (crlf line_end) on) line_end
 
+-- The law, by the form of the token.
 pub tokens_stay : TokensStay
 tokens_stay strings s u g rest t gap white crlf = by (s && eqb (get_or u 0 0) byte_order_mark) refl
   where
@@ -458,10 +280,10 @@ tokens_stay strings s u g rest t gap white crlf = by (s && eqb (get_or u 0 0) by
       };
     }
 
-    rows : NoGap (row u) → row v ≡ row u
+    rows : NoGap (first_form u) → first_form v ≡ first_form u
     rows n = near (cases_lt 1 k)
       where
-        near : (1 < k) ⊎ (k ≤ 1) → row v ≡ row u
+        near : (1 < k) ⊎ (k ≤ 1) → first_form v ≡ first_form u
         near (inl more) = ap (λ c. token_form c (get_or v 1 0)) first
             ∙ ap (token_form (get_or u 0 0)) (on_read k g u v 1 on more)
         near (inr less) =
@@ -472,26 +294,26 @@ tokens_stay strings s u g rest t gap white crlf = by (s && eqb (get_or u 0 0) by
             sym (ap (λ n. is_whitespace (get_or v n 0)) one) ∙ ap is_whitespace on.at
             ∙ gap_white g white in
             ap (λ c. token_form c (get_or v 1 0)) first
-            ∙ row_white (get_or u 0 0) (get_or v 1 0) there
-            ∙ sym (row_before (get_or u 0 0) (get_or u 1 0) here n)
+            ∙ form_before_white (get_or u 0 0) (get_or v 1 0) there
+            ∙ sym (form_before (get_or u 0 0) (get_or u 1 0) here n)
 
     of_row : (r : TokenForm) → NoGap r → (lexeme_of_form strings r u).end ≡ k
         → lexeme_of_form strings r v ≡ lexeme_of_form strings r u
     of_row Whitespace n e = absurd n
     of_row LineComment n e = absurd n
     of_row BlockComment n e = absurd n
-    of_row Psql n e = pair_stays u v _ _ _ refl refl refl g (subst (λ m.
-        IsOn m g u v) (sym e) on) (ap (λ m. begins_gap (drop m u)) e ∙ gap) (λ x.
-        crlf (sym (ap (λ m. is_line_end (get_or u m 0)) e) ∙ x))
-    of_row String n e = begun_same strings String asks_calm k u v calm some (omega (arith, e))
+    of_row Psql n e = pair_stays u v _ _ _ refl refl refl g (subst
+        (λ m. IsOn m g u v) (sym e) on) (ap (λ m. begins_gap (drop m u)) e ∙ gap)
+        (λ x. crlf (sym (ap (λ m. is_line_end (get_or u m 0)) e) ∙ x))
+    of_row String n e = form_same strings String asks_calm k u v calm some (omega (arith, e))
     of_row QuotedIdent n e =
-        begun_same strings QuotedIdent asks_calm k u v calm some (omega (arith, e))
-    of_row Word n e = begun_same strings Word asks_calm k u v calm some (omega (arith, e))
-    of_row Dollar n e = begun_same strings Dollar asks_calm k u v calm some (omega (arith, e))
-    of_row Number n e = begun_same strings Number asks_calm k u v calm some (omega (arith, e))
-    of_row DotDot n e = begun_same strings DotDot tt k u v calm some (omega (arith, e))
-    of_row Fraction n e = begun_same strings Fraction asks_calm k u v calm some (omega (arith, e))
-    of_row Symbol n e = begun_same strings Symbol tt k u v calm some (omega (arith, e))
+        form_same strings QuotedIdent asks_calm k u v calm some (omega (arith, e))
+    of_row Word n e = form_same strings Word asks_calm k u v calm some (omega (arith, e))
+    of_row Dollar n e = form_same strings Dollar asks_calm k u v calm some (omega (arith, e))
+    of_row Number n e = form_same strings Number asks_calm k u v calm some (omega (arith, e))
+    of_row DotDot n e = form_same strings DotDot tt k u v calm some (omega (arith, e))
+    of_row Fraction n e = form_same strings Fraction asks_calm k u v calm some (omega (arith, e))
+    of_row Symbol n e = form_same strings Symbol tt k u v calm some (omega (arith, e))
 
     by : (b : Bool) → (s && eqb (get_or u 0 0) byte_order_mark) ≡ b
         → lexeme_at strings s v ≡ lexeme_at strings s u
@@ -503,100 +325,7 @@ tokens_stay strings s u g rest t gap white crlf = by (s && eqb (get_or u 0 0) by
         let test : (s && eqb (get_or v 0 0) byte_order_mark) ≡ false =
         ap (λ c. s && eqb c byte_order_mark) first ∙ e in
         let there : lexeme_at strings s v ≡ lexeme_of strings v = rw test refl in
-        let n : NoGap (row u) =
-        no_gap strings (row u) u (sym (ap (λ (x : Lexeme). is_trivia x.kind) is) ∙ t) in
+        let n : NoGap (first_form u) =
+        no_gap strings (first_form u) u (sym (ap (λ (x : Lexeme). is_trivia x.kind) is) ∙ t) in
         there ∙ ap (λ r. lexeme_of_form strings r v) (rows n)
-        ∙ of_row (row u) n (sym (ap (λ (x : Lexeme). x.end) is)) ∙ sym is
-
--- ---- what begins a gap
-
-symbol_plain : (c : ℕ) → is_trivia (symbol c) ≡ false
-unfolding symbol
-symbol_plain c = grind (arith, nat_tests)
-
-either_plain : (b : Bool) (x y : Lexeme) → is_trivia x.kind ≡ false → is_trivia y.kind ≡ false
-    → is_trivia (cond b x y).kind ≡ false
-either_plain true x y p q = p
-either_plain false x y p q = q
-
-psql_plain : (u : List ℕ) → is_trivia (psql u).kind ≡ false
-psql_plain u =
-    either_plain (eqb (get_or u 1 0) 92) (lexeme_until (kinds.PsqlCommand false) 2) _ refl
-    (either_plain (eqb (get_or u 1 0) 59) (lexeme_until kinds.Semi 2) _ refl
-    (either_plain (eqb (get_or u 1 0) 58) (lexeme_until kinds.Colon 2)
-    (lexeme_until (kinds.PsqlCommand (is_among query_ending_words (command_word u)))
-    (command_end u)) refl (command_plain (is_among query_ending_words (command_word u)))))
-
-begun_plain : (strings : Strings) (s : TokenForm) (u : List ℕ) → NoGap s
-    → is_trivia (lexeme_of_form strings s u).kind ≡ false
-begun_plain strings Whitespace u n = absurd n
-begun_plain strings LineComment u n = absurd n
-begun_plain strings BlockComment u n = absurd n
-begun_plain strings String u n = refl
-begun_plain strings QuotedIdent u n = refl
-begun_plain strings Word u n =
-    (opened_other (prefix_of (get_or u 0 0) (get_or u 1 0) (get_or u 2 0)) u).plain
-begun_plain strings Dollar u n = (dollar_other u).plain
-begun_plain strings Number u n = (number_other u).plain
-begun_plain strings DotDot u n = refl
-begun_plain strings Fraction u n = (fractional_other u 1).plain
-begun_plain strings Psql u n = psql_plain u
-begun_plain strings Symbol u n = symbol_plain (get_or u 0 0)
-
-or_first : (a b : Bool) → a ≡ true → (a || b) ≡ true
-or_first a b e = rw e refl
-
-or_second : (a b : Bool) → b ≡ true → (a || b) ≡ true
-or_second true b e = refl
-or_second false b e = e
-
-no_gap_row : (c d : ℕ) (s : TokenForm) → s ≡ token_form c d → is_gap c d ≡ false → NoGap s
-no_gap_row c d Whitespace e t = let fits : is_whitespace c ≡ true = row_fits Whitespace c d e in
-    absurd (false≢true (sym t ∙ rw fits refl))
-no_gap_row c d LineComment e t = let fits : (eqb c 45 && eqb d 45) ≡ true =
-    row_fits LineComment c d e in absurd (false≢true (sym t
-    ∙ or_second (is_whitespace c) _ (or_first _ (eqb c 47 && eqb d 42) fits)))
-no_gap_row c d BlockComment e t = let fits : (eqb c 47 && eqb d 42) ≡ true =
-    row_fits BlockComment c d e in
-    absurd (false≢true (sym t
-    ∙ or_second (is_whitespace c) _ (or_second (eqb c 45 && eqb d 45) _ fits)))
-no_gap_row c d String e t = tt
-no_gap_row c d QuotedIdent e t = tt
-no_gap_row c d Word e t = tt
-no_gap_row c d Dollar e t = tt
-no_gap_row c d Number e t = tt
-no_gap_row c d DotDot e t = tt
-no_gap_row c d Fraction e t = tt
-no_gap_row c d Psql e t = tt
-no_gap_row c d Symbol e t = tt
-
--- a row whose tokens are gaps
-gap_row : (strings : Strings) (u : List ℕ) → begins_gap u ≡ true
-    → is_trivia (lexeme_of strings u).kind ≡ true
-gap_row strings u t = by (is_whitespace c) (eqb c 45 && eqb d 45) (eqb c 47
-    && eqb d 42) refl refl refl
-  where
-    c : ℕ
-    c = get_or u 0 0
-
-    d : ℕ
-    d = get_or u 1 0
-
-    kind : (s : TokenForm) → row u ≡ s → is_trivia (lexeme_of_form strings s u).kind ≡ true
-        → is_trivia (lexeme_of strings u).kind ≡ true
-    kind s e t = ap (λ r. is_trivia (lexeme_of_form strings r u).kind) e ∙ t
-
-    by : (x y z : Bool) → is_whitespace c ≡ x → (eqb c 45 && eqb d 45) ≡ y
-        → (eqb c 47 && eqb d 42) ≡ z → is_trivia (lexeme_of strings u).kind ≡ true
-    by true y z e f g = kind Whitespace (row_is c d ∙ rw e refl) refl
-    by false true z e f g = kind LineComment (row_is c d ∙ rw (e, f) refl) refl
-    by false false true e f g = kind BlockComment (row_is c d ∙ rw (e, f, g) refl) refl
-    by false false false e f g = absurd (false≢true (sym (rw (e, f, g) refl) ∙ t))
-
-pub gaps_are_seen : GapsAreSeen
-gaps_are_seen strings u = by (begins_gap u) refl
-  where
-    by : (b : Bool) → begins_gap u ≡ b → is_trivia (lexeme_at strings false u).kind ≡ begins_gap u
-    by true t = gap_row strings u t ∙ sym t
-    by false t = begun_plain strings (row u) u
-        (no_gap_row (get_or u 0 0) (get_or u 1 0) (row u) refl t) ∙ sym t
+        ∙ of_row (first_form u) n (sym (ap (λ (x : Lexeme). x.end) is)) ∙ sym is

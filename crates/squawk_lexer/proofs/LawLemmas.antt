@@ -1,4 +1,4 @@
--- The laws of specs/Laws.antt.
+-- Laws of runs, of the list of tokens, and of delimiters.
 use Rattle.std.proofs.Common.{◌≡◌, ℕ, zero, suc, ◌+◌, ◌-◌, ◌<◌, ◌≤◌, Bool, false, List, [], ◌∷◌, length, get_or, drop, take, refl, sym, ap, ◌∙◌, inl, inr, ◌⊎◌, arith}
 use Rattle.std.proofs.lemmas.Bool.{cases_lt, false≢true}
 use Rattle.std.proofs.lemmas.List.{drop-drop, length-drop, get_or-drop}
@@ -19,6 +19,7 @@ use Rattle.squawk_lexer.proofs.DollarLaws as dollar
 
 -- ---- runs
 
+-- `run_end` is the end of a longest run.
 pub runs_are_longest : RunsAreLongest
 runs_are_longest class u i h = record {
   on = omega arith;
@@ -35,7 +36,7 @@ runs_are_longest class u i h = record {
     at : (n k : ℕ) → i + n ≡ k → get_or (drop i u) n 0 ≡ get_or u k 0
     at n k e = get_or-drop i u n 0 ∙ ap (λ m. get_or u m 0) e
 
--- two runs from the same place end at the same one
+-- Two longest runs from the same index do not end at different ones.
 not_before : (class : ℕ → Bool) (u : List ℕ) (i j k : ℕ) → IsRun class u i j → IsRun class u i k
     → j < k → ⊥
 not_before class u i j k a b h =
@@ -43,6 +44,7 @@ not_before class u i j k a b h =
     let within : k ≤ length u = b.within in
     false≢true (sym (a.stops (omega arith)) ∙ b.all j on h)
 
+-- No other index is the end of a longest run.
 pub runs_are_one : RunsAreUnique
 runs_are_one class u i j a = by (cases_lt j (run_end class u i)) (cases_lt (run_end class u i) j)
   where
@@ -58,10 +60,11 @@ runs_are_one class u i j a = by (cases_lt j (run_end class u i)) (cases_lt (run_
 
 -- ---- tokens
 
+-- A token has at least one character.
 pub tokens_progress : TokensProgress
 tokens_progress strings at_start u some = lexeme_at_some strings at_start u some
 
--- what is behind n tokens, and what they sum up to, given both of the text behind the first one
+-- The tokens after the first n + 1, from the law for n tokens of the rest.
 restart : (strings : Strings) (at_start : Bool) (n : ℕ) (u : List ℕ)
     → ((v : List ℕ) → drop n (tokens_from strings 0 false v)
     ≡ tokens_from strings 0 false (drop (chars_of_tokens strings false n v) v))
@@ -75,22 +78,24 @@ restart strings at_start n (c ∷ cs) more =
     ∙ more (drop e u)
     ∙ ap (tokens_from strings 0 false) (drop-drop (chars_of_tokens strings false n (drop e u)) e u)
 
-restart_on : (strings : Strings) (n : ℕ) (v : List ℕ)
-    → drop n (tokens_from strings 0 false v)
+-- The tokens after the first n, by induction on n, where the text does not begin here.
+restart_on : (strings : Strings) (n : ℕ) (v : List ℕ) → drop n (tokens_from strings 0 false v)
     ≡ tokens_from strings 0 false (drop (chars_of_tokens strings false n v) v)
 restart_on strings zero [] = refl
 restart_on strings zero (c ∷ cs) = refl
 restart_on strings (suc n) v = restart strings false n v (restart_on strings n)
 
+-- The tokens after the first n.
 pub tokens_restart : TokensRestart
 tokens_restart strings at_start zero u some = absurd (omega arith)
 tokens_restart strings at_start (suc n) u some = restart strings at_start n u (restart_on strings n)
 
-pub places_add_up : LengthsAddUp
-places_add_up strings at_start zero [] = refl
-places_add_up strings at_start zero (c ∷ cs) = refl
-places_add_up strings at_start (suc n) [] = refl
-places_add_up strings at_start (suc n) (c ∷ cs) =
+-- The first n tokens have the bytes of their characters.
+pub lengths_add_up : LengthsAddUp
+lengths_add_up strings at_start zero [] = refl
+lengths_add_up strings at_start zero (c ∷ cs) = refl
+lengths_add_up strings at_start (suc n) [] = refl
+lengths_add_up strings at_start (suc n) (c ∷ cs) =
     let u = c ∷ cs in
     let e = (lexeme_at strings at_start u).end in
     let rest = tokens_from strings 0 false (drop e u) in
@@ -100,13 +105,14 @@ places_add_up strings at_start (suc n) (c ∷ cs) =
     ap utf8_len (take-add e (chars_of_tokens strings false n (drop e u)) u)
     ∙ sum_by-append len_utf8 (take e u) _ in
     first
-    ∙ ap (λ m. utf8_len (take e u) + m) (places_add_up strings false n (drop e u))
+    ∙ ap (λ m. utf8_len (take e u) + m) (lengths_add_up strings false n (drop e u))
     ∙ sym (ap (λ ts. sum_by (λ (t : Token). t.len) (take (suc n) ts))
     (tokens_first strings at_start u (omega arith))
     ∙ sum_by-cons (λ (t : Token). t.len) (token_at strings at_start u) (take n rest))
 
--- ---- dollar strings
+-- ---- dollar-quoted strings
 
+-- The two laws of the first occurrence.
 pub found_is_first : FirstOccurrenceIsFound
 found_is_first d v n e =
     let (within, is) = dollar.found d v n e in

@@ -1,4 +1,5 @@
--- The laws of specs/PsqlArguments.antt, and worked rows of the first argument whose mark is `)`.
+-- The laws of quotes, arguments and marks of psql commands, and worked examples of the first
+-- marked argument.
 use Rattle.std.proofs.Common.{◌≡◌, ℕ, zero, suc, ◌+◌, ◌<◌, ◌≤◌, Bool, true, false, List, [], ◌∷◌, length, get_or, slice_get, drop, Option, Some, None, option_map, unwrap_or, eqb, cond, refl, sym, ap, subst, ◌∙◌, arith, codes}
 use Rattle.std.specs.List.{prefix_len}
 use Rattle.std.proofs.lemmas.List.{length-drop, get_or-drop}
@@ -11,11 +12,12 @@ use Rattle.squawk_lexer.proofs.Steps.{within_some}
 
 -- ---- quotes
 
--- what an end says of a quote
+-- What a length, or its absence, says of a quote.
 abbrev Closes : ℕ → List ℕ → Option ℕ → Type 0
 Closes q cs None = IsPieces q cs (prefix_len is_not_line_end cs)
 Closes q cs (Some n) = (m : ℕ) × (n ≡ m + 1) × IsPieces q cs m × (slice_get cs m ≡ Some q)
 
+-- A quote that closes at once, and one whose line ends.
 is_close : (q c : ℕ) (cs : List ℕ) → eqb c q ≡ true → Closes q (c ∷ cs) (Some 1)
 is_close q c cs t = let same : c ≡ q = grind (arith, nat_tests) in
     (0, omega arith, NoPiece (c ∷ cs), ap Some same)
@@ -23,6 +25,7 @@ is_close q c cs t = let same : c ≡ q = grind (arith, nat_tests) in
 no_piece : (q c : ℕ) (cs : List ℕ) → is_line_end c ≡ true → Closes q (c ∷ cs) None
 no_piece q c cs t = rw t (NoPiece (c ∷ cs))
 
+-- The law with one more piece in front: a single character, or an escape pair.
 one_piece : (q c : ℕ) (cs : List ℕ) (o : Option ℕ) → is_line_end c ≡ false → eqb c q ≡ false
     → begins_pair q (c ∷ cs) ≡ false → Closes q cs o → Closes q (c ∷ cs) (option_map (λ n. n + 1) o)
 one_piece q c cs None t s p more = rw t (OnePiece c cs (prefix_len is_not_line_end cs) t s p more)
@@ -34,6 +37,7 @@ one_piece q c cs (Some n) t s p (m, e, pieces, last) = (
       in rw next last,
 )
 
+-- The second character of an escape pair is no line end.
 pub pair_plain : (q c d : ℕ) → is_escape_pair q c d ≡ true → is_line_end d ≡ false
 pair_plain q c d p = grind (arith, nat_tests)
 
@@ -52,6 +56,7 @@ pair_piece q c d cs (Some n) t p (m, e, pieces, last) = (
       omega arith in rw next last,
 )
 
+-- The law for both outcomes.
 closes : (q : ℕ) (cs : List ℕ) → Closes q cs (close_len q cs)
 closes q [] = NoPiece []
 closes q (c ∷ []) = by (eqb c q) (is_line_end c) refl refl
@@ -66,22 +71,23 @@ closes q (c ∷ d ∷ cs) =
   where
     by : (l b p : Bool) → is_line_end c ≡ l → eqb c q ≡ b → is_escape_pair q c d ≡ p
         → Closes q cs (close_len q cs) → Closes q (d ∷ cs) (close_len q (d ∷ cs))
-        → Closes q (c ∷ d
-        ∷ cs) (cond l None (cond b (Some 1)
-        (cond p (option_map (λ n. n + 2) (close_len q cs)) (option_map (λ n.
-        n + 1) (close_len q (d ∷ cs))))))
+        → Closes q
+        (c ∷ d ∷ cs) (cond l None (cond b (Some 1)
+        (cond p (option_map (λ n. n + 2) (close_len q cs))
+        (option_map (λ n. n + 1) (close_len q (d ∷ cs))))))
     by true b p t s r two one = no_piece q c (d ∷ cs) t
     by false true p t s r two one = is_close q c (d ∷ cs) s
     by false false true t s r two one = pair_piece q c d cs (close_len q cs) t r two
     by false false false t s r two one = one_piece q c (d ∷ cs) (close_len q (d ∷ cs)) t s r one
 
+-- The two laws of quotes.
 pub quotes_close_first : QuotesCloseFirst
 quotes_close_first q cs n e = subst (Closes q cs) e (closes q cs)
 
 pub open_quotes_stay_open : OpenQuotesStayOpen
 open_quotes_stay_open q cs e = subst (Closes q cs) e (closes q cs)
 
--- no part ends past its text
+-- A part ends within its text.
 pub rest_in : (c : ℕ) (cs : List ℕ) → part_rest c cs ≤ length cs
 rest_in c cs = by (is_quote c) (close_len c cs) (closes c cs)
   where
@@ -93,19 +99,21 @@ rest_in c cs = by (is_quote c) (close_len c cs) (closes c cs)
 
 -- ---- longest sequences of parts
 
--- how many characters the parts have up to one that begins with a character that `ends`; the first
--- `inside` are inside a part
+-- The length of the longest sequence of parts before a character of which `ends` holds. The first
+-- `inside` characters belong to a part that began before.
 abbrev parts_len : (ℕ → Bool) → ℕ → List ℕ → ℕ
 parts_len ends inside [] = 0
 parts_len ends zero (c ∷ cs) = cond (ends c) 0 (1 + parts_len ends (part_rest c cs) cs)
 parts_len ends (suc inside) (c ∷ cs) = 1 + parts_len ends inside cs
 
+-- The characters inside a part are only skipped.
 parts_inside : (ends : ℕ → Bool) (k : ℕ) (cs : List ℕ) → k ≤ length cs
     → parts_len ends k cs ≡ k + parts_len ends 0 (drop k cs)
 parts_inside ends zero cs h = omega arith
 parts_inside ends (suc k) [] h = absurd (omega arith)
 parts_inside ends (suc k) (c ∷ cs) h = omega (arith, parts_inside ends k cs (omega arith))
 
+-- The empty sequence, and a sequence with one more part in front.
 no_more : (ends : ℕ → Bool) (cs : List ℕ) → (0 < length cs → ends (get_or cs 0 0) ≡ true)
     → IsLongest ends cs 0
 no_more ends cs stops = record { parts = NoPart cs; stops = stops }
@@ -123,6 +131,7 @@ one_more ends c cs n e more = record { parts = OnePart c cs n e more.parts; stop
         rw next (ap ends (sym (get_or-drop r cs n 0))
         ∙ more.stops (omega (arith, length-drop r cs)))
 
+-- `parts_len` is the length of a longest sequence,
 longest : (ends : ℕ → Bool) (k : ℕ) (cs : List ℕ) (n : ℕ) → k ≤ length cs
     → parts_len ends k cs ≡ k + n → IsLongest ends (drop k cs) n
 longest ends zero [] n h e = let none : n ≡ 0 = omega (arith, e) in
@@ -147,7 +156,7 @@ longest ends zero (c ∷ cs) n h e = by (ends c) refl e (longest ends r cs m (re
         rw all (one_more ends c cs m t more)
 longest ends (suc k) (c ∷ cs) n h e = longest ends k cs n (omega arith) (omega (arith, e))
 
--- no other length is such
+-- and no other length is.
 only : (ends : ℕ → Bool) (cs : List ℕ) (n : ℕ) → IsParts ends cs n
     → (n < length cs → ends (get_or cs n 0) ≡ true) → n ≡ parts_len ends 0 cs
 only ends [] n (NoPart cs) stops = refl
@@ -161,11 +170,10 @@ only ends cs n (OnePart c rest m t more) stops =
     rw t (omega (
       arith,
       only ends (drop r rest) m more stops',
-      parts_inside ends r rest
-          (rest_in c rest),
+      parts_inside ends r rest (rest_in c rest),
     ))
 
--- the arguments together, and one of them, are such
+-- The arguments together, and one of them, are such sequences.
 args_parts : (k : ℕ) (cs : List ℕ) → arguments_len k cs ≡ parts_len ends_arguments k cs
 args_parts k [] = refl
 args_parts zero (c ∷ cs) =
@@ -178,6 +186,7 @@ argument_parts zero (c ∷ cs) =
     ap (λ n. cond (ends_argument c) 0 (1 + n)) (argument_parts (part_rest c cs) cs)
 argument_parts (suc k) (c ∷ cs) = ap (λ n. 1 + n) (argument_parts k cs)
 
+-- The four laws of arguments.
 pub arguments_are_longest : ArgumentsAreLongest
 arguments_are_longest cs =
     longest ends_arguments 0 cs (arguments_len 0 cs) (omega arith) (sym (args_parts 0 cs)
@@ -196,30 +205,32 @@ argument_is_one cs n h = only ends_argument cs n h.parts h.stops ∙ sym (argume
 
 -- ---- the first argument whose mark is `)`
 
--- what is found with a running mark from within an argument: its end where that becomes `)`, or
--- else the end of a later one
+-- What `marked_len` says from within an argument: its end where its mark becomes `)`, else the end
+-- of a later one.
 abbrev Within : List ℕ → ℕ → Option ℕ → Type 0
 Within cs inside mark =
     marked_len inside mark cs
     ≡ cond (is_parenthesis (mark_from inside mark cs)) (Some (argument_len inside cs))
     (first_marked (argument_len inside cs) cs)
 
+-- The law from within an argument, and from the start of a text.
 abbrev Found : List ℕ → Type 0
 Found cs = ((inside : ℕ) (mark : Option ℕ) → Within cs inside mark)
     × (marked_len 0 None cs ≡ first_marked 0 cs)
 
--- one character further on in an argument, and at its first one
-further : (b : Bool) (n c : ℕ) (cs : List ℕ) → option_map (λ m.
-    m + 1) (cond b (Some n) (first_marked n cs))
+-- One character further on in an argument, and at its first one.
+further : (b : Bool) (n c : ℕ) (cs : List ℕ)
+    → option_map (λ m. m + 1) (cond b (Some n) (first_marked n cs))
     ≡ cond b (Some (1 + n)) (first_marked (1 + n) (c ∷ cs))
 further true n c cs = ap Some (omega arith)
 further false n c cs = let next : 1 + n ≡ suc n = omega arith in rw next refl
 
-begun : (b : Bool) (n : ℕ) (o : Option ℕ) → option_map (λ m. m + 1) (cond b (Some n) o)
+first_on : (b : Bool) (n : ℕ) (o : Option ℕ) → option_map (λ m. m + 1) (cond b (Some n) o)
     ≡ cond b (Some (1 + n)) (option_map (λ m. m + 1) o)
-begun true n o = ap Some (omega arith)
-begun false n o = refl
+first_on true n o = ap Some (omega arith)
+first_on false n o = refl
 
+-- The law one character further on, from within an argument,
 within : (c : ℕ) (cs : List ℕ) → Found cs → (inside : ℕ) (mark : Option ℕ)
     → Within (c ∷ cs) inside mark
 within c cs (more, first) zero mark = by (ends_arguments c) (is_blank c) refl refl
@@ -235,6 +246,7 @@ within c cs (more, first) zero mark = by (ends_arguments c) (is_blank c) refl re
 within c cs (more, first) (suc n) mark = ap (option_map (λ n. n + 1)) (more n mark)
     ∙ further (is_parenthesis (mark_from n mark cs)) (argument_len n cs) c cs
 
+-- and from the start of a text.
 start : (c : ℕ) (cs : List ℕ) → Found cs → marked_len 0 None (c ∷ cs) ≡ first_marked 0 (c ∷ cs)
 start c cs (more, first) = by (ends_arguments c) (is_blank c) refl refl
   where
@@ -247,8 +259,9 @@ start c cs (more, first) = by (ends_arguments c) (is_blank c) refl refl
         let m = mark_after None c cs in
         let n = argument_len r cs in
         rw (e, f) (ap (option_map (λ n. n + 1)) (more r m)
-        ∙ begun (is_parenthesis (mark_from r m cs)) n (first_marked n cs))
+        ∙ first_on (is_parenthesis (mark_from r m cs)) n (first_marked n cs))
 
+-- The law for every text.
 found : (cs : List ℕ) → Found cs
 found [] = ((λ inside mark. refl), refl)
 found (c ∷ cs) = (within c cs (found cs), start c cs (found cs))
@@ -256,7 +269,7 @@ found (c ∷ cs) = (within c cs (found cs), start c cs (found cs))
 pub marked_is_first : MarkedIsFirst
 marked_is_first cs = (found cs).1
 
--- ---- worked rows
+-- ---- worked examples
 
 second_argument : first_marked 0 (codes "(a b) |x") ≡ Some 5
 second_argument = refl

@@ -1,4 +1,4 @@
--- The word of a command, by its bytes and by its characters.
+-- The word of a psql command by its bytes and by its characters.
 use Rattle.std.proofs.Common.{◌≡◌, ℕ, zero, suc, ◌+◌, ◌<◌, ◌≤◌, Bool, true, false, ◌&&◌, ◌||◌, ltb, eq-eqb, List, [], ◌∷◌, ◌++◌, map, length, take, drop, get_or, refl, sym, ◌∙◌, ap, arith, IsUtf8, ◌↔◌, IsTrue, codes}
 use Rattle.std.specs.Str.{chars, bytes_eq, encode_utf8_all, IsCharBoundary, IsAscii, str_eq_ignore_ascii_case}
 use Rattle.std.specs.Char.{to_ascii_lowercase, encode_utf8}
@@ -11,9 +11,11 @@ use Rattle.squawk_lexer.specs.Psql.{command_word, word_end}
 
 -- ---- ASCII
 
+-- Whether all bytes are ASCII.
 abbrev is_ascii : List ℕ → Bool
 is_ascii bs = list_all (λ b. ltb b 128) bs
 
+-- The test as a fact.
 ascii_is : (bs : List ℕ) → is_ascii bs ≡ true → IsAscii bs
 ascii_is [] e = λ i. omega arith
 ascii_is (b ∷ bs) e = by (ascii_is bs (grind (arith, nat_tests)))
@@ -22,6 +24,7 @@ ascii_is (b ∷ bs) e = by (ascii_is bs (grind (arith, nat_tests)))
     by more zero = grind (arith, nat_tests)
     by more (suc i) = more i
 
+-- `bytes_eq` is equality.
 same_text : (xs ys : List ℕ) → bytes_eq xs ys ≡ true → xs ≡ ys
 same_text [] [] e = refl
 same_text [] (y ∷ ys) e = absurd (cc)
@@ -35,6 +38,7 @@ text_same : (xs : List ℕ) → bytes_eq xs xs ≡ true
 text_same [] = refl
 text_same (x ∷ xs) = rw (eq-eqb x x refl) (text_same xs)
 
+-- Two tests that imply each other are equal.
 both : (a b : Bool) → (a ≡ true → b ≡ true) → (b ≡ true → a ≡ true) → a ≡ b
 both true true f g = refl
 both true false f g = sym (f refl)
@@ -43,6 +47,7 @@ both false false f g = refl
 
 -- ---- words
 
+-- An ASCII word equals a text by its bytes exactly where it does by its characters.
 word_same : (w bs : List ℕ) → is_ascii w ≡ true → IsUtf8 bs → bytes_eq w bs ≡ bytes_eq w (chars bs)
 word_same w bs ascii utf8 = both (bytes_eq w bs) (bytes_eq w (chars bs)) to from
   where
@@ -56,6 +61,7 @@ word_same w bs ascii utf8 = both (bytes_eq w bs) (bytes_eq w (chars bs)) to from
         ∙ encodes-IsAscii w (ascii_is w ascii) in
         rw bs_is (text_same w)
 
+-- So for a list of words.
 pub among_same : (ws : List (List ℕ)) (bs : List ℕ) → list_all is_ascii ws ≡ true → IsUtf8 bs
     → is_among ws bs ≡ is_among ws (chars bs)
 among_same [] bs ascii utf8 = refl
@@ -65,6 +71,7 @@ among_same (w ∷ ws) bs ascii utf8 =
     ap (λ b. b || is_among ws bs) (word_same w bs first utf8)
     ∙ ap (λ b. bytes_eq w (chars bs) || b) (among_same ws bs rest utf8)
 
+-- A text is ASCII where its lowercase is.
 lower_ascii : (xs ys : List ℕ) → map to_ascii_lowercase xs ≡ ys → is_ascii ys ≡ true
     → is_ascii xs ≡ true
 lower_ascii [] ys e ascii = refl
@@ -78,6 +85,7 @@ lower_ascii (x ∷ xs) (y ∷ ys) e ascii =
     below : (x : ℕ) → to_ascii_lowercase x < 128 → (ltb x 128 && true) ≡ true
     below x h = grind (arith, nat_tests)
 
+-- So for the comparison with `copy`.
 pub copy_same : (r : Bool) (bs : List ℕ) → IsUtf8 bs
     → (IsTrue r ↔ (map to_ascii_lowercase bs ≡ map to_ascii_lowercase (codes "copy")))
     → r ≡ str_eq_ignore_ascii_case (chars bs) (codes "copy")
@@ -101,8 +109,9 @@ copy_same r bs utf8 h = both r (str_eq_ignore_ascii_case (chars bs) (codes "copy
         in
         h.1 (ap (map to_ascii_lowercase) bs_is ∙ e)
 
--- ---- behind the backslash
+-- ---- after the backslash
 
+-- The text after a first character of ASCII.
 tail : (bs : List ℕ) (c : ℕ) (cs : List ℕ) → IsUtf8 bs → chars bs ≡ c ∷ cs → c < 128
     → (1 ≤ length bs) × IsCharBoundary bs 1 × (chars (drop 1 bs) ≡ cs)
 tail bs c cs utf8 e ascii =
@@ -117,10 +126,10 @@ tail bs c cs utf8 e ascii =
     let first : get_or bs 0 0 ≡ c = ap (λ x. get_or x 0 0) bytes_are in (
       omega arith,
       IsCharBoundary-after_ascii bs 0 utf8 (omega arith) (omega arith),
-      ap (λ x.
-          chars (drop 1 x)) bytes_are ∙ rest,
+      ap (λ x. chars (drop 1 x)) bytes_are ∙ rest,
     )
 
+-- The word after the backslash.
 pub word_tail : (u bs : List ℕ) → IsUtf8 bs → get_or u 0 0 ≡ 92 → chars bs ≡ take (word_end u) u
     → (1 ≤ length bs) × IsCharBoundary bs 1 × (chars (drop 1 bs) ≡ command_word u)
 word_tail [] bs utf8 first e = absurd (omega arith)

@@ -1,12 +1,13 @@
--- Worked rows of psql commands, computed by their definition.
+-- Worked examples of psql commands, computed by their definition. Each name says what the text
+-- shows.
 use Rattle.std.proofs.Common.{◌≡◌, true, false, refl, codes}
 use Rattle.squawk_lexer.specs.Kind.{lexeme_until}
 use Rattle.squawk_lexer.specs.declared.token.TokenKind.TheVariants.{PsqlCommand, Semi, Colon}
 use Rattle.squawk_lexer.specs.Psql.{psql}
 
-pipe_behind_options : psql (codes "\\g (fieldsep=')' |cat \\echo done")
+pipe_after_options : psql (codes "\\g (fieldsep=')' |cat \\echo done")
     ≡ lexeme_until (PsqlCommand true) 32
-pipe_behind_options = refl
+pipe_after_options = refl
 
 closed_double_quote : psql (codes "\\g (fieldsep=\")\" |cat \\echo done")
     ≡ lexeme_until (PsqlCommand true) 22
@@ -141,8 +142,8 @@ sf_plus = refl
 sf_other : psql (codes "\\sf- a\\b") ≡ lexeme_until (PsqlCommand false) 6
 sf_other = refl
 
-blanks_behind : psql (codes "\\g (a) \t |x\\y") ≡ lexeme_until (PsqlCommand true) 13
-blanks_behind = refl
+blanks_after : psql (codes "\\g (a) \t |x\\y") ≡ lexeme_until (PsqlCommand true) 13
+blanks_after = refl
 
 line_in_options : psql (codes "\\g (a\n) |x") ≡ lexeme_until (PsqlCommand true) 5
 line_in_options = refl

@@ -1,4 +1,4 @@
--- Behind a `;` a text is cut by itself.
+-- After a semicolon a text is cut by itself.
 use Rattle.std.proofs.Common.{◌≡◌, ℕ, zero, suc, ◌+◌, ◌<◌, ◌≤◌, Bool, true, false, List, [], ◌∷◌, ◌++◌, length, get_or, drop, length-drop, length-append, refl, sym, ap, subst, ◌∙◌, inl, inr, ◌⊎◌, ◌&&◌, eqb, cond, arith}
 use Rattle.std.proofs.lemmas.Bool.{cases_lt, cases_eq, false≢true}
 use Rattle.std.proofs.lemmas.Bool.Decides.{nat_tests}
@@ -16,25 +16,27 @@ use Rattle.squawk_lexer.specs.Dollar.{dollar}
 use Rattle.squawk_lexer.specs.PsqlWords.{is_among, query_ending_words}
 use Rattle.squawk_lexer.specs.Psql.{psql, command_word as command_word, command_end}
 use Rattle.squawk_lexer.specs.Symbols.{symbol}
-use Rattle.squawk_lexer.specs.Token.{token_form as row, prefix_of, lexeme_of_form, lexeme_of, lexeme_at, token_at}
+use Rattle.squawk_lexer.specs.Token.{token_form, prefix_of, lexeme_of_form, lexeme_of, lexeme_at, token_at}
 use Rattle.squawk_lexer.specs.Cut.{tokens_from}
 use Rattle.squawk_lexer.specs.LookAhead.{Agrees, EndsWithSemi, StatementsStandAlone}
-use Rattle.squawk_lexer.proofs.TokenLaws.{lexeme_at_some, command_plain, is_semi, IsOther, either_other, symbol_other, fractional_other, number_other, opened_other, dollar_other}
+use Rattle.squawk_lexer.proofs.TokenLaws.{lexeme_at_some, command_plain, is_semi, IsOther, either_other, symbol_other, fractional_other, number_other, prefix_other, dollar_other}
 use Rattle.squawk_lexer.proofs.WithinLaws.{tokens_within}
 use Rattle.squawk_lexer.proofs.CutLaws.{tokens_first, tokens_none}
 use Rattle.squawk_lexer.proofs.Steps.{within_read, and_false}
-use Rattle.squawk_lexer.proofs.StartSteps.{begin_psql}
+use Rattle.squawk_lexer.proofs.FormSteps.{begin_psql}
 use Rattle.squawk_lexer.proofs.AheadTokens.{token_from, lexeme_next}
 
--- ---- what a token that is a `;` begins with: `;` (59), or a backslash (92) and `;`
+-- ---- what a semicolon begins with
 
+-- The text begins with `;` (59), or with a backslash (92) and `;`.
 abbrev BeginsSemi : List ℕ → Type 0
 BeginsSemi u = (get_or u 0 0 ≡ 59) ⊎ ((get_or u 0 0 ≡ 92) × (get_or u 1 0 ≡ 59))
 
--- of a row that another kind is of
+-- A lexeme of another kind is no semicolon.
 unlike : (x : Lexeme) (A : Type 0) → IsOther x → x.kind ≡ kinds.Semi → A
 unlike x A n e = absurd (false≢true (sym n.other ∙ ap is_semi e))
 
+-- What a semicolon begins with: as a symbol, as a token of psql, of any form, and of any text.
 symbol_semi : (c : ℕ) → symbol c ≡ kinds.Semi → c ≡ 59
 symbol_semi c e =
     elim (cases_eq c 59) [
@@ -54,34 +56,34 @@ psql_semi u e =
     other : eqb (get_or u 1 0) 59 ≡ false → IsOther (psql u)
     other t =
         either_other (eqb (get_or u 1 0) 92) (lexeme_until (kinds.PsqlCommand false) 2) _
-        (record { real = refl; other = refl; plain = refl })
+        (record { real = refl; other = refl; plain = refl; known = refl })
         (rw t (either_other (eqb (get_or u 1 0) 58) (lexeme_until kinds.Colon 2)
         (lexeme_until (kinds.PsqlCommand (is_among query_ending_words (command_word u)))
-        (command_end u)) (record { real = refl; other = refl; plain = refl }) (record {
-          real =
-              refl;
+        (command_end u)) (record { real = refl; other = refl; plain = refl; known = refl })
+        (record {
+          real = refl;
           other = refl;
-          plain =
-              command_plain (is_among query_ending_words (command_word u));
+          plain = command_plain (is_among query_ending_words (command_word u));
+          known = refl;
         })))
 
-begun_semi : (strings : Strings) (s : TokenForm) (u : List ℕ)
-    → row (get_or u 0 0) (get_or u 1 0) ≡ s → (lexeme_of_form strings s u).kind ≡ kinds.Semi
+form_semi : (strings : Strings) (s : TokenForm) (u : List ℕ)
+    → token_form (get_or u 0 0) (get_or u 1 0) ≡ s → (lexeme_of_form strings s u).kind ≡ kinds.Semi
     → BeginsSemi u
-begun_semi strings Whitespace u r e = absurd (cc)
-begun_semi strings LineComment u r e = absurd (cc)
-begun_semi strings BlockComment u r e = absurd (cc)
-begun_semi strings String u r e = absurd (cc)
-begun_semi strings QuotedIdent u r e = absurd (cc)
-begun_semi strings Word u r e =
-    unlike (lexeme_of_form strings Word u) _ (opened_other
+form_semi strings Whitespace u r e = absurd (cc)
+form_semi strings LineComment u r e = absurd (cc)
+form_semi strings BlockComment u r e = absurd (cc)
+form_semi strings String u r e = absurd (cc)
+form_semi strings QuotedIdent u r e = absurd (cc)
+form_semi strings Word u r e =
+    unlike (lexeme_of_form strings Word u) _ (prefix_other
     (prefix_of (get_or u 0 0) (get_or u 1 0) (get_or u 2 0)) u) e
-begun_semi strings Dollar u r e = unlike (dollar u) _ (dollar_other u) e
-begun_semi strings Number u r e = unlike (number u) _ (number_other u) e
-begun_semi strings DotDot u r e = absurd (cc)
-begun_semi strings Fraction u r e = unlike (fractional u 1) _ (fractional_other u 1) e
-begun_semi strings Psql u r e = inr (begin_psql u (sym r), psql_semi u e)
-begun_semi strings Symbol u r e = inl (symbol_semi (get_or u 0 0) e)
+form_semi strings Dollar u r e = unlike (dollar u) _ (dollar_other u) e
+form_semi strings Number u r e = unlike (number u) _ (number_other u) e
+form_semi strings DotDot u r e = absurd (cc)
+form_semi strings Fraction u r e = unlike (fractional u 1) _ (fractional_other u 1) e
+form_semi strings Psql u r e = inr (begin_psql u (sym r), psql_semi u e)
+form_semi strings Symbol u r e = inl (symbol_semi (get_or u 0 0) e)
 
 lexeme_semi : (strings : Strings) (s : Bool) (u : List ℕ)
     → (lexeme_at strings s u).kind ≡ kinds.Semi → BeginsSemi u
@@ -90,20 +92,20 @@ lexeme_semi strings s u e = by (s && eqb (get_or u 0 0) byte_order_mark) e
     by : (b : Bool) → (cond b (lexeme_until kinds.Whitespace 1) (lexeme_of strings u)).kind
         ≡ kinds.Semi → BeginsSemi u
     by true e = absurd (cc)
-    by false e = begun_semi strings (row (get_or u 0 0) (get_or u 1 0)) u refl e
+    by false e = form_semi strings (token_form (get_or u 0 0) (get_or u 1 0)) u refl e
 
--- and what such a text begins with
+-- A text that begins so has a semicolon as its first token.
 semi_one : (strings : Strings) (s : Bool) (u : List ℕ) → get_or u 0 0 ≡ 59
     → lexeme_at strings s u ≡ lexeme_until kinds.Semi 1
-unfolding row symbol
+unfolding token_form symbol
 semi_one strings s u e = rw (e, and_false s) (ap (λ c. lexeme_until (symbol c) 1) e)
 
 semi_two : (strings : Strings) (s : Bool) (u : List ℕ) → get_or u 0 0 ≡ 92 → get_or u 1 0 ≡ 59
     → lexeme_at strings s u ≡ lexeme_until kinds.Semi 2
-unfolding row
+unfolding token_form
 semi_two strings s u e f = rw (e, f, and_false s) refl
 
--- so what follows changes nothing
+-- What follows does not change that.
 semi_same : (strings : Strings) (s : Bool) (a b : List ℕ) → 1 ≤ length a
     → (lexeme_at strings s a).kind ≡ kinds.Semi
     → lexeme_at strings s (a ++ b) ≡ lexeme_at strings s a
@@ -120,15 +122,17 @@ semi_same strings s a b some e = by (lexeme_semi strings s a e)
 
 -- ---- tokens
 
+-- The last token of a list is the last one after its first.
 more_semi : (t : Token) (ts : List Token) → 1 ≤ length ts → EndsWithSemi (t ∷ ts) → EndsWithSemi ts
 more_semi t [] h e = absurd (omega arith)
 more_semi t (x ∷ ts) h e = e
 
--- the tokens of a text that is not empty, where its first token stays with what follows
+-- The tokens of a and b together are those of a, then those of b by itself.
 abbrev Stands : Strings → Bool → List ℕ → List ℕ → Type 0
 Stands strings s a b = tokens_from strings 0 s (a ++ b)
     ≡ tokens_from strings 0 s a ++ tokens_from strings 0 false b
 
+-- This holds where it holds after the first token, and that token stays the same.
 first_stays : (strings : Strings) (s : Bool) (a b : List ℕ) → 1 ≤ length a
     → lexeme_at strings s (a ++ b) ≡ lexeme_at strings s a
     → Stands strings false (drop (lexeme_at strings s a).end a) b → Stands strings s a b
@@ -139,8 +143,7 @@ first_stays strings s a b some same more =
     ap (λ (x : Lexeme). token_from x (a ++ b)) same
     ∙ ap (λ w. record {
       kind = (lexeme_at strings s a).kind;
-      len =
-          utf8_len w;
+      len = utf8_len w;
     }) (take-append-le k a b within) in
     let rest : drop (lexeme_at strings s (a ++ b)).end (a ++ b) ≡ drop k a ++ b =
     ap (λ (x : Lexeme). drop x.end (a ++ b)) same ∙ drop-append-le k a b within in
@@ -151,11 +154,12 @@ first_stays strings s a b some same more =
     ∙ ap (λ ts. token_at strings s a ∷ ts) more
     ∙ sym (ap (λ ts. ts ++ tokens_from strings 0 false b) (tokens_first strings s a some))
 
+-- It holds of an empty text.
 none_stands : (strings : Strings) (w b : List ℕ) → length w ≡ 0 → Stands strings false w b
 none_stands strings [] b h = refl
 none_stands strings (c ∷ cs) b h = absurd (omega arith)
 
--- the only character of a text that is a `;`
+-- A text of one character whose last token is a semicolon is `;`.
 lone_semi : (strings : Strings) (w : List ℕ) → length w ≡ 1
     → EndsWithSemi (tokens_from strings 0 false w) → get_or w 0 0 ≡ 59
 lone_semi strings [] h e = absurd e
@@ -166,13 +170,16 @@ lone_semi strings (c ∷ []) h e = by (lexeme_semi strings false (c ∷ []) e)
     by (inl first) = first
     by (inr (first, second)) = absurd (omega arith)
 
+-- A text with another one after it agrees with it.
 longer : (n : ℕ) (a b : List ℕ) → n ≤ length a → Agrees n a (a ++ b)
 longer n a b h = record { within = h; same = take-append-le n a b h }
 
+-- A text that is not empty has a token.
 some_tokens : (strings : Strings) (w : List ℕ) → 1 ≤ length w
     → 1 ≤ length (tokens_from strings 0 false w)
 some_tokens strings w h = let e = ap length (tokens_first strings false w h) in omega (arith, e)
 
+-- The law, from that of the text after the first token.
 step : (strings : Strings) (s : Bool) (a b : List ℕ) → 1 ≤ length a
     → EndsWithSemi (tokens_from strings 0 s a)
     → (EndsWithSemi (tokens_from strings 0 false (drop (lexeme_at strings s a).end a))
@@ -199,8 +206,8 @@ step strings s a b some e behind = by (cases_lt 0 (length rest))
 
     same : 1 ≤ length rest → EndsWithSemi (tokens_from strings 0 false rest)
         → lexeme_at strings s (a ++ b) ≡ lexeme_at strings s a
-    same more e = lexeme_next strings s k a (a
-        ++ b) (longer (k + 1) a b (omega (arith, len))) (next (cases_lt 1 (length rest))) refl
+    same more e = lexeme_next strings s k a
+        (a ++ b) (longer (k + 1) a b (omega (arith, len))) (next (cases_lt 1 (length rest))) refl
       where
         next : (1 < length rest) ⊎ (length rest ≤ 1) → Agrees (k + 2) a (a ++ b)
             ⊎ (get_or a k 0 ≡ 59)
@@ -214,8 +221,8 @@ step strings s a b some e behind = by (cases_lt 0 (length rest))
     by : (0 < length rest) ⊎ (length rest ≤ 0) → Stands strings s a b
     by (inr none) =
         let empty : length rest ≡ 0 = omega arith in
-        let kind : token.kind ≡ kinds.Semi = subst (λ ts.
-        EndsWithSemi (token ∷ ts)) (tokens_none strings false rest empty) ends in
+        let kind : token.kind ≡ kinds.Semi = subst
+        (λ ts. EndsWithSemi (token ∷ ts)) (tokens_none strings false rest empty) ends in
         first_stays strings s a b some (semi_same strings s a b some kind)
         (none_stands strings rest b empty)
     by (inl more) =
@@ -223,6 +230,7 @@ step strings s a b some e behind = by (cases_lt 0 (length rest))
         ends in
         first_stays strings s a b some (same more e) (behind e)
 
+-- By induction on the number of characters.
 stands : (n : ℕ) (strings : Strings) (s : Bool) (a b : List ℕ) → length a ≤ n
     → EndsWithSemi (tokens_from strings 0 s a) → Stands strings s a b
 stands n strings s [] b h e = absurd e

@@ -1,26 +1,28 @@
--- What is said of a place holds of the place where the run from there on ends, if a step over a
--- character of the run keeps it.
+-- Searches for the next of two characters. What each step over a skipped character keeps, the
+-- search keeps.
 use Rattle.std.proofs.Common.{◌≡◌, ℕ, zero, suc, ◌+◌, ◌-◌, ◌<◌, ◌≤◌, Bool, true, false, List, [], ◌∷◌, length, get_or, take, drop, slice_get, Some, refl, sym, ◌∙◌, ap, inl, inr, ◌⊎◌, ◌||◌, ◌&&◌, not, eqb, arith, add-zero}
 use Rattle.std.proofs.lemmas.Bool.{cases_lt, cases_eq, cases_Bool}
 use Rattle.std.proofs.lemmas.Bool.Decides.{nat_tests}
 use Rattle.std.proofs.lemmas.List.{get_or-drop, length-drop}
-use Rattle.std.proofs.lemmas.List.Sums.{prefix_len_stops, prefix_len-drop_no}
+use Rattle.std.proofs.lemmas.List.Sums.{prefix_len_stops}
 use Rattle.std.specs.List.{prefix_len}
 use Rattle.squawk_lexer.specs.Position.{position_after}
 use Rattle.squawk_lexer.specs.Runs.{run_end}
 use Rattle.squawk_lexer.specs.Stops.{is_neither, stop_at, is_neither_on_line, stop_on_line}
-use Rattle.squawk_lexer.specs.Classes.{is_line_end}
 use Rattle.squawk_lexer.proofs.ByteRuns.{Flat}
-use Rattle.squawk_lexer.proofs.Steps.{drop_some, drop_read, drop_past, behind_some, within_some, get_some}
+use Rattle.squawk_lexer.proofs.Steps.{drop_read, drop_past, after_some, within_some, get_some}
 
+-- The class of all characters but two of ASCII holds all characters beyond ASCII.
 pub flat_other : (a b : ℕ) → a < 128 → b < 128 → Flat (is_neither a b)
 flat_other a b p q x y h k = grind (arith, nat_tests)
 
-some_read : (u : List ℕ) (i : ℕ) → i < length u → Some (get_or u i 0) ≡ slice_get u i
+-- The character at an index within the text.
+pub some_read : (u : List ℕ) (i : ℕ) → i < length u → Some (get_or u i 0) ≡ slice_get u i
 some_read [] i h = absurd (omega arith)
 some_read (x ∷ u) zero h = refl
 some_read (x ∷ u) (suc i) h = some_read u i (omega arith)
 
+-- What a step over a character of a class keeps, the whole run keeps.
 kept_one : {X : Type 0} (F : ℕ → X) (p : ℕ → Bool) (u : List ℕ)
     → ((i c : ℕ) → Some c ≡ slice_get u i → p c ≡ true → F i ≡ F (i + 1)) → (n i : ℕ)
     → (prefix_len p (drop (i + 1) u) ≡ n → F (i + 1) ≡ F (i + 1 + n))
@@ -51,34 +53,33 @@ pub run_kept : {X : Type 0} (F : ℕ → X) (p : ℕ → Bool) (u : List ℕ)
     → (i : ℕ) → F i ≡ F (run_end p u i)
 run_kept F p u step i = kept F p u step (prefix_len p (drop i u)) i refl
 
--- where a run ends is not before it begins
+-- A search ends at or after its start.
 pub stop_on : (a b : ℕ) (u : List ℕ) (i : ℕ) → i ≤ stop_at a b u i
 unfolding stop_at
 stop_on a b u i = omega arith
 
--- neither of the two
+-- A skipped character is neither of the two.
 pub other_not : (a b c : ℕ) → is_neither a b c ≡ true → (c ≡ a → ⊥) × (c ≡ b → ⊥)
 other_not a b c t = (λ e. absurd (grind (arith, nat_tests)), λ e. absurd (grind (arith, nat_tests)))
 
--- a step behind the stop
-pub stop_behind : (a b : ℕ) (u : List ℕ) (i c : ℕ) → Some c ≡ slice_get u (stop_at a b u i)
+-- The index after the one at which a search ends.
+pub stop_after : (a b : ℕ) (u : List ℕ) (i c : ℕ) → Some c ≡ slice_get u (stop_at a b u i)
     → (position_after u (stop_at a b u i) ≡ stop_at a b u i + 1) × (i ≤ stop_at a b u i)
     × (stop_at a b u i < length u)
-stop_behind a b u i c s = (behind_some u _ c s, on, within_some u _ c s)
+stop_after a b u i c s = (after_some u _ c s, on, within_some u _ c s)
   where
     on : i ≤ stop_at a b u i
     on = stop_on a b u i
 
--- a loop that goes on behind the stop ends, with the premises that the loop has
+-- A loop that goes on after that is nearer to the end of the text.
 pub stop_smaller : (a b : ℕ) (u : List ℕ) (i c : ℕ) (v : List ℕ) (j k : ℕ)
     → Some c ≡ slice_get u (stop_at a b u i) → v ≡ u → j ≡ position_after u (stop_at a b u i)
-    → j ≤ k
-    → length v - k < length u - i
+    → j ≤ k → length v - k < length u - i
 stop_smaller a b u i c v j k s same at on =
-    let (next, first, within) = stop_behind a b u i c s in
+    let (next, first, within) = stop_after a b u i c s in
     rw same (omega arith)
 
--- a stop is one of the two
+-- A search ends at one of the two.
 pub stop_is : (a b : ℕ) (u : List ℕ) (i c : ℕ) → Some c ≡ slice_get u (stop_at a b u i)
     → (c ≡ a → ⊥) → c ≡ b
 unfolding stop_at
@@ -99,25 +100,22 @@ stop_is a b u i c s other = by stops (cases_eq c b)
 
 -- ---- the search
 
+-- A disjunction of a test with itself.
 or_same : (b : Bool) → (b || b) ≡ b
 or_same true = refl
 or_same false = refl
 
+-- A search for one character is a search for it twice.
 pub other_one : (a b c : ℕ) → a ≡ b → is_neither a b c ≡ not (eqb c a)
 other_one a b c e = rw (← e) (ap not (or_same (eqb c a)))
 
 -- ---- within a line
 
-first_stops : (p : ℕ → Bool) (c : ℕ) (v : List ℕ) → prefix_len p (c ∷ v) ≡ 0 → p c ≡ false
-first_stops p c v e = by (cases_Bool (p c))
-  where
-    by : (p c ≡ true) ⊎ (p c ≡ false) → p c ≡ false
-    by (inl t) = absurd (let e' = rw t at e in omega arith)
-    by (inr f) = f
-
+-- The class of all characters of a line but two of ASCII holds all characters beyond ASCII.
 pub flat_inside : (a b : ℕ) → a < 128 → b < 128 → Flat (is_neither_on_line a b)
 flat_inside a b p q x y h k = grind (arith, nat_tests)
 
+-- A run within a run is the run of both classes.
 both_runs : (p q : ℕ → Bool) (bs : List ℕ) → prefix_len q (take (prefix_len p bs) bs)
     ≡ prefix_len (λ x. p x && q x) bs
 both_runs p q [] = refl
@@ -133,69 +131,32 @@ both_runs p q (b ∷ bs) = by (cases_Bool (p b)) (cases_Bool (q b)) (both_runs p
         in rw (t, next, f) refl
     by (inr f) s more = rw f refl
 
+-- Equal tests have equal runs.
 same_runs : (p q : ℕ → Bool) → ((x : ℕ) → p x ≡ q x) → (bs : List ℕ)
     → prefix_len p bs ≡ prefix_len q bs
 same_runs p q same [] = refl
 same_runs p q same (b ∷ bs) = rw (same b, same_runs p q same bs) refl
 
+-- The tests of a search on a line, in another order.
 line_tests : (w x y z : Bool) → (not ((w || x) || y) && not z) ≡ (not (w || x) && not (y || z))
 line_tests true x y z = refl
 line_tests false true y z = refl
 line_tests false false true z = refl
 line_tests false false false z = refl
 
--- the search for the three and then for CR before them
+-- A search for the two characters or LF (10), and then for CR (13) before that, is a search on a
+-- line.
 pub inside_run : (a b : ℕ) (bs cs : List ℕ) (n m : ℕ)
     → n ≡ prefix_len (λ x. not ((eqb x a || eqb x b) || eqb x 10)) bs → cs ≡ take n bs
-    → m ≡ prefix_len (λ x. not (eqb x 13)) cs
-    → m ≡ prefix_len (is_neither_on_line a b) bs
+    → m ≡ prefix_len (λ x. not (eqb x 13)) cs → m ≡ prefix_len (is_neither_on_line a b) bs
 inside_run a b bs cs n m first part second =
     rw (second, part, first)
     (both_runs (λ x. not ((eqb x a || eqb x b) || eqb x 10)) (λ x. not (eqb x 13)) bs
     ∙ same_runs (λ x. not ((eqb x a || eqb x b) || eqb x 10)
-    && not (eqb x 13)) (is_neither_on_line a b) (λ x.
-    line_tests (eqb x a) (eqb x b) (eqb x 10) (eqb x 13)) bs)
+    && not (eqb x 13)) (is_neither_on_line a b)
+    (λ x. line_tests (eqb x a) (eqb x b) (eqb x 10) (eqb x 13)) bs)
 
--- a run from where a run ends is empty
-run_again : (p : ℕ → Bool) (u : List ℕ) (i : ℕ) → i ≤ length u
-    → run_end p u (run_end p u i) ≡ run_end p u i
-run_again p u i h = ap (λ n. run_end p u i + n) (by (cases_lt (run_end p u i) (length u)))
-    ∙ add-zero _
-  where
-    by : (run_end p u i < length u) ⊎ (length u ≤ run_end p u i)
-        → prefix_len p (drop (run_end p u i) u) ≡ 0
-    by (inl within) =
-        let left : length (drop i u) ≡ length u - i = length-drop i u in
-        let stops : p (get_or (drop i u) (prefix_len p (drop i u)) 0) ≡ false =
-        prefix_len_stops p (drop i u) 0 (omega arith) in
-        let here : get_or (drop i u) (prefix_len p (drop i u)) 0 ≡ get_or u (run_end p u i) 0 =
-        get_or-drop i u _ 0 in
-        prefix_len-drop_no p u (run_end p u i) 0 within (ap p (sym here) ∙ stops)
-    by (inr past) = rw (drop_past u (run_end p u i) past) refl
-
-pub stop_again : (a b : ℕ) (u : List ℕ) (i : ℕ) → i ≤ length u
-    → stop_on_line a b u (stop_on_line a b u i) ≡ stop_on_line a b u i
-unfolding stop_on_line
-stop_again a b u i h = run_again (is_neither_on_line a b) u i h
-
+-- A search on a line ends at or after its start.
 pub inside_on : (a b : ℕ) (u : List ℕ) (i : ℕ) → i ≤ stop_on_line a b u i
 unfolding stop_on_line
 inside_on a b u i = omega arith
-
--- where the run stops within a line stands one of the two
-pub inside_is : (a b : ℕ) (u : List ℕ) (i c : ℕ) → stop_on_line a b u i ≡ i → Some c ≡ slice_get u i
-    → is_line_end c ≡ false → (c ≡ a → ⊥) → c ≡ b
-unfolding stop_on_line
-inside_is a b u i c stop s plain other = by stops (cases_eq c b)
-  where
-    stops : is_neither_on_line a b c ≡ false
-    stops =
-        let within : i < length u = within_some u _ c s in
-        let none : prefix_len (is_neither_on_line a b) (drop i u) ≡ 0 = omega arith in
-        let first : drop i u ≡ c ∷ drop (i + 1) u = drop_some u i c s in
-        first_stops (is_neither_on_line a b) c (drop (i + 1) u)
-        (ap (prefix_len (is_neither_on_line a b)) (sym first) ∙ none)
-
-    by : is_neither_on_line a b c ≡ false → (c ≡ b) ⊎ (c ≡ b → ⊥) → c ≡ b
-    by t (inl e) = e
-    by t (inr n) = absurd (grind (arith, nat_tests))

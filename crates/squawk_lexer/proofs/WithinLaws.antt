@@ -1,4 +1,4 @@
--- No token ends past its text.
+-- No token ends past the end of its text.
 use Rattle.std.proofs.Common.{◌≡◌, ℕ, zero, suc, ◌+◌, ◌<◌, ◌≤◌, Bool, true, false, List, [], ◌∷◌, length, get_or, drop, None, Some, Option, option_map, unwrap_or, nat_eq, not, ◌&&◌, ◌||◌, eqb, cond, refl, arith}
 use Rattle.std.proofs.lemmas.Bool.{and_parts}
 use Rattle.std.proofs.lemmas.Bool.Decides.{nat_tests}
@@ -22,15 +22,16 @@ use Rattle.squawk_lexer.specs.Dollar.{find_end, tag_end, delimiter, delimiter_en
 use Rattle.squawk_lexer.specs.PsqlWords.{is_among, query_ending_words, pipe_words, option_words, takes_line}
 use Rattle.squawk_lexer.specs.PsqlParts.{arguments_len, arguments_end, part_rest, mark_after, is_parenthesis, ends_arguments, marked_len, marked_len_at}
 use Rattle.squawk_lexer.specs.Psql.{psql, command_word, word_end, options_end, output_start, output_end, command_end}
-use Rattle.squawk_lexer.specs.Token.{token_form as row, prefix_of, lexeme_of_form, lexeme_of_prefix, lexeme_of, lexeme_at}
+use Rattle.squawk_lexer.specs.Token.{token_form, prefix_of, lexeme_of_form, lexeme_of_prefix, lexeme_of, lexeme_at}
 use Rattle.squawk_lexer.specs.Laws.{TokensWithin, LengthsWithin}
 use Rattle.squawk_lexer.proofs.Steps.{within_read, letter_within}
 use Rattle.squawk_lexer.proofs.WordSteps.{opens_national, opens_bit, opens_byte, opens_escape, opens_string, opens_ident}
-use Rattle.squawk_lexer.proofs.StartSteps.{begin_line, begin_block, begin_dots}
+use Rattle.squawk_lexer.proofs.FormSteps.{begin_line, begin_block, begin_dots}
 use Rattle.squawk_lexer.proofs.LawLemmas.{runs_are_longest}
 
 -- ---- of two ends, either is within n
 
+-- Of two ends, two lexemes or two lengths, the chosen one is within n.
 less : (b : Bool) (x y n : ℕ) → (b ≡ true → x ≤ n) → y ≤ n → cond b x y ≤ n
 less true x y n p q = p refl
 less false x y n p q = q
@@ -45,17 +46,18 @@ found : (b : Bool) (x y : Option ℕ) (n : ℕ) → (b ≡ true → unwrap_or x 
 found true x y n p q = p refl
 found false x y n p q = q
 
--- one that is found k characters on
+-- A length found k characters later is within the text.
 on : (o : Option ℕ) (k len total : ℕ) → total ≡ len + k → unwrap_or o len ≤ len
     → unwrap_or (option_map (λ n. n + k) o) total ≤ total
 on None k len total e h = omega arith
 on (Some m) k len total e h = omega arith
 
-behind_in : (u : List ℕ) (i n : ℕ) → i ≤ length u → position_after u i ≡ n → n ≤ length u
-behind_in u i n h e = let le : position_after u i ≤ length u = grind (arith, nat_tests) in
+-- The index after a character is within the text.
+after_in : (u : List ℕ) (i n : ℕ) → i ≤ length u → position_after u i ≡ n → n ≤ length u
+after_in u i n h e = let le : position_after u i ≤ length u = grind (arith, nat_tests) in
     omega arith
 
--- a character that is read there is there
+-- A character other than NUL that was read is in the text.
 read_in : (u : List ℕ) (i c : ℕ) → 0 < c → eqb (get_or u i 0) c ≡ true → i + 1 ≤ length u
 read_in u i c some t =
     let is : 0 < get_or u i 0 = grind (arith, nat_tests) in
@@ -64,6 +66,7 @@ read_in u i c some t =
 
 -- ---- runs and numbers
 
+-- Runs and the parts of numbers end within the text.
 run_in : (class : ℕ → Bool) (u : List ℕ) (i : ℕ) → i ≤ length u → run_end class u i ≤ length u
 run_in class u i h = (runs_are_longest class u i h).within
 
@@ -74,19 +77,19 @@ digits_in digit u i h = omega (arith, len digit (drop i u), length-drop i u)
     len : (digit : ℕ → Bool) (v : List ℕ) → digits_len digit v ≤ length v
     len digit [] = omega arith
     len digit (c ∷ cs) =
-        less (digit c || (eqb c 95 && digit (get_or cs 0 0))) (1 + digits_len digit cs) 0 _ (λ t.
-        omega (arith, len digit cs)) (omega arith)
+        less (digit c || (eqb c 95 && digit (get_or cs 0 0))) (1 + digits_len digit cs) 0 _
+        (λ t. omega (arith, len digit cs)) (omega arith)
 
 junk_in : (u : List ℕ) (i : ℕ) → i ≤ length u → junk_end u i ≤ length u
-junk_in u i h = less (is_ident_start (get_or u i 0)) (run_end is_ident_cont u i) i _ (λ t.
-    run_in is_ident_cont u i h) h
+junk_in u i h = less (is_ident_start (get_or u i 0)) (run_end is_ident_cont u i) i _
+    (λ t. run_in is_ident_cont u i h) h
 
 exponent_in : (u : List ℕ) (i : ℕ) → i < length u → exponent_end u i ≤ length u
 exponent_in u i h =
     less (is_sign (get_or u (i + 1) 0) && is_digit (get_or u (i + 2) 0)) (digits_end u (i + 2)) _ _
     (λ t. digits_in is_digit u (i + 2) (signed t))
-    (less (is_digit (get_or u (i + 1) 0)) (digits_end u (i + 1)) (i + 1) _ (λ t.
-    digits_in is_digit u (i + 1) (omega arith)) (omega arith))
+    (less (is_digit (get_or u (i + 1) 0)) (digits_end u (i + 1)) (i + 1) _
+    (λ t. digits_in is_digit u (i + 1) (omega arith)) (omega arith))
   where
     signed : (is_sign (get_or u (i + 1) 0) && is_digit (get_or u (i + 2) 0)) ≡ true
         → i + 2 ≤ length u
@@ -99,8 +102,8 @@ with_exponent_in : (u : List ℕ) (i : ℕ) → i < length u → (with_exponent 
 with_exponent_in u i h = junk_in u (exponent_end u i) (exponent_in u i h)
 
 fraction_in : (u : List ℕ) (i : ℕ) → i ≤ length u → fraction_end u i ≤ length u
-fraction_in u i h = less (is_digit (get_or u i 0)) (digits_end u i) i _ (λ t.
-    digits_in is_digit u i h) h
+fraction_in u i h = less (is_digit (get_or u i 0)) (digits_end u i) i _
+    (λ t. digits_in is_digit u i h) h
 
 fractional_in : (u : List ℕ) (i : ℕ) → i ≤ length u → (fractional u i).end ≤ length u
 fractional_in u i h =
@@ -115,7 +118,7 @@ decimal_in u a h =
     (either (is_exponent_letter (get_or u a 0)) (with_exponent u a) (int Decimal false u a) _
     (λ t. with_exponent_in u a (letter_within u a t)) (junk_in u a h))
 
--- the letter of a base is there
+-- The letter of a base prefix is in the text.
 base_in : (u : List ℕ) (x y : ℕ) → 0 < x → 0 < y
     → (eqb (get_or u 0 0) 48 && (eqb (get_or u 1 0) x || eqb (get_or u 1 0) y)) ≡ true
     → 2 ≤ length u
@@ -124,13 +127,14 @@ base_in u x y p q t =
     let h : 1 < length u = within_read u 1 some in
     omega arith
 
+-- Every number ends within the text.
 number_in : (u : List ℕ) → 1 ≤ length u → (number u).end ≤ length u
 number_in u h =
-    either _ (based_int Binary u (digits_end u 2)) _ _ (λ t.
-    junk_in u (digits_end u 2) (digits_in is_digit u 2
+    either _ (based_int Binary u (digits_end u 2)) _ _
+    (λ t. junk_in u (digits_end u 2) (digits_in is_digit u 2
     (base_in u 98 66 (omega arith) (omega arith) t)))
-    (either _ (based_int Octal u (digits_end u 2)) _ _ (λ t.
-    junk_in u (digits_end u 2) (digits_in is_digit u 2
+    (either _ (based_int Octal u (digits_end u 2)) _ _
+    (λ t. junk_in u (digits_end u 2) (digits_in is_digit u 2
     (base_in u 111 79 (omega arith) (omega arith) t)))
     (either _ (based_int Hexadecimal u (hex_digits_end u 2)) (decimal_from u (digits_end u 1)) _
     (λ t. junk_in u (hex_digits_end u 2) (digits_in is_hex_digit u 2
@@ -139,6 +143,7 @@ number_in u h =
 
 -- ---- elements that close
 
+-- Quoted texts, block comments and dollar-quoted strings end within the text.
 end_in : (u : List ℕ) (i : ℕ) (o : Option ℕ) → i ≤ length u
     → unwrap_or o (length (drop i u)) ≤ length (drop i u) → end_or_text_end u i o ≤ length u
 end_in u i o h k = omega (arith, length-drop i u)
@@ -155,8 +160,8 @@ quoted_in escapes q u i h = end_in u i (quoted_len escapes q (drop i u)) h (len 
         (len cs) in
         let one = on (quoted_len escapes q (d ∷ cs)) 1 (length (d ∷ cs)) (length (c ∷ d ∷ cs))
         (omega arith) (len (d ∷ cs)) in
-        found (eqb c q) _ _ _ (λ t. found (eqb d q) _ (Some 1) _ (λ s.
-        two) (omega arith)) (found (escapes && eqb c 92) _ _ _ (λ t. two) one)
+        found (eqb c q) _ _ _ (λ t. found (eqb d q) _ (Some 1) _
+        (λ s. two) (omega arith)) (found (escapes && eqb c 92) _ _ _ (λ t. two) one)
 
 comment_in : (inner : ℕ) (v : List ℕ) → unwrap_or (comment_len inner v) (length v) ≤ length v
 comment_in inner [] = omega arith
@@ -166,8 +171,8 @@ comment_in zero (c ∷ d ∷ cs) =
     (comment_in 1 cs) in
     let one = on (comment_len 0 (d ∷ cs)) 1 (length (d ∷ cs)) (length (c ∷ d ∷ cs)) (omega arith)
     (comment_in 0 (d ∷ cs)) in
-    found (opens_comment c d) _ _ _ (λ t. in_two) (found (closes_comment c d) (Some 2) _ _ (λ t.
-    omega arith) one)
+    found (opens_comment c d) _ _ _ (λ t. in_two) (found (closes_comment c d) (Some 2) _ _
+    (λ t. omega arith) one)
 comment_in (suc n) (c ∷ d ∷ cs) =
     let in_two = on (comment_len (suc (suc n)) cs) 2 (length cs) (length (c ∷ d ∷ cs)) (omega arith)
     (comment_in (suc (suc n)) cs) in
@@ -175,8 +180,8 @@ comment_in (suc n) (c ∷ d ∷ cs) =
     on (comment_len n cs) 2 (length cs) (length (c ∷ d ∷ cs)) (omega arith) (comment_in n cs) in
     let one = on (comment_len (suc n) (d ∷ cs)) 1 (length (d ∷ cs)) (length (c ∷ d ∷ cs))
     (omega arith) (comment_in (suc n) (d ∷ cs)) in
-    found (opens_comment c d) _ _ _ (λ t. in_two) (found (closes_comment c d) _ _ _ (λ t.
-    out_two) one)
+    found (opens_comment c d) _ _ _ (λ t. in_two) (found (closes_comment c d) _ _ _
+    (λ t. out_two) one)
 
 starts_in : (v d : List ℕ) → starts_with nat_eq v d ≡ true → length d ≤ length v
 starts_in v [] e = omega arith
@@ -196,52 +201,54 @@ dollar_in u h =
     (find_in (delimiter u) (drop (tag_end u + 1) u)))
     (junk_in u (run_end is_digit u 1) (run_in is_digit u 1 h))
 
--- both characters that begin a token are there
+-- Both characters that begin a token are in the text.
 pair_in : (u : List ℕ) → 1 ≤ length u → (position_after u 0 ≡ 1)
     × (position_after u (position_after u 0) ≡ 2) → 2 ≤ length u
-pair_in u h (one, two) = behind_in u (position_after u 0) 2 (behind_in u 0 _ (omega arith) refl) two
+pair_in u h (one, two) = after_in u (position_after u 0) 2 (after_in u 0 _ (omega arith) refl) two
 
-opened_in : (s : StringPrefix) (u : List ℕ) → s
+-- Words and prefixed strings end within the text.
+prefix_in : (s : StringPrefix) (u : List ℕ) → s
     ≡ prefix_of (get_or u 0 0) (get_or u 1 0) (get_or u 2 0) → 1 ≤ length u
     → (lexeme_of_prefix s u).end ≤ length u
-opened_in National u e h = quoted_in false apostrophe u 2 (pair_in u h (opens_national u 0 refl e))
-opened_in Bit u e h = quoted_in false apostrophe u 2 (pair_in u h (opens_bit u 0 refl e))
-opened_in Byte u e h = quoted_in false apostrophe u 2 (pair_in u h (opens_byte u 0 refl e))
-opened_in Escape u e h = quoted_in true apostrophe u 2 (pair_in u h (opens_escape u 0 refl e))
-opened_in UnicodeString u e h =
+prefix_in National u e h = quoted_in false apostrophe u 2 (pair_in u h (opens_national u 0 refl e))
+prefix_in Bit u e h = quoted_in false apostrophe u 2 (pair_in u h (opens_bit u 0 refl e))
+prefix_in Byte u e h = quoted_in false apostrophe u 2 (pair_in u h (opens_byte u 0 refl e))
+prefix_in Escape u e h = quoted_in true apostrophe u 2 (pair_in u h (opens_escape u 0 refl e))
+prefix_in UnicodeString u e h =
     let (one, two, three) = opens_string u 0 refl e in
-    quoted_in false apostrophe u 3 (behind_in u (position_after u (position_after u 0)) 3
-    (behind_in u (position_after u 0) _ (behind_in u 0 _ (omega arith) refl) refl) three)
-opened_in UnicodeIdent u e h =
+    quoted_in false apostrophe u 3 (after_in u (position_after u (position_after u 0)) 3
+    (after_in u (position_after u 0) _ (after_in u 0 _ (omega arith) refl) refl) three)
+prefix_in UnicodeIdent u e h =
     let (one, two, three) = opens_ident u 0 refl e in
-    quoted_in false quotation_mark u 3 (behind_in u (position_after u (position_after u 0)) 3
-    (behind_in u (position_after u 0) _ (behind_in u 0 _ (omega arith) refl) refl) three)
-opened_in Plain u e h = run_in is_ident_cont u 1 h
+    quoted_in false quotation_mark u 3 (after_in u (position_after u (position_after u 0)) 3
+    (after_in u (position_after u 0) _ (after_in u 0 _ (omega arith) refl) refl) three)
+prefix_in Plain u e h = run_in is_ident_cont u 1 h
 
 -- ---- psql commands
 
+-- The parts of a psql command end within the text.
 args_in : (u : List ℕ) (i : ℕ) → i ≤ length u → arguments_end u i ≤ length u
 args_in u i h = omega (arith, len 0 (drop i u), length-drop i u)
   where
     len : (inside : ℕ) (v : List ℕ) → arguments_len inside v ≤ length v
     len inside [] = omega arith
-    len zero (c ∷ cs) = less (ends_arguments c) 0 (1 + arguments_len (part_rest c cs) cs) _ (λ t.
-        omega arith) (omega (arith, len (part_rest c cs) cs))
+    len zero (c ∷ cs) = less (ends_arguments c) 0 (1 + arguments_len (part_rest c cs) cs) _
+        (λ t. omega arith) (omega (arith, len (part_rest c cs) cs))
     len (suc n) (c ∷ cs) = omega (arith, len n cs)
 
 marked_in : (inside : ℕ) (mark : Option ℕ) (v : List ℕ)
     → unwrap_or (marked_len inside mark v) (length v) ≤ length v
-marked_in inside mark [] = found (is_parenthesis mark) (Some 0) None _ (λ t.
-    omega arith) (omega arith)
+marked_in inside mark [] = found (is_parenthesis mark) (Some 0) None _
+    (λ t. omega arith) (omega arith)
 marked_in zero mark (c ∷ cs) =
     let blank = on (marked_len 0 None cs) 1 (length cs) (length (c ∷ cs)) (omega arith)
     (marked_in 0 None cs) in
     let part = on (marked_len (part_rest c cs) (mark_after mark c cs) cs) 1 (length cs)
     (length (c ∷ cs)) (omega arith) (marked_in (part_rest c cs) (mark_after mark c cs) cs) in
-    found (ends_arguments c) _ _ _ (λ t. found (is_parenthesis mark) (Some 0) None _ (λ s.
-    omega arith) (omega arith))
-    (found (is_blank c) _ _ _ (λ t. found (is_parenthesis mark) (Some 0) _ _ (λ s.
-    omega arith) blank) part)
+    found (ends_arguments c) _ _ _ (λ t. found (is_parenthesis mark) (Some 0) None _
+    (λ s. omega arith) (omega arith))
+    (found (is_blank c) _ _ _ (λ t. found (is_parenthesis mark) (Some 0) _ _
+    (λ s. omega arith) blank) part)
 marked_in (suc n) mark (c ∷ cs) =
     on (marked_len n mark cs) 1 (length cs) (length (c ∷ cs)) (omega arith) (marked_in n mark cs)
 
@@ -252,20 +259,20 @@ options_in u i (Some n) h k = run_in is_blank u (i + n) (omega (arith, length-dr
 
 output_start_in : (b : Bool) (u : List ℕ) (i : ℕ) → i ≤ length u → output_start b u i ≤ length u
 output_start_in b u i h =
-    less (b && eqb (get_or u i 0) 40) (options_end u i (marked_len_at u i)) i _ (λ t.
-    options_in u i (marked_len_at u i) h (marked_in 0 None (drop i u))) h
+    less (b && eqb (get_or u i 0) 40) (options_end u i (marked_len_at u i)) i _
+    (λ t. options_in u i (marked_len_at u i) h (marked_in 0 None (drop i u))) h
 
 output_end_in : (u : List ℕ) (p : ℕ) → p ≤ length u → output_end u p ≤ length u
-output_end_in u p h = less (eqb (get_or u p 0) 124) (line_end u p) (arguments_end u p) _ (λ t.
-    run_in is_not_line_end u p h) (args_in u p h)
+output_end_in u p h = less (eqb (get_or u p 0) 124) (line_end u p) (arguments_end u p) _
+    (λ t. run_in is_not_line_end u p h) (args_in u p h)
 
 command_in : (u : List ℕ) → 1 ≤ length u → command_end u ≤ length u
 command_in u h =
     let w : word_end u ≤ length u = run_in is_command_char u 1 h in
     let i = run_end is_blank u (word_end u) in
     let options = is_among option_words (command_word u) in
-    less (takes_line (command_word u)) (line_end u (word_end u)) _ _ (λ t.
-    run_in is_not_line_end u (word_end u) w)
+    less (takes_line (command_word u)) (line_end u (word_end u)) _ _
+    (λ t. run_in is_not_line_end u (word_end u) w)
     (less (is_among pipe_words (command_word u)) (output_end u (output_start options u i))
     (arguments_end u (word_end u)) _
     (λ t. output_end_in u (output_start options u i)
@@ -274,10 +281,10 @@ command_in u h =
 
 psql_in : (u : List ℕ) → 1 ≤ length u → (psql u).end ≤ length u
 psql_in u h =
-    either (eqb (get_or u 1 0) 92) (lexeme_until (kinds.PsqlCommand false) 2) _ _ (λ t.
-    read_in u 1 92 (omega arith) t)
-    (either (eqb (get_or u 1 0) 59) (lexeme_until kinds.Semi 2) _ _ (λ t.
-    read_in u 1 59 (omega arith) t)
+    either (eqb (get_or u 1 0) 92) (lexeme_until (kinds.PsqlCommand false) 2) _ _
+    (λ t. read_in u 1 92 (omega arith) t)
+    (either (eqb (get_or u 1 0) 59) (lexeme_until kinds.Semi 2) _ _
+    (λ t. read_in u 1 59 (omega arith) t)
     (either (eqb (get_or u 1 0) 58) (lexeme_until kinds.Colon 2)
     (lexeme_until (kinds.PsqlCommand (is_among query_ending_words (command_word u)))
     (command_end u)) _
@@ -285,41 +292,43 @@ psql_in u h =
 
 -- ---- every token
 
-begun_in : (strings : Strings) (s : TokenForm) (u : List ℕ) → s ≡ row (get_or u 0 0) (get_or u 1 0)
-    → 1 ≤ length u → (lexeme_of_form strings s u).end ≤ length u
-begun_in strings Whitespace u e h = run_in is_whitespace u 0 (omega arith)
-begun_in strings LineComment u e h =
+-- The lexeme of each form ends within the text.
+form_in : (strings : Strings) (s : TokenForm) (u : List ℕ)
+    → s ≡ token_form (get_or u 0 0) (get_or u 1 0) → 1 ≤ length u
+    → (lexeme_of_form strings s u).end ≤ length u
+form_in strings Whitespace u e h = run_in is_whitespace u 0 (omega arith)
+form_in strings LineComment u e h =
     run_in is_not_line_end u 2 (pair_in u h (begin_line u 0 refl h e))
-begun_in strings BlockComment u e h =
+form_in strings BlockComment u e h =
     end_in u 2 (comment_len 0 (drop 2 u)) (pair_in u h (begin_block u 0 refl h e))
     (comment_in 0 (drop 2 u))
-begun_in strings String u e h = quoted_in _ apostrophe u 1 h
-begun_in strings QuotedIdent u e h = quoted_in false quotation_mark u 1 h
-begun_in strings Word u e h =
-    opened_in (prefix_of (get_or u 0 0) (get_or u 1 0) (get_or u 2 0)) u refl h
-begun_in strings Dollar u e h = dollar_in u h
-begun_in strings Number u e h = number_in u h
-begun_in strings DotDot u e h = pair_in u h (begin_dots u 0 refl h e)
-begun_in strings Fraction u e h = fractional_in u 1 h
-begun_in strings Psql u e h = psql_in u h
-begun_in strings Symbol u e h = h
+form_in strings String u e h = quoted_in _ apostrophe u 1 h
+form_in strings QuotedIdent u e h = quoted_in false quotation_mark u 1 h
+form_in strings Word u e h =
+    prefix_in (prefix_of (get_or u 0 0) (get_or u 1 0) (get_or u 2 0)) u refl h
+form_in strings Dollar u e h = dollar_in u h
+form_in strings Number u e h = number_in u h
+form_in strings DotDot u e h = pair_in u h (begin_dots u 0 refl h e)
+form_in strings Fraction u e h = fractional_in u 1 h
+form_in strings Psql u e h = psql_in u h
+form_in strings Symbol u e h = h
 
+-- Every token ends within the text, and so do the first n.
 pub tokens_within : TokensWithin
 tokens_within strings at_start u h =
     either (at_start && eqb (get_or u 0 0) byte_order_mark) (lexeme_until kinds.Whitespace 1)
     (lexeme_of strings u) _ (λ t. h)
-    (begun_in strings (row (get_or u 0 0) (get_or u 1 0)) u refl h)
+    (form_in strings (token_form (get_or u 0 0) (get_or u 1 0)) u refl h)
 
-pub places_within : LengthsWithin
-places_within strings at_start zero u = omega arith
-places_within strings at_start (suc n) [] = omega arith
-places_within strings at_start (suc n) (c ∷ cs) =
+pub lengths_within : LengthsWithin
+lengths_within strings at_start zero u = omega arith
+lengths_within strings at_start (suc n) [] = omega arith
+lengths_within strings at_start (suc n) (c ∷ cs) =
     let u = c ∷ cs in
     let e = (lexeme_at strings at_start u).end in
     omega (
       arith,
-      places_within strings false n (drop e u),
+      lengths_within strings false n (drop e u),
       length-drop e u,
-      tokens_within strings
-          at_start u (omega arith),
+      tokens_within strings at_start u (omega arith),
     )

@@ -1,17 +1,19 @@
--- What a byte says of the character that it begins.
+-- What the first byte of a character in UTF-8 tells about the character. A byte below 128 is an
+-- ASCII character by itself.
 use Rattle.std.specs.Prelude.{◌≡◌, ℕ, ◌+◌, ◌<◌, ◌==◌, not, List, length, slice_index}
 use Rattle.std.specs.Char.{encode_utf8}
-use Rattle.squawk_lexer.specs.Classes.{is_ident_cont}
+use Rattle.squawk_lexer.specs.Classes.{is_ident_cont, comma}
 
--- the table has `,` at each byte that an identifier does not go on with, and at no other
+-- A table of 256 entries, one for each byte, has an entry other than `,` exactly at the bytes that
+-- continue an identifier (`is_ident_cont`).
 pub record HasIdentCont (table : List ℕ) : Type 0 where
   pub len : length table ≡ 256
-  pub each : (b : ℕ) → b < 256 → not (slice_index table b == 44) ≡ is_ident_cont b
+  pub each : (b : ℕ) → b < 256 → not (slice_index table b == comma) ≡ is_ident_cont b
 
--- the first byte of a character in UTF-8, which is the character itself where it is ASCII
+-- The first byte of the UTF-8 encoding of c: c itself where c is ASCII.
 unfoldable pub first_byte : ℕ → ℕ
 first_byte c = slice_index (encode_utf8 c) 0
 
--- the n characters of u from i on are ASCII
+-- The n characters of u from index i on are ASCII.
 abbrev pub IsAsciiRun : List ℕ → ℕ → ℕ → Type 0
 IsAsciiRun u i n = (k : ℕ) → k < n → slice_index u (i + k) < 128

@@ -1,28 +1,30 @@
--- Gaps between tokens: white and comments. Which gap follows a token does not change it.
+-- A gap is the white space and the comments between two tokens. Which gap follows a token does not
+-- change the token.
 use Rattle.std.specs.Prelude.{◌≡◌, ℕ, ◌+◌, Bool, true, false, ◌&&◌, ◌||◌, ◌==◌, List, ◌∷◌, ◌++◌, take, drop, slice_index, ◌⊎◌}
 use Rattle.squawk_lexer.specs.declared.token.Strings.{Strings}
-use Rattle.squawk_lexer.specs.Classes.{is_whitespace, is_line_end, line_feed}
+use Rattle.squawk_lexer.specs.Classes.{is_whitespace, is_line_end, line_feed, space, minus, slash, asterisk}
 use Rattle.squawk_lexer.specs.Token.{lexeme_at}
 use Rattle.squawk_lexer.specs.Cut.{is_trivia}
 
--- whether white, `--` or `/*` begins the text
+-- Whether the text begins with white space, `--` or `/*`.
 abbrev pub begins_gap : List ℕ → Bool
 begins_gap u =
     is_whitespace (slice_index u 0)
-    || ((slice_index u 0 == 45 && slice_index u 1 == 45)  -- two -
-    || (slice_index u 0 == 47 && slice_index u 1 == 42))  -- / and *
+    || ((slice_index u 0 == minus && slice_index u 1 == minus)
+    || (slice_index u 0 == slash && slice_index u 1 == asterisk))
 
--- which says whether the first token of a text, other than a leading U+FEFF, is white or a comment
+-- A text begins with a gap exactly where its first token is trivia, but for a leading byte order
+-- mark.
 abbrev pub GapsAreSeen : Type 0
 GapsAreSeen = (strings : Strings) (u : List ℕ)
     → is_trivia (lexeme_at strings false u).kind ≡ begins_gap u
 
--- a space, or LF
+-- A space or LF: what a gap can be replaced with.
 abbrev pub IsGap : ℕ → Type 0
-IsGap g = (g ≡ 32) ⊎ (g ≡ line_feed)
+IsGap g = (g ≡ space) ⊎ (g ≡ line_feed)
 
--- where a gap follows a token that is none itself, it stays with a space or LF in the place of the
--- gap, and any text behind that; with LF alone where the gap begins with LF or CR
+-- A token that is no trivia and that a gap follows stays the same where a space or LF, and any text
+-- after that, replaces the gap. Where the gap begins with LF or CR, only LF may replace it.
 abbrev pub TokensStay : Type 0
 TokensStay =
     (strings : Strings) (at_start : Bool) (u : List ℕ) (g : ℕ) (rest : List ℕ)
@@ -33,7 +35,7 @@ TokensStay =
     → lexeme_at strings at_start (take (lexeme_at strings at_start u).end u ++ g ∷ rest)
     ≡ lexeme_at strings at_start u
 
--- and so does a token that a gap follows behind one more character
+-- A token stays the same where the gap that is replaced begins one character after its end.
 abbrev pub TokensStayBefore : Type 0
 TokensStayBefore =
     (strings : Strings) (at_start : Bool) (u : List ℕ) (g : ℕ) (rest : List ℕ)

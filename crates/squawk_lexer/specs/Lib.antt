@@ -1,26 +1,29 @@
+-- Definitions that public contracts cite.
 pub mod Text
 pub mod Classes
-pub mod Bytes
-pub mod Position
+pub mod Kind
+pub mod Token
+pub mod Cut
+pub mod LookAhead
+pub mod Laws
+pub mod QuotedLaws
+pub mod PsqlArguments
+pub mod Gaps
+pub mod Flags
+-- The forms of tokens, which `Token` rests on.
 pub mod Runs
-pub mod Stops
 pub mod Quoted
 pub mod Comment
-pub mod CursorModel
-pub mod Kind
 pub mod Numbers
 pub mod Symbols
 pub mod Dollar
 pub mod PsqlWords
 pub mod PsqlParts
-pub mod PsqlQuotes
-pub mod PsqlArguments
 pub mod Psql
-pub mod Token
-pub mod Cut
+-- Definitions for private functions.
+pub mod Bytes
+pub mod Position
+pub mod CursorModel
 pub mod TokensModel
-pub mod Laws
-pub mod LookAhead
-pub mod QuotedLaws
-pub mod Gaps
-pub mod Flags
+pub mod PsqlQuotes
+pub mod Stops

@@ -1,7 +1,7 @@
 //! Laws that the definitions of the grammar obey. Each is the clause of a function that does
 //! nothing.
 ghost use Rattle.std.specs.Prelude.{◌≡◌, ◌∷◌, []};
-ghost use Rattle.squawk_lexer.specs.Laws.{RunsAreLongest, RunsAreUnique, TokensProgress, TokensWithin, LengthsAddUp, LengthsWithin, TokensRestart, FirstOccurrenceIsFound, NoOccurrenceIsMissed, CommentsBalance, OpenCommentsStayOpen};
+ghost use Rattle.squawk_lexer.specs.Laws.{RunsAreLongest, RunsAreUnique, TokensProgress, TokensWithin, LengthsAddUp, LengthsWithin, TokensRestart, UnknownIsControl, UnknownIsOneCharacter, FirstOccurrenceIsFound, NoOccurrenceIsMissed, CommentsBalance, OpenCommentsStayOpen};
 ghost use Rattle.squawk_lexer.specs.Flags.{FlagsLieWithin, TokensAreCut};
 ghost use Rattle.squawk_lexer.specs.LookAhead.{LexemesLookAhead, TokensLookAhead, TextsLookAhead, TextsProgress, TextsRestart, StatementsStandAlone};
 ghost use Rattle.squawk_lexer.specs.QuotedLaws.{QuotedEndsFirst, QuotedEndIsUnique, DigitsAreLongest};
@@ -34,6 +34,13 @@ pub fn places_add_up()
 pub fn tokens_restart()
     ensures chars { TokensRestart }
     ensures texts { TextsRestart }
+{}
+
+/// A token is `Unknown` exactly where it begins with an ASCII control character other than white
+/// space, and it is that one character.
+pub fn unknown_is_control()
+    ensures exactly { UnknownIsControl }
+    ensures one { UnknownIsOneCharacter }
 {}
 
 /// A dollar string ends behind the first place where its delimiter stands, and is open only where

@@ -123,7 +123,7 @@ impl<'a> Cursor<'a> {
     }
 
     /// Moves behind the token at the front.
-    #[tactic(auto, using(crate::proofs::StartSteps::start_steps))]
+    #[tactic(auto, using(crate::proofs::FormSteps::form_steps))]
     fn advance_token(&mut self, strings: Strings) -> TokenKind
         requires at { self.old.at ≡ 0 }
         requires some { 0 < length self.old.text }

@@ -1,4 +1,6 @@
-use Rattle.squawk_lexer.proofs.GapLaws.{gaps_are_seen, tokens_stay, tokens_stay_before}
+use Rattle.squawk_lexer.proofs.GapLaws.{tokens_stay}
+use Rattle.squawk_lexer.proofs.GapStarts.{gaps_are_seen}
+use Rattle.squawk_lexer.proofs.GapTests.{tokens_stay_before}
 use Rattle.squawk_lexer.proofs.laws.tokens_stay.Goals as goal
 
 pub returns-clause-near : goal.returns-clause-near

@@ -1,7 +1,7 @@
-use Rattle.squawk_lexer.proofs.AheadBytes.{texts_look_ahead, restarts_at, parts_at}
+use Rattle.squawk_lexer.proofs.AheadBytes.{texts_look_ahead, restarts_at, splits_at}
 use Rattle.std.proofs.Common.{◌<◌, length, drop, arith, subst, IsUtf8}
 use Rattle.std.specs.Str.{chars}
-use Rattle.squawk_lexer.proofs.Chars.{some_chars}
+use Rattle.squawk_lexer.proofs.CursorRest.{some_chars}
 use Rattle.squawk_lexer.proofs.TokenLaws.{token_positive, token_never_eof}
 use Rattle.squawk_lexer.proofs.CutLaws.{token_boundary, token_then}
 use Rattle.squawk_lexer.proofs.lexer.cut_at_in.Goals as goal
@@ -43,4 +43,4 @@ returns-clause-restarts c = restarts_at c.args.strings c.args.input.now c.args.a
 
 pub returns-clause-parts : goal.returns-clause-parts
 returns-clause-parts c =
-    parts_at c.args.strings c.args.input.now c.args.at c.utf8.input c.requires.boundary
+    splits_at c.args.strings c.args.input.now c.args.at c.utf8.input c.requires.boundary

@@ -1,5 +1,5 @@
-use Rattle.squawk_lexer.proofs.ByteClasses.{HasIdCont-ID_CONT}
+use Rattle.squawk_lexer.proofs.ByteClasses.{ident_cont_table}
 use Rattle.squawk_lexer.proofs.scan.id_cont.Goals as goal
 
 pub returns : goal.returns
-returns c = HasIdCont-ID_CONT
+returns c = ident_cont_table

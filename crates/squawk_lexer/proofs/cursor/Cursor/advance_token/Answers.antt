@@ -1,12 +1,12 @@
 use Rattle.std.proofs.Common.{sym, ◌∙◌}
 use Rattle.squawk_lexer.specs.declared.lexer.TokenForm.TheVariants.{String}
-use Rattle.squawk_lexer.proofs.Steps.{behind_within}
-use Rattle.squawk_lexer.proofs.StartSteps.{row}
+use Rattle.squawk_lexer.proofs.Steps.{after_within}
+use Rattle.squawk_lexer.proofs.FormSteps.{form_lexeme}
 use Rattle.squawk_lexer.proofs.cursor.Cursor.advance_token.Goals as goal
 
 pub returns-in-String-clause-gives : goal.returns-in-String-clause-gives
 returns-in-String-clause-gives c =
-    let is_row = row c.args.strings c.args.self.now.text String (sym c.in-String.is
+    let is_row = form_lexeme c.args.strings c.args.self.now.text String (sym c.in-String.is
     ∙ c.begins.ensures) in
     rw (
       c.literal.ensures,
@@ -16,5 +16,5 @@ returns-in-String-clause-gives c =
       c.bump-in-String.ensures.text,
       c.bump-in-String.ensures.at,
       c.requires.at,
-      behind_within c.args.self.now.text 0 c.requires.some,
+      after_within c.args.self.now.text 0 c.requires.some,
     ) (sym is_row)

@@ -1,25 +1,25 @@
 use Rattle.std.proofs.Common.{refl}
 use Rattle.squawk_lexer.proofs.ByteRuns.{skipped}
-use Rattle.squawk_lexer.proofs.NeedleSteps.{through_some, through_none, skip_all}
+use Rattle.squawk_lexer.proofs.DelimiterSearch.{through_some, through_none, skip_all}
 use Rattle.squawk_lexer.proofs.cursor.Cursor.eat_through.Goals as goal
 
 pub range_from-self-inside-requires : goal.range_from-self-inside-requires
 range_from-self-inside-requires c =
     let (n, t) = through_some _ _ _ _ _ _ c.self.invariant c.utf8.delimiter c.requires.first
     c.as_bytes.ensures.value c.as_bytes-2.ensures.value c.in-Some.ensures in
-    λ _. t.behind.boundary
+    λ _. t.after.boundary
 
 pub invariant_of-self : goal.invariant_of-self
 invariant_of-self c =
     let (n, t) = through_some _ _ _ _ _ _ c.self.invariant c.utf8.delimiter c.requires.first
     c.as_bytes.ensures.value c.as_bytes-2.ensures.value c.in-Some.ensures in
-    (skipped _ _ _ _ _ t.behind c.range_from-self-inside.ensures.value).0
+    (skipped _ _ _ _ _ t.after c.range_from-self-inside.ensures.value).0
 
 pub returns-in-Some-clause-at : goal.returns-in-Some-clause-at
 returns-in-Some-clause-at c =
     let (n, t) = through_some _ _ _ _ _ _ c.self.invariant c.utf8.delimiter c.requires.first
     c.as_bytes.ensures.value c.as_bytes-2.ensures.value c.in-Some.ensures in
-    rw (← c.self.view_is, t.found) (skipped _ _ _ _ _ t.behind
+    rw (← c.self.view_is, t.found) (skipped _ _ _ _ _ t.after
     c.range_from-self-inside.ensures.value).1
 
 pub returns-in-Some-clause-found : goal.returns-in-Some-clause-found

@@ -1,4 +1,4 @@
-use Rattle.squawk_lexer.proofs.Backwards.{last_taken}
+use Rattle.squawk_lexer.proofs.LastChar.{last_taken}
 use Rattle.squawk_lexer.proofs.cursor.Cursor.previous.Goals as goal
 
 pub returns : goal.returns

@@ -1,5 +1,5 @@
 use Rattle.std.proofs.Common.{refl}
-use Rattle.squawk_lexer.proofs.Steps.{behind_within}
+use Rattle.squawk_lexer.proofs.Steps.{after_within}
 use Rattle.squawk_lexer.proofs.ByteReads.{first_read, symbol_lead}
 use Rattle.squawk_lexer.proofs.cursor.Cursor.symbol.Goals as goal
 
@@ -8,4 +8,4 @@ returns-clause-gives c =
     let first = first_read c.args.self.now.text c.args.self.now.at c.byte.result c.requires.at
     c.byte.ensures in
     rw (c.symbol_of-kind.ensures, symbol_lead _ _ first, c.bump.ensures.at, c.requires.at)
-    (rw (behind_within c.args.self.now.text 0 c.requires.some) refl)
+    (rw (after_within c.args.self.now.text 0 c.requires.some) refl)

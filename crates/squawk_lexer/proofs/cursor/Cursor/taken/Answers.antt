@@ -1,4 +1,4 @@
-use Rattle.squawk_lexer.proofs.DollarChars.{taken}
+use Rattle.squawk_lexer.proofs.TakenText.{taken}
 use Rattle.squawk_lexer.proofs.cursor.Cursor.taken.Goals as goal
 
 pub overflow_sub-self-inside : goal.overflow_sub-self-inside

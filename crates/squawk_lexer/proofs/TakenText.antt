@@ -1,4 +1,4 @@
--- The text that comes before a place.
+-- The text before the position of a cursor.
 use Rattle.std.proofs.Common.{◌≡◌, ℕ, ◌+◌, ◌-◌, ◌≤◌, true, List, ◌++◌, length, take, drop, length-append, sym, ◌∙◌, ap, arith, IsUtf8}
 use Rattle.std.proofs.lemmas.List.{take-append-drop, take_at}
 use Rattle.std.proofs.lemmas.Str.{IsUtf8-from_is_utf8, is_utf8-from_IsUtf8, encodes-chars, encodes-append, chars-append, IsCharBoundary-at_seam, IsUtf8-take}
@@ -6,10 +6,12 @@ use Rattle.std.specs.List.{slice_range}
 use Rattle.std.specs.Str.{chars, is_utf8, encode_utf8_all, IsCharBoundary}
 use Rattle.squawk_lexer.specs.CursorModel.{IsRest, chars_before}
 
--- how many bytes come before rest
+-- The number of bytes before the rest.
 abbrev before : List ℕ → List ℕ → ℕ
 before token rest = length token - length rest
 
+-- The bytes before the rest are UTF-8, end at a character boundary, and have the characters before
+-- it.
 pub record IsTaken (token rest : List ℕ) : Type 0 where
   pub within : length rest ≤ length token
   pub boundary : IsCharBoundary token (before token rest)
@@ -17,6 +19,7 @@ pub record IsTaken (token rest : List ℕ) : Type 0 where
       ≡ take (chars_before token rest) (chars token)
   pub utf8 : is_utf8 (slice_range token 0 (before token rest)) ≡ true
 
+-- They are so before every rest.
 pub taken : (token rest : List ℕ) → IsRest token rest → IsTaken token rest
 taken token rest r =
     let all : IsUtf8 token = IsUtf8-from_is_utf8 token r.token_utf8 in
@@ -44,12 +47,12 @@ taken token rest r =
     let cut_lengths : length (chars token) ≡ length (chars front) + length (chars rest) =
     ap length cut ∙ length-append (chars front) (chars rest) in
     let chars_at : length (chars front) ≡ k = omega arith in
-    let front_chars : take k (chars token) ≡ chars front = ap (take k) cut
+    let prefix_chars : take k (chars token) ≡ chars front = ap (take k) cut
     ∙ take_at (chars front) (chars rest) k chars_at in
     let from_0 : before token rest - 0 ≡ before token rest = omega arith in
     record {
       within = omega arith;
       boundary = boundary;
-      is = rw from_0 (ap chars front_is ∙ sym front_chars);
+      is = rw from_0 (ap chars front_is ∙ sym prefix_chars);
       utf8 = rw from_0 (is_utf8-from_IsUtf8 _ utf8);
     }

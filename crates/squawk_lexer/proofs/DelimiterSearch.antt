@@ -1,5 +1,5 @@
--- A delimiter that begins with `$` stands among the characters of a text where its bytes stand
--- among the text's bytes.
+-- A search for the bytes of a delimiter, which begins with `$` (36), finds its first occurrence
+-- among the characters.
 use Rattle.std.proofs.Common.{◌≡◌, ℕ, zero, suc, ◌+◌, ◌-◌, ◌<◌, ◌≤◌, true, false, List, [], ◌∷◌, ◌++◌, length, get_or, take, drop, None, Some, nat_eq, refl, sym, ◌∙◌, ap, subst, inl, inr, ◌⊎◌, eq-eqb, arith, length-append, append_assoc, IsUtf8}
 use Rattle.std.proofs.lemmas.Bool.{cases_lt, cases_eq, cases_Bool}
 use Rattle.std.proofs.lemmas.Bool.Decides.{nat_tests}
@@ -15,12 +15,13 @@ use Rattle.memchr.specs.Find.{OccursAt, FindsNeedle}
 use Rattle.squawk_lexer.specs.Text.{utf8_len}
 use Rattle.squawk_lexer.specs.Dollar.{find_end}
 use Rattle.squawk_lexer.specs.Laws.{IsFirstOccurrence}
-use Rattle.squawk_lexer.proofs.Chars.{length-encodes, length-bytes}
+use Rattle.squawk_lexer.proofs.CursorRest.{length_encodes, length_bytes, fewer_bytes}
 use Rattle.squawk_lexer.specs.CursorModel.{IsRest, chars_before}
 use Rattle.squawk_lexer.proofs.ByteRuns.{some_bytes, IsSkip, skip}
 
 -- ---- from characters to bytes
 
+-- A text that begins with d is d and a rest.
 begins : (d v : List ℕ) → starts_with nat_eq v d ≡ true → v ≡ d ++ drop (length d) v
 begins [] v e = refl
 begins (c ∷ d) [] e = absurd (cc)
@@ -29,7 +30,7 @@ begins (c ∷ d) (x ∷ v) e =
     let rest : starts_with nat_eq v d ≡ true = grind (arith, nat_tests) in
     ap (λ y. y ∷ v) (sym first) ∙ ap (λ w. c ∷ w) (begins d v rest)
 
--- where d stands behind k characters, the text goes on so
+-- Where d occurs after k characters, the bytes of the text are those of three parts.
 parted : (d v : List ℕ) (k : ℕ) → starts_with nat_eq (drop k v) d ≡ true
     → encode_utf8_all v ≡ encode_utf8_all (take k v)
     ++ (encode_utf8_all d ++ encode_utf8_all (drop (length d) (drop k v)))
@@ -38,13 +39,14 @@ parted d v k e =
     ∙ ap (λ x. encode_utf8_all (take k v) ++ x) (ap encode_utf8_all (begins d (drop k v) e)
     ∙ encodes-append d (drop (length d) (drop k v)))
 
+-- The bytes of d occur where its characters do.
 occurs : (d v : List ℕ) (k : ℕ) → starts_with nat_eq (drop k v) d ≡ true
     → OccursAt (encode_utf8_all v) (encode_utf8_all d) (utf8_len (take k v))
 occurs d v k e =
     let front = encode_utf8_all (take k v) in
     let back = encode_utf8_all d ++ encode_utf8_all (drop (length d) (drop k v)) in
     let seam : encode_utf8_all v ≡ front ++ back = parted d v k e in
-    let n : length front ≡ utf8_len (take k v) = length-encodes (take k v) in
+    let n : length front ≡ utf8_len (take k v) = length_encodes (take k v) in
     let all : length (encode_utf8_all v) ≡ length front + length back = ap length seam
     ∙ length-append front back in
     let rest : length back ≡ length (encode_utf8_all d)
@@ -60,10 +62,11 @@ occurs d v k e =
 
 -- ---- from bytes to characters
 
-front_chars : (d v bs : List ℕ) → encode_utf8_all v ≡ encode_utf8_all d ++ bs
+-- A text whose bytes begin with those of d begins with d.
+prefix_chars : (d v bs : List ℕ) → encode_utf8_all v ≡ encode_utf8_all d ++ bs
     → starts_with nat_eq v d ≡ true
-front_chars [] v bs e = refl
-front_chars (c ∷ d) [] bs e = absurd (none)
+prefix_chars [] v bs e = refl
+prefix_chars (c ∷ d) [] bs e = absurd (none)
   where
     none : ⊥
     none =
@@ -74,17 +77,18 @@ front_chars (c ∷ d) [] bs e = absurd (none)
         ≡ length (encode_utf8 c) + length (encode_utf8_all d) =
         length-append (encode_utf8 c) (encode_utf8_all d) in
         omega arith
-front_chars (c ∷ d) (x ∷ v) bs e =
+prefix_chars (c ∷ d) (x ∷ v) bs e =
     let both = encode_same x c (encode_utf8_all v) (encode_utf8_all d ++ bs) (e
     ∙ append_assoc (encode_utf8 c) (encode_utf8_all d) bs) in
-    rw (eq-eqb c x (sym both.0)) (front_chars d v bs both.1)
+    rw (eq-eqb c x (sym both.0)) (prefix_chars d v bs both.1)
 
--- d stands behind the first k characters of v, which take b bytes
+-- d occurs after the first k characters of v, which take b bytes.
 pub record IsThere (d v : List ℕ) (b k : ℕ) : Type 0 where
   pub is : b ≡ utf8_len (take k v)
   pub within : k < length v
   pub stands : starts_with nat_eq (drop k v) d ≡ true
 
+-- The bytes of a delimiter are not empty, and begin with `$`.
 some_needle : (t : List ℕ) → 0 < length (encode_utf8_all (36 ∷ t))
 some_needle t = let e = length-append (encode_utf8 36) (encode_utf8_all t) in let some =
     some_bytes 36 in omega arith
@@ -92,11 +96,12 @@ some_needle t = let e = length-append (encode_utf8 36) (encode_utf8_all t) in le
 first_needle : (t : List ℕ) → get_or (encode_utf8_all (36 ∷ t)) 0 0 ≡ 36
 first_needle t = rw (encode_ascii 36 (omega arith)) refl
 
+-- The characters of a delimiter occur where its bytes do.
 there : (t v : List ℕ) (b : ℕ) → OccursAt (encode_utf8_all v) (encode_utf8_all (36 ∷ t)) b → (k : ℕ)
     × IsThere (36 ∷ t) v b k
 there t [] b o = absurd (let fits = o.fits in let some = some_needle t in omega arith)
-there t (c ∷ cs) b o = by (cases_eq b 0) (cases_lt b (length (encode_utf8 c))) (λ m p.
-    there t cs m p)
+there t (c ∷ cs) b o = by (cases_eq b 0) (cases_lt b (length (encode_utf8 c)))
+    (λ m p. there t cs m p)
   where
     d : List ℕ
     d = 36 ∷ t
@@ -113,7 +118,8 @@ there t (c ∷ cs) b o = by (cases_eq b 0) (cases_lt b (length (encode_utf8 c)))
         (encode_utf8_all (c ∷ cs)) =
         at_from_reads 0 (encode_utf8_all (c ∷ cs)) (encode_utf8_all (36 ∷ t)) 0 (rw e at o.fits)
         (rw e at o.reads) in
-        (0, record { is = e; within = omega arith; stands = front_chars (36 ∷ t) (c ∷ cs) _ front })
+        let stands = prefix_chars (36 ∷ t) (c ∷ cs) _ front in
+        (0, record { is = e; within = omega arith; stands = stands })
     by (inr n) (inl inside) more = absurd (
         let some = some_needle t in
         let read = o.reads 0 some in
@@ -144,14 +150,14 @@ there t (c ∷ cs) b o = by (cases_eq b 0) (cases_lt b (length (encode_utf8 c)))
           suc k,
           record {
             is = omega (arith, sum_by-cons len_utf8 c (take k cs));
-            within =
-                omega (arith, r.within);
+            within = omega (arith, r.within);
             stands = r.stands;
           },
         )
 
--- ---- the first place
+-- ---- the first occurrence
 
+-- `find_end` at a first occurrence, and where there is none.
 find_is : (d v : List ℕ) (k : ℕ) → IsFirstOccurrence d v k → k < length v
     → find_end d v ≡ Some (k + length d)
 find_is d [] k f h = absurd (omega arith)
@@ -160,8 +166,7 @@ find_is d (c ∷ v) (suc k) f h =
     let before : starts_with nat_eq (c ∷ v) d ≡ false = f.first 0 (omega arith) in
     let rest : IsFirstOccurrence d v k = record {
       stands = f.stands;
-      first = λ j below.
-          f.first (suc j) (omega arith);
+      first = λ j below. f.first (suc j) (omega arith);
     } in
     rw (before, find_is d v k rest (omega arith)) (ap Some (omega arith))
 
@@ -170,25 +175,11 @@ find_none : (d v : List ℕ) → ((k : ℕ) → k < length v → starts_with nat
 find_none d [] nowhere = refl
 find_none d (c ∷ v) nowhere = rw (
   nowhere 0 (omega arith),
-  find_none d v (λ k h.
-      nowhere (suc k) (omega arith)),
+  find_none d v
+      (λ k h. nowhere (suc k) (omega arith)),
 ) refl
 
-pub fewer_bytes : (v : List ℕ) (j k : ℕ) → j < k → k ≤ length v
-    → utf8_len (take j v) < utf8_len (take k v)
-fewer_bytes v j zero h w = absurd (omega arith)
-fewer_bytes [] j (suc k) h w = absurd (omega arith)
-fewer_bytes (c ∷ v) zero (suc k) h w =
-    omega (arith, sum_by-cons len_utf8 c (take k v), (len_utf8_bounds c).0)
-fewer_bytes (c ∷ v) (suc j) (suc k) h w =
-    omega (
-      arith,
-      sum_by-cons len_utf8 c (take k v),
-      sum_by-cons len_utf8 c (take j v),
-      fewer_bytes
-          v j k (omega arith) (omega arith),
-    )
-
+-- A prefix takes no more bytes than the text.
 bytes_within : (v : List ℕ) (k : ℕ) → utf8_len (take k v) ≤ length (encode_utf8_all v)
 bytes_within v k =
     let all : length (encode_utf8_all v)
@@ -196,8 +187,9 @@ bytes_within v k =
     ap length (ap encode_utf8_all (sym (take-append-drop k v))
     ∙ encodes-append (take k v) (drop k v))
     ∙ length-append (encode_utf8_all (take k v)) (encode_utf8_all (drop k v)) in
-    omega (arith, all, length-encodes (take k v))
+    omega (arith, all, length_encodes (take k v))
 
+-- d does not occur where its bytes do not.
 not_there : (d v : List ℕ) (k : ℕ)
     → (OccursAt (encode_utf8_all v) (encode_utf8_all d) (utf8_len (take k v)) → ⊥)
     → starts_with nat_eq (drop k v) d ≡ false
@@ -208,14 +200,14 @@ not_there d v k absent = by (cases_Bool (starts_with nat_eq (drop k v) d))
     by (inl e) = absurd (absent (occurs d v k e))
     by (inr e) = e
 
--- a search of the bytes finds nothing
+-- The search finds nothing.
 pub needle_none : (t v : List ℕ) → FindsNeedle (encode_utf8_all v) (encode_utf8_all (36 ∷ t)) 0 None
     → find_end (36 ∷ t) v ≡ None
-needle_none t v nowhere = find_none (36 ∷ t) v (λ k h.
-    not_there (36 ∷ t) v k (nowhere (utf8_len (take k v)) (omega arith)
+needle_none t v nowhere = find_none (36 ∷ t) v
+    (λ k h. not_there (36 ∷ t) v k (nowhere (utf8_len (take k v)) (omega arith)
     (omega (arith, bytes_within v k))))
 
--- it finds a place: so many characters come up to the end of the delimiter there
+-- The search finds offset b: the delimiter ends after n characters.
 pub needle_some : (t v : List ℕ) (b : ℕ)
     → FindsNeedle (encode_utf8_all v) (encode_utf8_all (36 ∷ t)) 0 (Some b)
     → (n : ℕ) × (find_end (36 ∷ t) v ≡ Some n) × (n ≤ length v)
@@ -240,15 +232,16 @@ needle_some t v b (first, here) =
     ∙ take_at (take k v ++ d) rest (k + length d) front in
     let sum : utf8_len (take (k + length d) v) ≡ utf8_len (take k v) + utf8_len d =
     ap utf8_len taken ∙ sum_by-append len_utf8 (take k v) d in
-    (k + length d, found, omega arith, omega (arith, sum, r.is, length-encodes d))
+    (k + length d, found, omega arith, omega (arith, sum, r.is, length_encodes d))
 
--- ---- the same with the premises that the code has
+-- ---- in the form in which the code has it
 
--- behind the place b of the needle, n characters of the text are passed
+-- The needle that was found at offset b of the rest ends after n characters of it.
 pub record IsThrough (token rest needle : List ℕ) (b n : ℕ) : Type 0 where
   pub found : find_end (chars needle) (drop (chars_before token rest) (chars token)) ≡ Some n
-  pub behind : IsSkip token rest (b + length needle) (chars_before token rest + n)
+  pub after : IsSkip token rest (b + length needle) (chars_before token rest + n)
 
+-- The bytes of a needle that begins with `$`.
 needle_is : (needle : List ℕ) → IsUtf8 needle → get_or (chars needle) 0 0 ≡ 36 → (t : List ℕ)
     × (chars needle ≡ 36 ∷ t) × (needle ≡ encode_utf8_all (36 ∷ t))
 needle_is needle utf8 first = by (chars needle) refl first
@@ -260,6 +253,7 @@ needle_is needle utf8 first = by (chars needle) refl first
         let is : chars needle ≡ 36 ∷ t = e ∙ ap (λ x. x ∷ t) f in
         (t, is, sym (encodes-chars needle utf8) ∙ ap encode_utf8_all is)
 
+-- The search finds an offset, or nothing.
 pub through_some : (token rest needle hay pin : List ℕ) (b : ℕ) → IsRest token rest → IsUtf8 needle
     → get_or (chars needle) 0 0 ≡ 36 → hay ≡ rest → pin ≡ needle
     → FindsNeedle hay pin 0 (Some b) → (n : ℕ) × IsThrough token rest needle b n
@@ -274,11 +268,10 @@ through_some token rest needle hay pin b r utf8 first same alike finds =
     let len : utf8_len (take n (chars rest)) ≡ b + length needle = behind
     ∙ ap (λ x. b + length x) (sym bytes_are) in
     let s = skip token rest n r within in
-    (n, record { found = rw (is, ← r.is) found; behind = rw (← len) s })
+    (n, record { found = rw (is, ← r.is) found; after = rw (← len) s })
 
 pub through_none : (token rest needle hay pin : List ℕ) → IsRest token rest → IsUtf8 needle
-    → get_or (chars needle) 0 0 ≡ 36 → hay ≡ rest → pin ≡ needle
-    → FindsNeedle hay pin 0 None
+    → get_or (chars needle) 0 0 ≡ 36 → hay ≡ rest → pin ≡ needle → FindsNeedle hay pin 0 None
     → find_end (chars needle) (drop (chars_before token rest) (chars token)) ≡ None
 through_none token rest needle hay pin r utf8 first same alike finds =
     let (t, is, bytes_are) = needle_is needle utf8 first in
@@ -289,14 +282,14 @@ through_none token rest needle hay pin r utf8 first same alike finds =
     ∙ rest_is) (subst (λ x. FindsNeedle hay x 0 None) (alike ∙ bytes_are) finds) in
     rw (is, ← r.is) (needle_none t (chars rest) search)
 
--- all that is left is passed
+-- All that is left is skipped.
 pub skip_all : (token rest : List ℕ) → IsRest token rest
-    → IsSkip token rest (length rest) (chars_before token rest
-    + length (drop (chars_before token rest) (chars token)))
+    → IsSkip token rest (length rest)
+    (chars_before token rest + length (drop (chars_before token rest) (chars token)))
 skip_all token rest r =
     let utf8 = IsUtf8-from_is_utf8 rest r.rest_utf8 in
     let all : utf8_len (take (length (chars rest)) (chars rest)) ≡ length rest =
-    ap utf8_len (take_all (chars rest)) ∙ sym (length-bytes rest r.rest_utf8) in
+    ap utf8_len (take_all (chars rest)) ∙ sym (length_bytes rest r.rest_utf8) in
     let s = skip token rest (length (chars rest)) r (omega arith) in
     rw (← all, ← r.is) s
   where
