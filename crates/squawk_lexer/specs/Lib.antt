@@ -3,6 +3,7 @@ pub mod Classes
 pub mod Bytes
 pub mod Position
 pub mod Runs
+pub mod Digits
 pub mod Stops
 pub mod Quoted
 pub mod Comment
@@ -18,6 +19,7 @@ pub mod PsqlArguments
 pub mod Psql
 pub mod Token
 pub mod Cut
+pub mod Edges
 pub mod TokensModel
 pub mod Laws
 pub mod LookAhead
