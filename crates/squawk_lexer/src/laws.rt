@@ -1,89 +1,93 @@
 //! Laws of the lexical grammar. Each is a clause of a function that does nothing, so that other
 //! crates can cite it; the definitions in the clauses hold for every text.
-ghost use Rattle.std.specs.Prelude.{◌≡◌, ◌∷◌, []};
-ghost use Rattle.squawk_lexer.specs.Laws.{RunsAreLongest, RunsAreUnique, TokensProgress, TokensWithin, LengthsAddUp, LengthsWithin, TokensRestart, FirstOccurrenceIsFound, NoOccurrenceIsMissed, CommentsBalance, OpenCommentsStayOpen};
+ghost use Rattle.std.specs.Prelude.{◌≡◌, ◌&&◌, ◌==◌, ◌∷◌, [], true};
+ghost use Rattle.std.specs.Ordering.{nat_cmp};
+ghost use Rattle.squawk_lexer.specs.Laws as spec;
+ghost use Rattle.squawk_lexer.specs.LookAhead as ahead;
+ghost use Rattle.squawk_lexer.specs.PsqlArguments as psql;
 ghost use Rattle.squawk_lexer.specs.Flags.{FlagsLieWithin, TokensAreCut};
-ghost use Rattle.squawk_lexer.specs.LookAhead.{LexemesLookAhead, TokensLookAhead, TextsLookAhead, TextsProgress, TextsRestart, StatementsStandAlone};
 ghost use Rattle.squawk_lexer.specs.QuotedLaws.{QuotedEndsFirst, QuotedEndIsUnique, DigitsAreLongest};
-ghost use Rattle.squawk_lexer.specs.declared.lexer.TheConstants.{BOM};
 ghost use Rattle.squawk_lexer.specs.Gaps.{GapsAreSeen, TokensStay, TokensStayBefore};
-ghost use Rattle.squawk_lexer.specs.PsqlArguments.{QuotesCloseFirst, OpenQuotesStayOpen, ArgumentsAreLongest, ArgumentsAreUnique, ArgumentIsLongest, ArgumentIsUnique, MarkedIsFirst};
+ghost use Rattle.squawk_lexer.specs.Edges.{base_value, literal_cmp};
+ghost use Rattle.squawk_lexer.specs.declared.lexer.TheConstants.{BOM};
+
+use crate::token::{Base, LiteralKind, Strings, Token, TokenKind};
 
 /// A run is the longest: all of its characters are of the class, and the next one is not. No other
 /// end has this property.
 pub fn runs_are_longest()
-    ensures longest { RunsAreLongest }
-    ensures only { RunsAreUnique }
+    ensures longest { spec.RunsAreLongest }
+    ensures only { spec.RunsAreUnique }
 {}
 
 /// Each token has at least one character, and not more than the text. In bytes, it has at least one
 /// and ends on a character boundary.
 pub fn tokens_progress()
-    ensures some { TokensProgress }
-    ensures within { TokensWithin }
-    ensures texts { TextsProgress }
+    ensures some { spec.TokensProgress }
+    ensures within { spec.TokensWithin }
+    ensures texts { ahead.TextsProgress }
 {}
 
 /// The lengths of the first n tokens add up to the bytes of the characters before the next token.
 pub fn lengths_add_up()
-    ensures within { LengthsWithin }
-    ensures bytes { LengthsAddUp }
+    ensures within { spec.LengthsWithin }
+    ensures bytes { spec.LengthsAddUp }
 {}
 
 /// After any token, the tokens are those of the remaining text, read without the rule for a leading
 /// byte order mark.
 pub fn tokens_restart()
-    ensures chars { TokensRestart }
-    ensures texts { TextsRestart }
+    ensures chars { spec.TokensRestart }
+    ensures texts { ahead.TextsRestart }
 {}
 
 /// A dollar-quoted string ends with the first occurrence of its delimiter, and is unterminated only
 /// if there is none.
 pub fn first_occurrence_is_found()
-    ensures first { FirstOccurrenceIsFound }
-    ensures nowhere { NoOccurrenceIsMissed }
+    ensures first { spec.FirstOccurrenceIsFound }
+    ensures nowhere { spec.NoOccurrenceIsMissed }
 {}
 
 /// A block comment ends with the first `*/` that leaves no comment open, and is unterminated only if
 /// there is none.
 pub fn comments_balance()
-    ensures ends { CommentsBalance }
-    ensures unterminated { OpenCommentsStayOpen }
+    ensures ends { spec.CommentsBalance }
+    ensures unterminated { spec.OpenCommentsStayOpen }
 {}
 
 /// psql's options end with the first argument whose mark is `)`.
 pub fn marked_is_first()
-    ensures { MarkedIsFirst }
+    ensures { psql.MarkedIsFirst }
 {}
 
 /// The arguments of a psql command are the longest sequence of parts, and one argument is the longest
 /// such sequence without a blank. No other length has these properties.
 pub fn arguments_are_longest()
-    ensures all { ArgumentsAreLongest }
-    ensures only { ArgumentsAreUnique }
-    ensures one { ArgumentIsLongest }
-    ensures only_one { ArgumentIsUnique }
+    ensures all { psql.ArgumentsAreLongest }
+    ensures only { psql.ArgumentsAreUnique }
+    ensures one { psql.ArgumentIsLongest }
+    ensures only_one { psql.ArgumentIsUnique }
 {}
 
 /// A quote in a psql command ends with the first character that closes it, and is unterminated only
 /// if none on its line does.
 pub fn quotes_close_first()
-    ensures first { QuotesCloseFirst }
-    ensures open { OpenQuotesStayOpen }
+    ensures first { psql.QuotesCloseFirst }
+    ensures open { psql.OpenQuotesStayOpen }
 {}
 
 /// Two characters of look-ahead suffice: a token that at least two characters follow is decided by
 /// its own characters, these two, and whether it is at the start of the text.
 pub fn tokens_look_ahead()
-    ensures lexemes { LexemesLookAhead }
-    ensures tokens { TokensLookAhead }
-    ensures texts { TextsLookAhead }
+    ensures lexemes { ahead.LexemesLookAhead }
+    ensures tokens { ahead.TokensLookAhead }
+    ensures texts { ahead.TextsLookAhead }
 {}
 
 /// If the last token of a text is a `;`, any text can be appended: no token before it changes, and the
 /// appended text is cut by itself, without the rule for a leading byte order mark.
 pub fn statements_stand_alone()
-    ensures { StatementsStandAlone }
+    ensures { ahead.StatementsStandAlone }
 {}
 
 /// Quoted text ends with the first quote that is neither doubled nor escaped.
@@ -116,4 +120,27 @@ pub fn tokens_stay()
 pub fn flags_lie_within()
     ensures within { FlagsLieWithin }
     ensures cut { TokensAreCut }
+{}
+
+/// The number of a base: 2, 8, 10 or 16.
+pub fn base_number(base: Base) -> u8
+    ensures { result ≡ base_value base }
+{
+    base as u8
+}
+
+/// Bases are ordered as their numbers are. Kinds of literals are ordered by their variants as
+/// listed, and within a variant by the fields from first to last.
+pub fn literals_are_ordered()
+    ensures bases { (a b : Base) → ⟦<Base as Ord>⟧.cmp a b ≡ nat_cmp (base_value a) (base_value b) }
+    ensures literals { (a b : LiteralKind) → ⟦<LiteralKind as Ord>⟧.cmp a b ≡ literal_cmp a b }
+{}
+
+/// Values that `==` takes for equal are the same. Tokens are compared by kind and length.
+pub fn equal_values_are_the_same()
+    ensures tokens { (a b : Token) → ⟦<Token as PartialEq>⟧.eq a b
+        ≡ (⟦<TokenKind as PartialEq>⟧.eq a.kind b.kind && a.len == b.len) }
+    ensures literals { (a b : LiteralKind) → ⟦<LiteralKind as PartialEq>⟧.eq a b ≡ true → a ≡ b }
+    ensures bases { (a b : Base) → ⟦<Base as PartialEq>⟧.eq a b ≡ true → a ≡ b }
+    ensures strings { (a b : Strings) → ⟦<Strings as PartialEq>⟧.eq a b ≡ true → a ≡ b }
 {}

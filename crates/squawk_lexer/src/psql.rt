@@ -318,9 +318,10 @@ impl<'a> Cursor<'a> {
         ensures line { line_end self.new.text self.new.at ≡ line_end self.old.text self.old.at }
         ensures on { self.old.at < self.new.at }
     {
-        let first = self.first();
+        let c = self.first();
         self.bump();
-        if is_escape_pair(quote, first, self.first()) {
+        // At the end of the text `first` reads NUL, and `bump` then consumes nothing.
+        if is_escape_pair(quote, c, self.first()) {
             self.bump();
         }
     }

@@ -52,6 +52,14 @@ fn prefix_of(first: u8, second: u8, third: u8) -> StringPrefix
     }
 }
 
+// Consumes a string whose prefix has one more character, and returns it as a literal of the kind.
+macro_rules! prefixed_literal {
+    ($cursor:ident, $kind:ident, $escapes:literal) => {{
+        let terminated = $cursor.prefixed_string($escapes);
+        literal(LiteralKind::$kind { terminated })
+    }};
+}
+
 impl<'a> Cursor<'a> {
     // The prefix of the token that begins here.
     fn string_prefix(&self) -> StringPrefix
@@ -99,26 +107,13 @@ impl<'a> Cursor<'a> {
         ensures lexeme { lexeme_until result self.new.at ≡ ident_or_string self.old.text }
     {
         match self.string_prefix() {
-            StringPrefix::National => {
-                let terminated = self.prefixed_string(false);
-                literal(LiteralKind::NationalStr { terminated })
-            }
-            StringPrefix::Bit => {
-                let terminated = self.prefixed_string(false);
-                literal(LiteralKind::BitStr { terminated })
-            }
-            StringPrefix::Byte => {
-                let terminated = self.prefixed_string(false);
-                literal(LiteralKind::ByteStr { terminated })
-            }
-            StringPrefix::Escape => {
-                let terminated = self.prefixed_string(true);
-                literal(LiteralKind::EscStr { terminated })
-            }
+            StringPrefix::National => prefixed_literal!(self, NationalStr, false),
+            StringPrefix::Bit => prefixed_literal!(self, BitStr, false),
+            StringPrefix::Byte => prefixed_literal!(self, ByteStr, false),
+            StringPrefix::Escape => prefixed_literal!(self, EscStr, true),
             StringPrefix::UnicodeString => {
                 self.bump();
-                let terminated = self.prefixed_string(false);
-                literal(LiteralKind::UnicodeEscStr { terminated })
+                prefixed_literal!(self, UnicodeEscStr, false)
             }
             StringPrefix::UnicodeIdent => {
                 self.bump();
