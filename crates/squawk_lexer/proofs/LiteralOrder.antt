@@ -1,5 +1,5 @@
 -- The order of bases and of the kinds of literals is that of their keys.
-use Rattle.std.proofs.Common.{◌≡◌, ℕ, Bool, true, false, refl, ap, ◌∙◌, List, [], ◌∷◌, Option, None, Some, Equal}
+use Rattle.std.proofs.Common.{◌≡◌, ℕ, Bool, true, false, refl, ap, ◌∙◌, [], ◌∷◌, Option, None, Some, Equal}
 use Rattle.std.specs.declared.cmp.Ordering.{Ordering}
 use Rattle.std.specs.declared.cmp.Ordering.TheVariants as orderings
 use Rattle.std.specs.Ordering.{nat_cmp, bool_cmp, ordering_then}

@@ -74,8 +74,8 @@ pub(crate) fn is_digit_byte(digits: Digits, b: u8) -> bool
     }
 }
 
-// Whether `class` has the ASCII character `b`, or the characters whose UTF-8 begins with `b`: it has
-// all characters beyond ASCII or none.
+// Whether `class` has the ASCII character `b`, or the characters whose UTF-8 begins with `b`: it
+// has all characters beyond ASCII or none.
 pub(crate) fn is_in(class: Class, b: u8) -> bool
     ensures { result ≡ spec.class_test class b }
 {

@@ -48,8 +48,8 @@ pub fn first_occurrence_is_found()
     ensures nowhere { spec.NoOccurrenceIsMissed }
 {}
 
-/// A block comment ends with the first `*/` that leaves no comment open, and is unterminated only if
-/// there is none.
+/// A block comment ends with the first `*/` that leaves no comment open, and is unterminated only
+/// if there is none.
 pub fn comments_balance()
     ensures ends { spec.CommentsBalance }
     ensures unterminated { spec.OpenCommentsStayOpen }
@@ -60,8 +60,8 @@ pub fn marked_is_first()
     ensures { psql.MarkedIsFirst }
 {}
 
-/// The arguments of a psql command are the longest sequence of parts, and one argument is the longest
-/// such sequence without a blank. No other length has these properties.
+/// The arguments of a psql command are the longest sequence of parts, and one argument is the
+/// longest such sequence without a blank. No other length has these properties.
 pub fn arguments_are_longest()
     ensures all { psql.ArgumentsAreLongest }
     ensures only { psql.ArgumentsAreUnique }
@@ -84,8 +84,8 @@ pub fn tokens_look_ahead()
     ensures texts { ahead.TextsLookAhead }
 {}
 
-/// If the last token of a text is a `;`, any text can be appended: no token before it changes, and the
-/// appended text is cut by itself, without the rule for a leading byte order mark.
+/// If the last token of a text is a `;`, any text can be appended: no token before it changes, and
+/// the appended text is cut by itself, without the rule for a leading byte order mark.
 pub fn statements_stand_alone()
     ensures { ahead.StatementsStandAlone }
 {}
@@ -114,9 +114,10 @@ pub fn tokens_stay()
     ensures before { TokensStayBefore }
 {}
 
-/// The offsets in the kind of a number or a parameter lie inside the token: an empty exponent begins
-/// before the trailing junk, and the trailing junk after the first byte, at the latest at the end of
-/// the token. Each token of a text is the first token of some text, so this holds for all of them.
+/// The offsets in the kind of a number or a parameter lie inside the token: an empty exponent
+/// begins before the trailing junk, and the trailing junk after the first byte, at the latest at
+/// the end of the token. Each token of a text is the first token of some text, so this holds for
+/// all of them.
 pub fn flags_lie_within()
     ensures within { FlagsLieWithin }
     ensures cut { TokensAreCut }

@@ -1,5 +1,5 @@
 //! Cuts the first token off a text.
-ghost use Rattle.std.specs.Prelude.{◌≡◌, ◌≢◌, ◌+◌, ◌<◌, ◌==◌, ◌^◌, ◌∷◌, length, drop, slice_index, true, false};
+ghost use Rattle.std.specs.Prelude.{◌≡◌, ◌≢◌, ◌+◌, ◌<◌, ◌==◌, ◌^◌, length, drop, slice_index, true, false};
 ghost use Rattle.std.specs.Str.{chars, is_utf8, IsCharBoundary};
 ghost use Rattle.squawk_lexer.specs.Kind.{lexeme_until};
 ghost use Rattle.squawk_lexer.specs.Classes.{is_whitespace};
@@ -70,8 +70,8 @@ enum TokenForm {
     Symbol,
 }
 
-// The form of a token that begins with these bytes. The first bytes of the characters suffice, since
-// no form looks for a certain character beyond ASCII.
+// The form of a token that begins with these bytes. The first bytes of the characters suffice,
+// since no form looks for a certain character beyond ASCII.
 #[tactic(auto, unfolding(crate::specs::Token::token_form))]
 fn token_form(first: u8, second: u8) -> TokenForm
     ensures { result ≡ token_form first second }
@@ -209,13 +209,13 @@ pub(crate) fn cut(text: &str, at_start: bool, strings: Strings) -> (Token, &str)
 ///
 /// `at` is an offset in bytes. It must be less than the length of `input` and lie on a character
 /// boundary; `input` must have less than 2^32 bytes. `at` need not be the start of a token of
-/// `input`: inside of one, the token that is returned is that of the text that follows. A byte order
-/// mark is a token by itself only if `at` is 0.
+/// `input`: inside of one, the token that is returned is that of the text that follows. A byte
+/// order mark is a token by itself only if `at` is 0.
 ///
 /// The token has at least one byte, ends on a character boundary and is never `Eof`. If two more
-/// characters follow it, no text after these can change it. If `at` is the end of some token of
-/// `input`, or the text before it ends with a `;`, then the tokens from `at` on are tokens of
-/// `input`. No memory is taken.
+/// characters follow it, no text after these can change it. If `at` is the end of a token of
+/// `input`, or if the last token of `input[..at]` is a `;`, then the tokens of `input[at..]`, read
+/// without the rule for the byte order mark, are those of `input` from `at` on. No memory is taken.
 pub fn cut_at(input: &str, at: usize) -> Token
     requires inside { at < length input.now }
     requires boundary { IsCharBoundary input.now at }

@@ -55,8 +55,8 @@ impl<'a> Cursor<'a> {
         false
     }
 
-    // Consumes the digits after a decimal point, if there are any. They begin with a digit, not with
-    // `_`.
+    // Consumes the digits after a decimal point, if there are any. They begin with a digit, not
+    // with `_`.
     fn eat_fraction_digits(&mut self)
         ensures text { self.new.text ≡ self.old.text }
         ensures at { self.new.at ≡ fraction_end self.old.text self.old.at }
@@ -85,7 +85,8 @@ impl<'a> Cursor<'a> {
     fn finish_with_exponent(&mut self) -> TokenKind
         requires { is_exponent_letter (slice_index self.old.text self.old.at) ≡ true }
         ensures text { self.new.text ≡ self.old.text }
-        ensures lexeme { lexeme_until result self.new.at ≡ spec.with_exponent self.old.text self.old.at }
+        ensures lexeme { lexeme_until result self.new.at
+            ≡ spec.with_exponent self.old.text self.old.at }
     {
         let start = self.pos_within_token();
         if self.eat_numeric_exponent() {
@@ -99,7 +100,8 @@ impl<'a> Cursor<'a> {
     #[inline(never)]
     pub(crate) fn eat_fractional(&mut self) -> TokenKind
         ensures text { self.new.text ≡ self.old.text }
-        ensures lexeme { lexeme_until result self.new.at ≡ spec.fractional self.old.text self.old.at }
+        ensures lexeme { lexeme_until result self.new.at
+            ≡ spec.fractional self.old.text self.old.at }
     {
         self.eat_fraction_digits();
         if is_exponent_letter(self.first()) {
@@ -113,7 +115,8 @@ impl<'a> Cursor<'a> {
     #[tactic(auto, using(crate::proofs::Steps::exponent_steps))]
     fn finish_decimal(&mut self) -> TokenKind
         ensures text { self.new.text ≡ self.old.text }
-        ensures lexeme { lexeme_until result self.new.at ≡ spec.decimal_from self.old.text self.old.at }
+        ensures lexeme { lexeme_until result self.new.at
+            ≡ spec.decimal_from self.old.text self.old.at }
     {
         // In `1..10` the dots are a `DotDot`, and no decimal point.
         if self.first() == '.' && self.second() != '.' {
@@ -137,7 +140,8 @@ impl<'a> Cursor<'a> {
     fn finish_base_prefixed_int(&mut self, base: Base, has_digits: bool) -> TokenKind
         requires { has_digits ≡ not (self.old.at == 2) }
         ensures text { self.new.text ≡ self.old.text }
-        ensures lexeme { lexeme_until result self.new.at ≡ spec.based_int base self.old.text self.old.at }
+        ensures lexeme { lexeme_until result self.new.at
+            ≡ spec.based_int base self.old.text self.old.at }
     {
         let trailing_junk_start = self.pos_within_token();
         let has_junk = self.eat_identifier();
@@ -148,8 +152,8 @@ impl<'a> Cursor<'a> {
         })
     }
 
-    // Consumes a number, whose first digit was consumed. As PostgreSQL's `scan.l`, but for the digits
-    // of `0b` and `0o`: any decimal digit is taken, so that `0b12` is one token.
+    // Consumes a number, whose first digit was consumed. As PostgreSQL's `scan.l`, but for the
+    // digits of `0b` and `0o`: any decimal digit is taken, so that `0b12` is one token.
     #[inline(never)]
     #[tactic(auto, using(crate::proofs::NumberSteps::number_steps))]
     pub(crate) fn number(&mut self, first: char) -> TokenKind

@@ -1,5 +1,5 @@
 //! psql's backslash commands (PostgreSQL manual, psql, "Meta-Commands").
-ghost use Rattle.std.specs.Prelude.{◌≡◌, ◌≢◌, ℕ, ◌<◌, ◌≤◌, ◌+◌, length, take, ◌||◌, ◌&&◌, ◌==◌, not, drop, slice_index, slice_get, unwrap_or, is_some, Some, true, false, codes};
+ghost use Rattle.std.specs.Prelude.{◌≡◌, ◌≢◌, ℕ, ◌<◌, ◌≤◌, ◌+◌, length, take, ◌||◌, ◌&&◌, ◌==◌, drop, slice_index, slice_get, unwrap_or, is_some, Some, true, false, codes};
 ghost use Rattle.std.specs.Str.{chars, str_eq_ignore_ascii_case};
 ghost use Rattle.squawk_lexer.specs.Kind.{lexeme_until};
 ghost use Rattle.squawk_lexer.specs.Classes.{is_line_end, backslash};
@@ -113,8 +113,8 @@ fn is_parenthesis(mark: Option<char>) -> bool
 }
 
 impl<'a> Cursor<'a> {
-    // Consumes the token of a backslash, which was consumed: psql's separator `\\`, an escaped `;` or
-    // `:`, or a command.
+    // Consumes the token of a backslash, which was consumed: psql's separator `\\`, an escaped `;`
+    // or `:`, or a command.
     #[inline(never)]
     pub(crate) fn psql_command(&mut self) -> TokenKind
         requires first { slice_index self.old.text 0 ≡ backslash }
@@ -177,7 +177,8 @@ impl<'a> Cursor<'a> {
         self.eat_psql_args();
     }
 
-    // Consumes options in parentheses and the blanks after them, if `has_options` and a `(` comes next.
+    // Consumes options in parentheses and the blanks after them, if `has_options` and a `(` comes
+    // next.
     fn eat_options(&mut self, has_options: bool)
         ensures text { self.new.text ≡ self.old.text }
         ensures at { self.new.at ≡ spec.output_start has_options self.old.text self.old.at }
@@ -215,8 +216,8 @@ impl<'a> Cursor<'a> {
         }
     }
 
-    // Consumes arguments up to the first one that ends the options, and returns whether there is one.
-    // Otherwise consumes all arguments. An argument ends the options if its mark is `)`: see
+    // Consumes arguments up to the first one that ends the options, and returns whether there is
+    // one. Otherwise consumes all arguments. An argument ends the options if its mark is `)`: see
     // `docs/GRAMMAR.md`, "Commands of psql".
     #[tactic(auto, using(crate::proofs::PsqlSteps::marked_steps))]
     fn eat_psql_options(&mut self) -> bool
@@ -275,7 +276,8 @@ impl<'a> Cursor<'a> {
     fn psql_quoted_arg(&mut self, quote: char) -> Option<char>
         requires { parts.is_quote quote ≡ true }
         ensures text { self.new.text ≡ self.old.text }
-        ensures at { self.new.at ≡ self.old.at + parts.quote_len quote (drop self.old.at self.old.text) }
+        ensures at { self.new.at ≡ self.old.at
+            + parts.quote_len quote (drop self.old.at self.old.text) }
         ensures last { result
             ≡ parts.last_inside (drop self.old.at self.old.text)
             (parts.close_len quote (drop self.old.at self.old.text)) }
@@ -296,7 +298,8 @@ impl<'a> Cursor<'a> {
         None
     }
 
-    // Skips to the next character that can close the quote or escape one, or to the end of the line.
+    // Skips to the next character that can close the quote or escape one, or to the end of the
+    // line.
     fn eat_psql_quoted_text(&mut self, quote: char)
         requires { parts.is_quote quote ≡ true }
         ensures text { self.new.text ≡ self.old.text }
@@ -306,8 +309,8 @@ impl<'a> Cursor<'a> {
         self.eat_until2_on_line(quote, escape_or_quote(quote, quote == b'\''));
     }
 
-    // Consumes a character inside quotes, with the one that it escapes. It is neither a line end nor
-    // the quote.
+    // Consumes a character inside quotes, with the one that it escapes. It is neither a line end
+    // nor the quote.
     fn eat_psql_quoted_char(&mut self, quote: char)
         requires some { self.old.at < length self.old.text }
         requires plain { is_line_end (slice_index self.old.text self.old.at) ≡ false }

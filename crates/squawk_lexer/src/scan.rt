@@ -1,6 +1,6 @@
 //! Lengths of runs over the bytes of a text. No function here decodes UTF-8: the classes have all
 //! characters beyond ASCII or none, so a run of bytes ends where the run of characters does.
-ghost use Rattle.std.specs.Prelude.{◌≡◌, ◌+◌, ◌<◌, ◌≤◌, ℕ, length, drop, slice_index};
+ghost use Rattle.std.specs.Prelude.{◌≡◌, ◌+◌, ◌<◌, ◌≤◌, length, drop, slice_index};
 ghost use Rattle.std.specs.List.{prefix_len};
 ghost use Rattle.squawk_lexer.specs.Classes.{class_test, is_whitespace, is_ident_cont};
 ghost use Rattle.squawk_lexer.specs.Digits.{digit_test};
@@ -72,8 +72,8 @@ fn class_len(class: Class, bytes: &[u8]) -> usize
     len
 }
 
-// A call of `memchr` costs as much as a test of some bytes one by one. So the first bytes are tested
-// so, and `memchr` is called only if none of them ends the run.
+// A call of `memchr` costs as much as a test of some bytes one by one. So the first bytes are
+// tested so, and `memchr` is called only if none of them ends the run.
 const BYTES_BEFORE_MEMCHR: usize = 8;
 
 // The length up to the first `a` or `b`, or of all bytes.
