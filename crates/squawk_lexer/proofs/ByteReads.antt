@@ -7,7 +7,7 @@ use Rattle.std.proofs.lemmas.Str.{encode_ascii, encodes-chars, IsUtf8-from_is_ut
 use Rattle.std.specs.Str.{chars, encode_utf8_all}
 use Rattle.std.specs.Char.{encode_utf8}
 use Rattle.squawk_lexer.specs.declared.lexer.TokenForm.TheVariants.{Word}
-use Rattle.squawk_lexer.specs.declared.word.StringPrefix.TheVariants.{Plain}
+use Rattle.squawk_lexer.specs.declared.word.StringPrefix.TheVariants.{NoPrefix}
 use Rattle.squawk_lexer.specs.Bytes.{first_byte, IsAsciiRun}
 use Rattle.squawk_lexer.specs.Classes.{is_digit}
 use Rattle.squawk_lexer.specs.Token.{token_form, prefix_of}
@@ -92,11 +92,11 @@ start_lead c d b e first second = by (cases_lt c 128) (cases_lt d 128)
     by (inr big) other = start_high b e (subst (λ x. 128 ≤ x) (sym first) (lead_high c big))
         ∙ sym (start_high c d big)
 
-opening_high : (c d e : ℕ) → 128 ≤ c → prefix_of c d e ≡ Plain
+opening_high : (c d e : ℕ) → 128 ≤ c → prefix_of c d e ≡ NoPrefix
 unfolding prefix_of
 opening_high c d e big = grind (arith, nat_tests)
 
-opening_plain : (c d e : ℕ) → 128 ≤ d → prefix_of c d e ≡ Plain
+opening_plain : (c d e : ℕ) → 128 ≤ d → prefix_of c d e ≡ NoPrefix
 unfolding prefix_of
 opening_plain c d e big = grind (arith, nat_tests)
 

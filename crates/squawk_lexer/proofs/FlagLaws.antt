@@ -12,7 +12,7 @@ use Rattle.squawk_lexer.specs.declared.token.TokenKind.TheVariants as kinds
 use Rattle.squawk_lexer.specs.declared.lexer.TokenForm.{TokenForm}
 use Rattle.squawk_lexer.specs.declared.lexer.TokenForm.TheVariants.{Whitespace, LineComment, BlockComment, String, QuotedIdent, Word, Dollar, Number, DotDot, Fraction, Psql, Symbol}
 use Rattle.squawk_lexer.specs.declared.word.StringPrefix.{StringPrefix}
-use Rattle.squawk_lexer.specs.declared.word.StringPrefix.TheVariants.{National, Bit, Byte, Escape, UnicodeString, UnicodeIdent, Plain}
+use Rattle.squawk_lexer.specs.declared.word.StringPrefix.TheVariants.{National, Bit, Byte, Escape, UnicodeString, UnicodeIdent, NoPrefix}
 use Rattle.squawk_lexer.specs.Text.{utf8_len}
 use Rattle.squawk_lexer.specs.Classes.{is_digit, byte_order_mark}
 use Rattle.squawk_lexer.specs.Runs.{run_end, junk_end, digits_end, hex_digits_end, exponent_end, is_exponent_letter, fraction_end}
@@ -186,7 +186,7 @@ opened_flags Byte u = tt
 opened_flags Escape u = tt
 opened_flags UnicodeString u = tt
 opened_flags UnicodeIdent u = tt
-opened_flags Plain u = tt
+opened_flags NoPrefix u = tt
 
 psql_flags : (u : List ℕ) → Flagged u (psql u)
 psql_flags u =

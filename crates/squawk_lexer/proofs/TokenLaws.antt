@@ -10,7 +10,7 @@ use Rattle.squawk_lexer.specs.declared.token.Strings.{Strings}
 use Rattle.squawk_lexer.specs.declared.lexer.TokenForm.{TokenForm}
 use Rattle.squawk_lexer.specs.declared.lexer.TokenForm.TheVariants.{Whitespace, LineComment, BlockComment, String, QuotedIdent, Word, Dollar, Number, DotDot, Fraction, Psql, Symbol}
 use Rattle.squawk_lexer.specs.declared.word.StringPrefix.{StringPrefix}
-use Rattle.squawk_lexer.specs.declared.word.StringPrefix.TheVariants.{National, Bit, Byte, Escape, UnicodeString, UnicodeIdent, Plain}
+use Rattle.squawk_lexer.specs.declared.word.StringPrefix.TheVariants.{National, Bit, Byte, Escape, UnicodeString, UnicodeIdent, NoPrefix}
 use Rattle.squawk_lexer.specs.Classes.{is_ident_start, is_digit, byte_order_mark, is_blank}
 use Rattle.squawk_lexer.specs.Runs.{run_end, junk_end, digits_end, hex_digits_end, exponent_end, is_exponent_letter, is_sign, fraction_end, line_end}
 use Rattle.squawk_lexer.specs.Kind.{Lexeme, lexeme_until, literal_until}
@@ -94,7 +94,7 @@ opened_on Byte u = omega arith
 opened_on Escape u = omega arith
 opened_on UnicodeString u = omega arith
 opened_on UnicodeIdent u = omega arith
-opened_on Plain u = omega arith
+opened_on NoPrefix u = omega arith
 
 -- of two ends, either is behind n
 later : (b : Bool) (x y n : ℕ) → n ≤ x → n ≤ y → n ≤ cond b x y
@@ -239,7 +239,7 @@ opened_other Byte u = literal_other _ _
 opened_other Escape u = literal_other _ _
 opened_other UnicodeString u = literal_other _ _
 opened_other UnicodeIdent u = record { real = refl; other = refl; plain = refl }
-opened_other Plain u = record { real = refl; other = refl; plain = refl }
+opened_other NoPrefix u = record { real = refl; other = refl; plain = refl }
 
 pub dollar_other : (u : List ℕ) → IsOther (dollar u)
 dollar_other u =

@@ -9,7 +9,7 @@ use Rattle.squawk_lexer.specs.declared.token.Strings.TheVariants.{Standard, Back
 use Rattle.squawk_lexer.specs.declared.lexer.TokenForm.{TokenForm}
 use Rattle.squawk_lexer.specs.declared.lexer.TokenForm.TheVariants.{Whitespace, LineComment, BlockComment, String, QuotedIdent, Word, Dollar, Number, DotDot, Fraction, Psql, Symbol}
 use Rattle.squawk_lexer.specs.declared.word.StringPrefix.{StringPrefix}
-use Rattle.squawk_lexer.specs.declared.word.StringPrefix.TheVariants.{National, Bit, Byte, Escape, UnicodeString, UnicodeIdent, Plain}
+use Rattle.squawk_lexer.specs.declared.word.StringPrefix.TheVariants.{National, Bit, Byte, Escape, UnicodeString, UnicodeIdent, NoPrefix}
 use Rattle.squawk_lexer.specs.Kind.{Lexeme, lexeme_until, literal_until}
 use Rattle.squawk_lexer.specs.Text.{utf8_len}
 use Rattle.squawk_lexer.specs.Classes.{is_whitespace, is_ident_start, is_ident_cont, is_digit, apostrophe, quotation_mark, backslash, dollar_sign, byte_order_mark}
@@ -50,7 +50,7 @@ prefix_of c d e =
     else if is_letter 101 c && d == apostrophe then Escape  -- e
     else if (is_letter 117 c && d == 38) && e == apostrophe then UnicodeString  -- u&
     else if (is_letter 117 c && d == 38) && e == quotation_mark then UnicodeIdent  -- u&
-    else Plain
+    else NoPrefix
 
 -- N'..', B'..', X'..', E'..', U&'..', U&".." and identifiers without quotes
 abbrev pub lexeme_of_prefix : StringPrefix → List ℕ → Lexeme
@@ -60,7 +60,7 @@ lexeme_of_prefix Byte u = string ByteStr false u 2
 lexeme_of_prefix Escape u = string EscStr true u 2
 lexeme_of_prefix UnicodeString u = string UnicodeEscStr false u 3
 lexeme_of_prefix UnicodeIdent u = quoted_ident true u 3
-lexeme_of_prefix Plain u = lexeme_until kinds.Ident (run_end is_ident_cont u 1)
+lexeme_of_prefix NoPrefix u = lexeme_until kinds.Ident (run_end is_ident_cont u 1)
 
 -- a text that begins with an id-start
 abbrev pub ident_or_string : List ℕ → Lexeme

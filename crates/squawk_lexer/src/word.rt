@@ -25,8 +25,8 @@ enum StringPrefix {
     UnicodeString,
     // U&"
     UnicodeIdent,
-    // None of these: an identifier.
-    Plain,
+    // An identifier.
+    NoPrefix,
 }
 
 // The prefix of a token that begins with these bytes, of which the first begins an identifier.
@@ -41,14 +41,14 @@ fn prefix_of(first: u8, second: u8, third: u8) -> StringPrefix
             b'b' | b'B' => StringPrefix::Bit,
             b'x' | b'X' => StringPrefix::Byte,
             b'e' | b'E' => StringPrefix::Escape,
-            _ => StringPrefix::Plain,
+            _ => StringPrefix::NoPrefix,
         },
         b'&' => match (first, third) {
             (b'u' | b'U', b'\'') => StringPrefix::UnicodeString,
             (b'u' | b'U', b'"') => StringPrefix::UnicodeIdent,
-            _ => StringPrefix::Plain,
+            _ => StringPrefix::NoPrefix,
         },
-        _ => StringPrefix::Plain,
+        _ => StringPrefix::NoPrefix,
     }
 }
 
@@ -121,7 +121,7 @@ impl<'a> Cursor<'a> {
                 self.bump();
                 self.quoted_ident(true)
             }
-            StringPrefix::Plain => {
+            StringPrefix::NoPrefix => {
                 self.eat_while(Class::IdentCont);
                 TokenKind::Ident
             }
