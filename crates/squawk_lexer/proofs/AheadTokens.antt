@@ -10,7 +10,7 @@ use Rattle.squawk_lexer.specs.declared.token.Strings.{Strings}
 use Rattle.squawk_lexer.specs.declared.lexer.TokenForm.{TokenForm}
 use Rattle.squawk_lexer.specs.declared.lexer.TokenForm.TheVariants.{Whitespace, LineComment, BlockComment, String, QuotedIdent, Word, Dollar, Number, DotDot, Fraction, Psql, Symbol}
 use Rattle.squawk_lexer.specs.declared.word.StringPrefix.{StringPrefix}
-use Rattle.squawk_lexer.specs.declared.word.StringPrefix.TheVariants.{National, Bit, Byte, Escape, UnicodeString, UnicodeIdent, Plain}
+use Rattle.squawk_lexer.specs.declared.word.StringPrefix.TheVariants.{National, Bit, Byte, Escape, UnicodeString, UnicodeIdent, NoPrefix}
 use Rattle.squawk_lexer.specs.Kind.{Lexeme, lexeme_until}
 use Rattle.squawk_lexer.specs.Text.{utf8_len}
 use Rattle.squawk_lexer.specs.Classes.{is_letter, is_whitespace, is_ident_cont, is_not_line_end, apostrophe, quotation_mark, byte_order_mark}
@@ -49,7 +49,7 @@ prefix_from c quote string ident =
     (cond (is_letter 120 c && quote) Byte
     (cond (is_letter 101 c && quote) Escape
     (cond (is_letter 117 c && string) UnicodeString
-    (cond (is_letter 117 c && ident) UnicodeIdent Plain)))))
+    (cond (is_letter 117 c && ident) UnicodeIdent NoPrefix)))))
 
 -- `prefix_of` in these terms.
 prefix_is : (c d e : ℕ) → prefix_of c d e
@@ -93,7 +93,7 @@ prefixed_same w Byte k u v a h = string_same w ByteStr false k u v 2 a h
 prefixed_same w Escape k u v a h = string_same w EscStr true k u v 2 a h
 prefixed_same w UnicodeString k u v a h = string_same w UnicodeEscStr false k u v 3 a h
 prefixed_same w UnicodeIdent k u v a h = quoted_ident_same w true k u v 3 a h
-prefixed_same w Plain k u v a h =
+prefixed_same w NoPrefix k u v a h =
     ap (lexeme_until kinds.Ident) (run_same is_ident_cont w.id_cont k u v 1 a h)
 
 -- ---- every form

@@ -7,7 +7,7 @@ use Rattle.std.proofs.lemmas.Str.{encode_ascii, encodes-chars, IsUtf8-from_is_ut
 use Rattle.std.specs.Str.{chars, encode_utf8_all}
 use Rattle.std.specs.Char.{encode_utf8}
 use Rattle.squawk_lexer.specs.declared.lexer.TokenForm.TheVariants.{Word}
-use Rattle.squawk_lexer.specs.declared.word.StringPrefix.TheVariants.{Plain}
+use Rattle.squawk_lexer.specs.declared.word.StringPrefix.TheVariants.{NoPrefix}
 use Rattle.squawk_lexer.specs.Bytes.{first_byte, IsAsciiRun}
 use Rattle.squawk_lexer.specs.Classes.{is_digit}
 use Rattle.squawk_lexer.specs.Token.{token_form, prefix_of}
@@ -98,11 +98,11 @@ form_lead c d b e first second = by (cases_lt c 128) (cases_lt d 128)
         ∙ sym (form_high c d big)
 
 -- A character beyond ASCII is in no prefix.
-prefix_high : (c d e : ℕ) → 128 ≤ c → prefix_of c d e ≡ Plain
+prefix_high : (c d e : ℕ) → 128 ≤ c → prefix_of c d e ≡ NoPrefix
 unfolding prefix_of
 prefix_high c d e big = grind (arith, nat_tests)
 
-prefix_plain : (c d e : ℕ) → 128 ≤ d → prefix_of c d e ≡ Plain
+prefix_plain : (c d e : ℕ) → 128 ≤ d → prefix_of c d e ≡ NoPrefix
 unfolding prefix_of
 prefix_plain c d e big = grind (arith, nat_tests)
 

@@ -11,7 +11,7 @@ use Rattle.squawk_lexer.specs.declared.token.Strings.{Strings}
 use Rattle.squawk_lexer.specs.declared.lexer.TokenForm.{TokenForm}
 use Rattle.squawk_lexer.specs.declared.lexer.TokenForm.TheVariants.{Whitespace, LineComment, BlockComment, String, QuotedIdent, Word, Dollar, Number, DotDot, Fraction, Psql, Symbol}
 use Rattle.squawk_lexer.specs.declared.word.StringPrefix.{StringPrefix}
-use Rattle.squawk_lexer.specs.declared.word.StringPrefix.TheVariants.{National, Bit, Byte, Escape, UnicodeString, UnicodeIdent, Plain}
+use Rattle.squawk_lexer.specs.declared.word.StringPrefix.TheVariants.{National, Bit, Byte, Escape, UnicodeString, UnicodeIdent, NoPrefix}
 use Rattle.squawk_lexer.specs.Classes.{is_ident_start, is_digit, byte_order_mark, is_blank}
 use Rattle.squawk_lexer.specs.Runs.{run_end, junk_end, digits_end, hex_digits_end, exponent_end, is_exponent_letter, is_sign, fraction_end, line_end}
 use Rattle.squawk_lexer.specs.Kind.{Lexeme, lexeme_until, literal_until}
@@ -100,7 +100,7 @@ prefix_on Byte u = omega arith
 prefix_on Escape u = omega arith
 prefix_on UnicodeString u = omega arith
 prefix_on UnicodeIdent u = omega arith
-prefix_on Plain u = omega arith
+prefix_on NoPrefix u = omega arith
 
 -- Of two ends, the chosen one is at or after n where both are.
 later : (b : Bool) (x y n : ℕ) → n ≤ x → n ≤ y → n ≤ cond b x y
@@ -259,7 +259,7 @@ prefix_other Byte u = literal_other _ _
 prefix_other Escape u = literal_other _ _
 prefix_other UnicodeString u = literal_other _ _
 prefix_other UnicodeIdent u = record { real = refl; other = refl; plain = refl; known = refl }
-prefix_other Plain u = record { real = refl; other = refl; plain = refl; known = refl }
+prefix_other NoPrefix u = record { real = refl; other = refl; plain = refl; known = refl }
 
 pub dollar_other : (u : List ℕ) → IsOther (dollar u)
 dollar_other u =

@@ -8,7 +8,7 @@ use Rattle.squawk_lexer.specs.declared.token.Strings.{Strings}
 use Rattle.squawk_lexer.specs.declared.lexer.TokenForm.{TokenForm}
 use Rattle.squawk_lexer.specs.declared.lexer.TokenForm.TheVariants.{Whitespace, LineComment, BlockComment, String, QuotedIdent, Word, Dollar, Number, DotDot, Fraction, Psql, Symbol}
 use Rattle.squawk_lexer.specs.declared.word.StringPrefix.{StringPrefix}
-use Rattle.squawk_lexer.specs.declared.word.StringPrefix.TheVariants.{National, Bit, Byte, Escape, UnicodeString, UnicodeIdent, Plain}
+use Rattle.squawk_lexer.specs.declared.word.StringPrefix.TheVariants.{National, Bit, Byte, Escape, UnicodeString, UnicodeIdent, NoPrefix}
 use Rattle.squawk_lexer.specs.declared.token.Base.TheVariants.{Binary, Octal, Decimal, Hexadecimal}
 use Rattle.squawk_lexer.specs.declared.token.TokenKind.TheVariants as kinds
 use Rattle.squawk_lexer.specs.Kind.{Lexeme, lexeme_until}
@@ -222,7 +222,7 @@ prefix_in UnicodeIdent u e h =
     let (one, two, three) = opens_ident u 0 refl e in
     quoted_in false quotation_mark u 3 (after_in u (position_after u (position_after u 0)) 3
     (after_in u (position_after u 0) _ (after_in u 0 _ (omega arith) refl) refl) three)
-prefix_in Plain u e h = run_in is_ident_cont u 1 h
+prefix_in NoPrefix u e h = run_in is_ident_cont u 1 h
 
 -- ---- psql commands
 

@@ -27,3 +27,5 @@ pub mod CursorModel
 pub mod TokensModel
 pub mod PsqlQuotes
 pub mod Stops
+pub mod Digits
+pub mod Edges

@@ -10,7 +10,7 @@ use Rattle.squawk_lexer.specs.declared.token.Strings.TheVariants.{Standard, Back
 use Rattle.squawk_lexer.specs.declared.lexer.TokenForm.{TokenForm}
 use Rattle.squawk_lexer.specs.declared.lexer.TokenForm.TheVariants.{Whitespace, LineComment, BlockComment, String, QuotedIdent, Word, Dollar, Number, DotDot, Fraction, Psql, Symbol}
 use Rattle.squawk_lexer.specs.declared.word.StringPrefix.{StringPrefix}
-use Rattle.squawk_lexer.specs.declared.word.StringPrefix.TheVariants.{National, Bit, Byte, Escape, UnicodeString, UnicodeIdent, Plain}
+use Rattle.squawk_lexer.specs.declared.word.StringPrefix.TheVariants.{National, Bit, Byte, Escape, UnicodeString, UnicodeIdent, NoPrefix}
 use Rattle.squawk_lexer.specs.Kind.{Lexeme, lexeme_until, literal_until}
 use Rattle.squawk_lexer.specs.Text.{utf8_len}
 use Rattle.squawk_lexer.specs.Classes.{is_whitespace, is_ident_start, is_ident_cont, is_digit, is_letter, apostrophe, quotation_mark, backslash, dollar_sign, ampersand, minus, slash, asterisk, dot, letter_n, letter_b, letter_x, letter_e, letter_u, byte_order_mark}
@@ -42,7 +42,7 @@ quoted_ident uescape u i =
 
 -- The prefix of a string or quoted identifier that the first three characters are, where the first
 -- may begin an identifier: `n'`, `b'`, `x'`, `e'`, `u&'` or `u&"`, with the letter in either case.
--- `Plain` where they are none.
+-- `NoPrefix` where they are none.
 unfoldable pub prefix_of : ℕ → ℕ → ℕ → StringPrefix
 prefix_of c d e =
     if is_letter letter_n c && d == apostrophe then National
@@ -51,7 +51,7 @@ prefix_of c d e =
     else if is_letter letter_e c && d == apostrophe then Escape
     else if (is_letter letter_u c && d == ampersand) && e == apostrophe then UnicodeString
     else if (is_letter letter_u c && d == ampersand) && e == quotation_mark then UnicodeIdent
-    else Plain
+    else NoPrefix
 
 -- The lexeme that a prefix begins: `N'..'`, `B'..'`, `X'..'`, `E'..'`, `U&'..'`, `U&".."` (4.1.2.1
 -- to 4.1.2.3, 4.1.2.5), or an identifier or keyword without quotes (4.1.1). Only `E'..'` has
@@ -63,7 +63,7 @@ lexeme_of_prefix Byte u = string ByteStr false u 2
 lexeme_of_prefix Escape u = string EscStr true u 2
 lexeme_of_prefix UnicodeString u = string UnicodeEscStr false u 3
 lexeme_of_prefix UnicodeIdent u = quoted_ident true u 3
-lexeme_of_prefix Plain u = lexeme_until kinds.Ident (run_end is_ident_cont u 1)
+lexeme_of_prefix NoPrefix u = lexeme_until kinds.Ident (run_end is_ident_cont u 1)
 
 -- The lexeme at the start of a text that begins as an identifier does.
 abbrev pub ident_or_string : List ℕ → Lexeme

@@ -1,8 +1,9 @@
-//! Sets of characters.
+//! Classes of characters (`docs/GRAMMAR.md`, "Characters"), after PostgreSQL's `scan.l`.
 ghost use Rattle.std.specs.Prelude.{◌≡◌};
-ghost use Rattle.squawk_lexer.specs.Classes.{class_test, is_whitespace, is_blank, is_ident_cont, is_digit, is_hex_digit, is_ident_start};
+ghost use Rattle.squawk_lexer.specs.Classes as spec;
+ghost use Rattle.squawk_lexer.specs.Digits.{digit_test};
 
-/// A set of characters that a cursor can pass over.
+// A class over whose runs a cursor can skip.
 #[derive(Clone, Copy)]
 pub(crate) enum Class {
     Whitespace,
@@ -10,53 +11,73 @@ pub(crate) enum Class {
     IdentCont,
     Digit,
     NotLineEnd,
+    // A character of a dollar tag after the first.
     TagCont,
+    // A character of the name of a psql command.
     CommandChar,
 }
 
-/// Space, TAB, LF, VT, FF or CR.
+// The digits of a number: decimal in all bases but the hexadecimal.
+#[derive(Clone, Copy)]
+pub(crate) enum Digits {
+    Decimal,
+    Hexadecimal,
+}
+
+// Space, TAB, LF, VT, FF or CR.
 pub(crate) fn is_whitespace(c: char) -> bool
-    ensures { result ≡ is_whitespace c }
+    ensures { result ≡ spec.is_whitespace c }
 {
     matches!(c, ' ' | '\t' | '\n' | '\r' | '\u{B}' | '\u{C}')
 }
 
-/// Whitespace that ends no line.
+// White space that ends no line.
 pub(crate) fn is_blank(c: char) -> bool
-    ensures { result ≡ is_blank c }
+    ensures { result ≡ spec.is_blank c }
 {
     matches!(c, ' ' | '\t' | '\u{B}' | '\u{C}')
 }
 
-/// What an identifier begins with.
+// A letter, `_`, or any character beyond ASCII.
 pub(crate) fn is_ident_start(c: char) -> bool
-    ensures { result ≡ is_ident_start c }
+    ensures { result ≡ spec.is_ident_start c }
 {
     matches!(c, 'a'..='z' | 'A'..='Z' | '_' | '\u{80}'..)
 }
 
-/// What an identifier goes on with.
+// What begins an identifier, a digit or `$`.
 pub(crate) fn is_ident_cont(c: char) -> bool
-    ensures { result ≡ is_ident_cont c }
+    ensures { result ≡ spec.is_ident_cont c }
 {
     matches!(c, 'a'..='z' | 'A'..='Z' | '_' | '\u{80}'.. | '0'..='9' | '$')
 }
 
 pub(crate) fn is_digit(c: char) -> bool
-    ensures { result ≡ is_digit c }
+    ensures { result ≡ spec.is_digit c }
 {
     c.is_ascii_digit()
 }
 
 pub(crate) fn is_hex_digit(c: char) -> bool
-    ensures { result ≡ is_hex_digit c }
+    ensures { result ≡ spec.is_hex_digit c }
 {
     c.is_ascii_hexdigit()
 }
 
-/// Whether the set has the character, or each that the byte begins.
+// Whether a byte, read as the character of its number, is a digit.
+pub(crate) fn is_digit_byte(digits: Digits, b: u8) -> bool
+    ensures { result ≡ digit_test digits b }
+{
+    match digits {
+        Digits::Decimal => is_digit(b as char),
+        Digits::Hexadecimal => is_hex_digit(b as char),
+    }
+}
+
+// Whether `class` has the ASCII character `b`, or the characters whose UTF-8 begins with `b`: it
+// has all characters beyond ASCII or none.
 pub(crate) fn is_in(class: Class, b: u8) -> bool
-    ensures { result ≡ class_test class b }
+    ensures { result ≡ spec.class_test class b }
 {
     let c = b as char;
     match class {

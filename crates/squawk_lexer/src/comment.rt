@@ -1,4 +1,4 @@
-//! Comments: those up to the end of the line, and block comments, which nest.
+//! Comments (PostgreSQL manual, 4.1.5): line comments, and block comments, which nest.
 ghost use Rattle.std.specs.Prelude.{◌≡◌};
 ghost use Rattle.squawk_lexer.specs.Kind.{lexeme_until};
 ghost use Rattle.squawk_lexer.specs.Position.{position_after};
@@ -9,49 +9,64 @@ use crate::classes::Class;
 use crate::cursor::Cursor;
 use crate::token::TokenKind;
 
-fn opens(c: char, next: char) -> bool
+fn opens_comment(c: char, next: char) -> bool
     ensures { result ≡ opens_comment c next }
 {
     c == '/' && next == '*'
 }
 
-fn closes(c: char, next: char) -> bool
+fn closes_comment(c: char, next: char) -> bool
     ensures { result ≡ closes_comment c next }
 {
     c == '*' && next == '/'
 }
 
 impl<'a> Cursor<'a> {
-    /// Moves behind a line comment, from behind its first dash.
+    // Consumes a line comment, whose first dash was consumed. The line end is not part of it.
     pub(crate) fn line_comment(&mut self) -> TokenKind
         ensures text { self.new.text ≡ self.old.text }
-        ensures gives { lexeme_until result self.new.at
-            ≡ lexeme_until TokenKind.LineComment (line_end self.old.text (position_after self.old.text self.old.at)) }
+        ensures lexeme { lexeme_until result self.new.at
+            ≡ lexeme_until TokenKind.LineComment
+            (line_end self.old.text (position_after self.old.text self.old.at)) }
     {
         self.bump();
         self.eat_while(Class::NotLineEnd);
         TokenKind::LineComment
     }
 
-    /// Moves behind a block comment, from behind its opening, and tells whether it was closed.
+    // Consumes a block comment, whose `/` was consumed.
+    pub(crate) fn block_comment(&mut self) -> TokenKind
+        ensures text { self.new.text ≡ self.old.text }
+        ensures lexeme { lexeme_until result self.new.at
+            ≡ lexeme_until (TokenKind.BlockComment
+            (is_comment_closed 0 self.old.text (position_after self.old.text self.old.at)))
+            (comment_end 0 self.old.text (position_after self.old.text self.old.at)) }
+    {
+        self.bump();
+        let terminated = self.eat_block_comment();
+        TokenKind::BlockComment { terminated }
+    }
+
+    // Consumes a block comment, whose `/*` was consumed, and returns whether it is terminated.
+    // `depth` counts the comments that are open inside it.
     #[inline(never)]
     #[tactic(auto, using(crate::proofs::CommentSteps::comment_steps))]
-    pub(crate) fn block_comment(&mut self) -> bool
+    fn eat_block_comment(&mut self) -> bool
         ensures text { self.new.text ≡ self.old.text }
         ensures at { self.new.at ≡ comment_end 0 self.old.text self.old.at }
         ensures closed { result ≡ is_comment_closed 0 self.old.text self.old.at }
     {
-        let mut inner = 0usize;
-        while let Some(c) = self.bump_to(b'/', b'*') {
-            if opens(c, self.first()) {
+        let mut depth = 0usize;
+        while let Some(c) = self.eat_through2(b'/', b'*') {
+            if opens_comment(c, self.first()) {
                 self.bump();
-                inner += 1;
-            } else if closes(c, self.first()) {
+                depth += 1;
+            } else if closes_comment(c, self.first()) {
                 self.bump();
-                if inner == 0 {
+                if depth == 0 {
                     return true;
                 }
-                inner -= 1;
+                depth -= 1;
             }
         }
         false

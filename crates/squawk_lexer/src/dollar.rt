@@ -1,4 +1,5 @@
-//! Dollar strings and positional parameters.
+//! What a `$` begins: a dollar-quoted string (PostgreSQL manual, 4.1.2.4) or a positional parameter
+//! (4.2.2).
 ghost use Rattle.std.specs.Prelude.{◌≡◌, ◌+◌, slice_index};
 ghost use Rattle.squawk_lexer.specs.Kind.{lexeme_until};
 ghost use Rattle.squawk_lexer.specs.Classes.{is_ident_start, dollar_sign};
@@ -9,30 +10,31 @@ use crate::cursor::Cursor;
 use crate::token::{LiteralKind, TokenKind, literal};
 
 impl<'a> Cursor<'a> {
-    /// Moves behind what a `$` begins, from behind it.
+    // Consumes a dollar-quoted string or a parameter, whose first `$` was consumed.
     #[inline(never)]
     #[tactic(auto, using(crate::proofs::DollarSteps::dollar_steps))]
-    pub(crate) fn dollar(&mut self) -> TokenKind
+    pub(crate) fn dollar_string_or_param(&mut self) -> TokenKind
         requires first { slice_index self.old.text 0 ≡ dollar_sign }
         requires at { self.old.at ≡ 1 }
         ensures text { self.new.text ≡ self.old.text }
-        ensures gives { lexeme_until result self.new.at ≡ dollar self.old.text }
+        ensures lexeme { lexeme_until result self.new.at ≡ dollar self.old.text }
     {
         let has_tag = self.eat_tag();
         if self.first() == '$' {
             self.bump();
-            return self.dollar_string();
+            return self.dollar_quoted_string();
         }
         if has_tag {
-            // A tag that no `$` follows is the junk of a parameter without digits.
+            // No `$` ends the tag, so this is a parameter without digits, and the tag is its junk.
             return TokenKind::PositionalParam {
                 trailing_junk_start: 1,
             };
         }
-        self.parameter()
+        self.positional_param()
     }
 
-    /// Moves behind the tag that may follow a `$`, from behind it, and tells whether there is one.
+    // Consumes the tag after the first `$`, if there is one, and returns whether there is. A tag is
+    // an identifier without `$`.
     fn eat_tag(&mut self) -> bool
         requires at { self.old.at ≡ 1 }
         ensures text { self.new.text ≡ self.old.text }
@@ -46,15 +48,15 @@ impl<'a> Cursor<'a> {
         true
     }
 
-    /// Moves behind a dollar string, from behind the delimiter that opens it.
+    // Consumes a dollar-quoted string, whose opening delimiter was consumed.
     #[tactic(auto, using(crate::proofs::DollarSteps::delimiter_steps))]
-    fn dollar_string(&mut self) -> TokenKind
+    fn dollar_quoted_string(&mut self) -> TokenKind
         requires first { slice_index self.old.text 0 ≡ dollar_sign }
         requires at { self.old.at ≡ tag_end self.old.text + 1 }
         ensures text { self.new.text ≡ self.old.text }
-        ensures gives { lexeme_until result self.new.at ≡ dollar_string self.old.text }
+        ensures lexeme { lexeme_until result self.new.at ≡ dollar_string self.old.text }
     {
-        let delimiter = self.taken();
+        let delimiter = self.consumed_text();
         let terminated = self.eat_through(delimiter);
         literal(LiteralKind::DollarQuotedString { terminated })
     }

@@ -1,125 +1,154 @@
-//! Laws that the definitions of the grammar obey. Each is the clause of a function that does
-//! nothing.
-ghost use Rattle.std.specs.Prelude.{◌≡◌, ◌∷◌, []};
-ghost use Rattle.squawk_lexer.specs.Laws.{RunsAreLongest, RunsAreUnique, TokensProgress, TokensWithin, LengthsAddUp, LengthsWithin, TokensRestart, UnknownIsControl, UnknownIsOneCharacter, FirstOccurrenceIsFound, NoOccurrenceIsMissed, CommentsBalance, OpenCommentsStayOpen};
+//! Laws of the lexical grammar. Each is a clause of a function that does nothing, so that other
+//! crates can cite it; the definitions in the clauses hold for every text.
+ghost use Rattle.std.specs.Prelude.{◌≡◌, ◌&&◌, ◌==◌, ◌∷◌, [], true};
+ghost use Rattle.std.specs.Ordering.{nat_cmp};
+ghost use Rattle.squawk_lexer.specs.Laws as spec;
+ghost use Rattle.squawk_lexer.specs.LookAhead as ahead;
+ghost use Rattle.squawk_lexer.specs.PsqlArguments as psql;
 ghost use Rattle.squawk_lexer.specs.Flags.{FlagsLieWithin, TokensAreCut};
-ghost use Rattle.squawk_lexer.specs.LookAhead.{LexemesLookAhead, TokensLookAhead, TextsLookAhead, TextsProgress, TextsRestart, StatementsStandAlone};
 ghost use Rattle.squawk_lexer.specs.QuotedLaws.{QuotedEndsFirst, QuotedEndIsUnique, DigitsAreLongest};
-ghost use Rattle.squawk_lexer.specs.declared.lexer.TheConstants.{BOM};
 ghost use Rattle.squawk_lexer.specs.Gaps.{GapsAreSeen, TokensStay, TokensStayBefore};
-ghost use Rattle.squawk_lexer.specs.PsqlArguments.{QuotesCloseFirst, OpenQuotesStayOpen, ArgumentsAreLongest, ArgumentsAreUnique, ArgumentIsLongest, ArgumentIsUnique, MarkedIsFirst};
+ghost use Rattle.squawk_lexer.specs.Edges.{base_value, literal_cmp};
+ghost use Rattle.squawk_lexer.specs.declared.lexer.TheConstants.{BOM};
 
-/// A run of a class is the longest: all its characters are of the class, and the one behind it is
-/// not. Only one end is such.
+use crate::token::{Base, LiteralKind, Strings, Token, TokenKind};
+
+/// A run is the longest: all of its characters are of the class, and the next one is not. No other
+/// end has this property.
 pub fn runs_are_longest()
-    ensures longest { RunsAreLongest }
-    ensures only { RunsAreUnique }
+    ensures longest { spec.RunsAreLongest }
+    ensures only { spec.RunsAreUnique }
 {}
 
-/// Each token of a text has a character at least, and no more than the text.
+/// Each token has at least one character, and not more than the text. In bytes, it has at least one
+/// and ends on a character boundary.
 pub fn tokens_progress()
-    ensures some { TokensProgress }
-    ensures within { TokensWithin }
-    ensures texts { TextsProgress }
+    ensures some { spec.TokensProgress }
+    ensures within { spec.TokensWithin }
+    ensures texts { ahead.TextsProgress }
 {}
 
-/// The text has the characters of its first tokens, and they have the bytes of these tokens.
-pub fn places_add_up()
-    ensures within { LengthsWithin }
-    ensures bytes { LengthsAddUp }
+/// The lengths of the first n tokens add up to the bytes of the characters before the next token.
+pub fn lengths_add_up()
+    ensures within { spec.LengthsWithin }
+    ensures bytes { spec.LengthsAddUp }
 {}
 
-/// Behind any token, the tokens are those of the text that is left, read without the rule for a
-/// leading byte order mark.
+/// After any token, the tokens are those of the remaining text, read without the rule for a leading
+/// byte order mark.
 pub fn tokens_restart()
-    ensures chars { TokensRestart }
-    ensures texts { TextsRestart }
+    ensures chars { spec.TokensRestart }
+    ensures texts { ahead.TextsRestart }
 {}
 
 /// A token is `Unknown` exactly where it begins with an ASCII control character other than white
 /// space, and it is that one character.
 pub fn unknown_is_control()
-    ensures exactly { UnknownIsControl }
-    ensures one { UnknownIsOneCharacter }
+    ensures exactly { spec.UnknownIsControl }
+    ensures one { spec.UnknownIsOneCharacter }
 {}
 
-/// A dollar string ends behind the first place where its delimiter stands, and is open only where
-/// it stands nowhere.
-pub fn found_is_first()
-    ensures first { FirstOccurrenceIsFound }
-    ensures nowhere { NoOccurrenceIsMissed }
+/// A dollar-quoted string ends with the first occurrence of its delimiter, and is unterminated only
+/// if there is none.
+pub fn first_occurrence_is_found()
+    ensures first { spec.FirstOccurrenceIsFound }
+    ensures nowhere { spec.NoOccurrenceIsMissed }
 {}
 
-/// A block comment ends behind the first close that leaves no comment open, and is unterminated
-/// only where none does.
+/// A block comment ends with the first `*/` that leaves no comment open, and is unterminated only
+/// if there is none.
 pub fn comments_balance()
-    ensures ends { CommentsBalance }
-    ensures unterminated { OpenCommentsStayOpen }
+    ensures ends { spec.CommentsBalance }
+    ensures unterminated { spec.OpenCommentsStayOpen }
 {}
 
-/// The first argument whose mark is `)` is found with a running mark.
+/// psql's options end with the first argument whose mark is `)`.
 pub fn marked_is_first()
-    ensures { MarkedIsFirst }
+    ensures { psql.MarkedIsFirst }
 {}
 
-/// The arguments together are the longest sequence of parts, and one argument is the longest with
-/// no blank. Only one length is such.
+/// The arguments of a psql command are the longest sequence of parts, and one argument is the
+/// longest such sequence without a blank. No other length has these properties.
 pub fn arguments_are_longest()
-    ensures all { ArgumentsAreLongest }
-    ensures only { ArgumentsAreUnique }
-    ensures one { ArgumentIsLongest }
-    ensures only_one { ArgumentIsUnique }
+    ensures all { psql.ArgumentsAreLongest }
+    ensures only { psql.ArgumentsAreUnique }
+    ensures one { psql.ArgumentIsLongest }
+    ensures only_one { psql.ArgumentIsUnique }
 {}
 
-/// A quote ends behind the first character that closes it, and is open only where none on its line
-/// does.
+/// A quote in a psql command ends with the first character that closes it, and is unterminated only
+/// if none on its line does.
 pub fn quotes_close_first()
-    ensures first { QuotesCloseFirst }
-    ensures open { OpenQuotesStayOpen }
+    ensures first { psql.QuotesCloseFirst }
+    ensures open { psql.OpenQuotesStayOpen }
 {}
 
-/// A token that at least two characters follow is decided by its own characters and these two, and
-/// by whether the text begins there.
+/// Two characters of look-ahead suffice: a token that at least two characters follow is decided by
+/// its own characters, these two, and whether it is at the start of the text.
 pub fn tokens_look_ahead()
-    ensures lexemes { LexemesLookAhead }
-    ensures tokens { TokensLookAhead }
-    ensures texts { TextsLookAhead }
+    ensures lexemes { ahead.LexemesLookAhead }
+    ensures tokens { ahead.TokensLookAhead }
+    ensures texts { ahead.TextsLookAhead }
 {}
 
-/// Behind a text whose last token is a `;`, any text is cut by itself, and no token before it
-/// changes.
+/// If the last token of a text is a `;`, any text can be appended: no token before it changes, and
+/// the appended text is cut by itself, without the rule for a leading byte order mark.
 pub fn statements_stand_alone()
-    ensures { StatementsStandAlone }
+    ensures { ahead.StatementsStandAlone }
 {}
 
-/// What is quoted ends behind the first quote that is in no item.
+/// Quoted text ends with the first quote that is neither doubled nor escaped.
 pub fn quoted_ends_first()
     ensures first { QuotedEndsFirst }
     ensures only { QuotedEndIsUnique }
 {}
 
-/// A run of digits is the longest.
+/// A run of digits, with `_` directly before some of them, is the longest.
 pub fn digits_are_longest()
     ensures { DigitsAreLongest }
 {}
 
-/// The mark is U+FEFF in UTF-8.
-pub fn mark_is_one_character()
+/// [`BOM`](crate::BOM) is U+FEFF in UTF-8.
+pub fn bom_is_one_character()
     ensures { BOM.now ≡ 0xEF ∷ 0xBB ∷ 0xBF ∷ [] }
 {}
 
-/// Which gap follows a token does not change it: white or a comment, directly behind it or behind
-/// one more character.
+/// White space or a comment after a token can be replaced by a space or LF without changing the
+/// token, both directly after it and after one more character.
 pub fn tokens_stay()
     ensures seen { GapsAreSeen }
     ensures near { TokensStay }
     ensures before { TokensStayBefore }
 {}
 
-/// The places that the flags of a number or a parameter name lie in it: an exponent without digits
-/// begins before the junk, and junk behind a first byte, at the token's end at the latest. Each
-/// token of a text is the first token of some text, so this holds of it.
+/// The offsets in the kind of a number or a parameter lie inside the token: an empty exponent
+/// begins before the trailing junk, and the trailing junk after the first byte, at the latest at
+/// the end of the token. Each token of a text is the first token of some text, so this holds for
+/// all of them.
 pub fn flags_lie_within()
     ensures within { FlagsLieWithin }
     ensures cut { TokensAreCut }
+{}
+
+/// The number of a base: 2, 8, 10 or 16.
+pub fn base_number(base: Base) -> u8
+    ensures { result ≡ base_value base }
+{
+    base as u8
+}
+
+/// Bases are ordered as their numbers are. Kinds of literals are ordered by their variants as
+/// listed, and within a variant by the fields from first to last.
+pub fn literals_are_ordered()
+    ensures bases { (a b : Base) → ⟦<Base as Ord>⟧.cmp a b ≡ nat_cmp (base_value a) (base_value b) }
+    ensures literals { (a b : LiteralKind) → ⟦<LiteralKind as Ord>⟧.cmp a b ≡ literal_cmp a b }
+{}
+
+/// Values that `==` takes for equal are the same. Tokens are compared by kind and length.
+pub fn equal_values_are_the_same()
+    ensures tokens { (a b : Token) → ⟦<Token as PartialEq>⟧.eq a b
+        ≡ (⟦<TokenKind as PartialEq>⟧.eq a.kind b.kind && a.len == b.len) }
+    ensures literals { (a b : LiteralKind) → ⟦<LiteralKind as PartialEq>⟧.eq a b ≡ true → a ≡ b }
+    ensures bases { (a b : Base) → ⟦<Base as PartialEq>⟧.eq a b ≡ true → a ≡ b }
+    ensures strings { (a b : Strings) → ⟦<Strings as PartialEq>⟧.eq a b ≡ true → a ≡ b }
 {}

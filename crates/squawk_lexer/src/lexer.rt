@@ -1,25 +1,25 @@
-//! The token at the front of a text.
-ghost use Rattle.std.specs.Prelude.{◌≡◌, ◌≢◌, ◌+◌, ◌<◌, ◌==◌, ◌^◌, ◌∷◌, length, drop, slice_index, true, false};
+//! Cuts the first token off a text.
+ghost use Rattle.std.specs.Prelude.{◌≡◌, ◌≢◌, ◌+◌, ◌<◌, ◌==◌, ◌^◌, length, drop, slice_index, true, false};
 ghost use Rattle.std.specs.Str.{chars, is_utf8, IsCharBoundary};
 ghost use Rattle.squawk_lexer.specs.Kind.{lexeme_until};
 ghost use Rattle.squawk_lexer.specs.Classes.{is_whitespace};
 ghost use Rattle.squawk_lexer.specs.Runs.{run_end};
 ghost use Rattle.squawk_lexer.specs.Symbols.{symbol};
 ghost use Rattle.squawk_lexer.specs.Token.{token_form, lexeme_of, lexeme_at, token_at};
-ghost use Rattle.squawk_lexer.specs.Cut.{tokens_from};
+ghost use Rattle.squawk_lexer.specs.Edges.{IsFirstTokenAt};
 ghost use Rattle.squawk_lexer.specs.LookAhead.{IsDecided, RestartsAt, SplitsAt};
 
 use crate::classes::Class;
 use crate::cursor::Cursor;
 use crate::token::{LiteralKind, Strings, Token, TokenKind, literal};
 
-/// The byte order mark, U+FEFF: three bytes. It is white where it begins a text, and a letter
-/// anywhere else.
+/// The byte order mark, U+FEFF: three bytes in UTF-8. At the start of a text it is a `Whitespace`
+/// token by itself. Anywhere else it is a letter, as every character from U+0080 on is.
 pub const BOM: &str = "\u{feff}";
 
-/// A token of one character.
+// The kind of a token of one character. `Unknown` is left for the control characters.
 #[tactic(auto, unfolding(crate::specs::Symbols::symbol))]
-fn symbol_of(b: u8) -> TokenKind
+fn symbol_kind(b: u8) -> TokenKind
     ensures { result ≡ symbol b }
 {
     match b {
@@ -54,7 +54,7 @@ fn symbol_of(b: u8) -> TokenKind
     }
 }
 
-/// What the first two characters of a token begin.
+// The forms of tokens (`docs/GRAMMAR.md`, "Forms"), told apart by the first two characters.
 enum TokenForm {
     Whitespace,
     LineComment,
@@ -70,8 +70,10 @@ enum TokenForm {
     Symbol,
 }
 
+// The form of a token that begins with these bytes. The first bytes of the characters suffice,
+// since no form looks for a certain character beyond ASCII.
 #[tactic(auto, unfolding(crate::specs::Token::token_form))]
-fn start_of(first: u8, second: u8) -> TokenForm
+fn token_form(first: u8, second: u8) -> TokenForm
     ensures { result ≡ token_form first second }
 {
     match first {
@@ -91,46 +93,46 @@ fn start_of(first: u8, second: u8) -> TokenForm
 }
 
 impl<'a> Cursor<'a> {
-    /// What the first two characters begin.
-    fn begins(&self) -> TokenForm
+    // The form of the token that begins here.
+    fn next_token_form(&self) -> TokenForm
         requires { self.now.at ≡ 0 }
         ensures { result ≡ token_form (slice_index self.now.text 0) (slice_index self.now.text 1) }
     {
-        start_of(self.byte(0), self.byte(1))
+        token_form(self.peek_byte(0), self.peek_byte(1))
     }
 
-    /// Moves behind a token of one character.
+    // Consumes a token of one character.
     fn symbol(&mut self) -> TokenKind
         requires at { self.old.at ≡ 0 }
         requires some { 0 < length self.old.text }
         ensures text { self.new.text ≡ self.old.text }
-        ensures gives { lexeme_until result self.new.at
+        ensures lexeme { lexeme_until result self.new.at
             ≡ lexeme_until (symbol (slice_index self.old.text 0)) 1 }
     {
-        let kind = symbol_of(self.byte(0));
+        let kind = symbol_kind(self.peek_byte(0));
         self.bump();
         kind
     }
 
-    /// Moves behind white characters.
+    // Consumes a run of white space.
     fn whitespace(&mut self) -> TokenKind
         ensures text { self.new.text ≡ self.old.text }
-        ensures gives { lexeme_until result self.new.at
+        ensures lexeme { lexeme_until result self.new.at
             ≡ lexeme_until TokenKind.Whitespace (run_end is_whitespace self.old.text self.old.at) }
     {
         self.eat_while(Class::Whitespace);
         TokenKind::Whitespace
     }
 
-    /// Moves behind the token at the front.
+    // Consumes the next token, and returns its kind.
     #[tactic(auto, using(crate::proofs::FormSteps::form_steps))]
     fn advance_token(&mut self, strings: Strings) -> TokenKind
         requires at { self.old.at ≡ 0 }
         requires some { 0 < length self.old.text }
         ensures text { self.new.text ≡ self.old.text }
-        ensures gives { lexeme_until result self.new.at ≡ lexeme_of strings self.old.text }
+        ensures lexeme { lexeme_until result self.new.at ≡ lexeme_of strings self.old.text }
     {
-        match self.begins() {
+        match self.next_token_form() {
             TokenForm::Whitespace => self.whitespace(),
             TokenForm::LineComment => {
                 self.bump();
@@ -138,23 +140,21 @@ impl<'a> Cursor<'a> {
             }
             TokenForm::BlockComment => {
                 self.bump();
-                self.bump();
-                let terminated = self.block_comment();
-                TokenKind::BlockComment { terminated }
+                self.block_comment()
             }
             TokenForm::String => {
                 self.bump();
-                let terminated = self.quoted(b'\'', strings.has_escapes());
+                let terminated = self.quoted_text(b'\'', strings.has_escapes());
                 literal(LiteralKind::Str { terminated })
             }
             TokenForm::QuotedIdent => {
                 self.bump();
                 self.quoted_ident(false)
             }
-            TokenForm::Word => self.word(),
+            TokenForm::Word => self.ident_or_string(),
             TokenForm::Dollar => {
                 self.bump();
-                self.dollar()
+                self.dollar_string_or_param()
             }
             TokenForm::Number => {
                 let first = self.first();
@@ -168,7 +168,7 @@ impl<'a> Cursor<'a> {
             }
             TokenForm::Fraction => {
                 self.bump();
-                self.fractional()
+                self.eat_fractional()
             }
             TokenForm::Psql => {
                 self.bump();
@@ -179,8 +179,8 @@ impl<'a> Cursor<'a> {
     }
 }
 
-/// The token at the front of a text, and what follows it. `at_start` says that the whole text
-/// begins here.
+// Cuts the first token off a text, and returns it with the rest. `at_start` says that `text` is a
+// whole text, where a byte order mark is white space.
 pub(crate) fn cut(text: &str, at_start: bool, strings: Strings) -> (Token, &str)
     requires some { 0 < length text.now }
     requires fits { length text.now < 2 ^ 32 }
@@ -199,59 +199,56 @@ pub(crate) fn cut(text: &str, at_start: bool, strings: Strings) -> (Token, &str)
     };
     let token = Token {
         kind,
-        len: cursor.position(),
+        len: cursor.pos_within_token(),
     };
-    (token, cursor.rest())
+    (token, cursor.as_str())
 }
 
-/// The token that begins at the byte `at` of a text, by the rules of `docs/GRAMMAR.md`. A backslash
-/// in a string without a prefix is a character like any other, as the SQL standard says.
+/// Returns the first token of `input[at..]`, by the rules of `docs/GRAMMAR.md`, with
+/// [`Strings::Standard`].
 ///
-/// `at` is a place in bytes, below the text's length and between two characters. The text has at
-/// most 4294967295 bytes.
+/// `at` is an offset in bytes. It must be less than the length of `input` and lie on a character
+/// boundary; `input` must have less than 2^32 bytes. `at` need not be the start of a token of
+/// `input`: inside of one, the token that is returned is that of the text that follows. A byte
+/// order mark is a token by itself only if `at` is 0.
 ///
-/// The answer is what a cut of the text from `at` on gives first, so a place inside a token begins
-/// one of its own. It has a byte at least, ends between two characters, and is never `Eof`. A byte
-/// order mark is `Whitespace` by itself exactly where `at` is 0. No memory is taken.
+/// The token has at least one byte, ends on a character boundary and is never `Eof`. If two more
+/// characters follow it, no text after these can change it. If `at` is the end of a token of
+/// `input`, or if the last token of `input[..at]` is a `;`, then the tokens of `input[at..]`, read
+/// without the rule for the byte order mark, are those of `input` from `at` on. No memory is taken.
 pub fn cut_at(input: &str, at: usize) -> Token
     requires inside { at < length input.now }
     requires boundary { IsCharBoundary input.now at }
     requires fits { length input.now < 2 ^ 32 }
     ensures token { result ≡ token_at Strings.Standard (at == 0) (chars (drop at input.now)) }
-    ensures first { tokens_from Strings.Standard 0 (at == 0) (chars (drop at input.now))
-        ≡ result ∷ tokens_from Strings.Standard 0 false (chars (drop (at + result.len) input.now)) }
+    ensures first { IsFirstTokenAt Strings.Standard input.now at result }
     ensures positive { 0 < result.len }
     ensures ends_between { IsCharBoundary input.now (at + result.len) }
     ensures never_eof { result.kind ≢ TokenKind.Eof }
     ensures looks_ahead { IsDecided Strings.Standard (at == 0) (drop at input.now) result }
     ensures restarts { RestartsAt Strings.Standard input.now at }
-    ensures parts { SplitsAt Strings.Standard input.now at }
+    ensures splits { SplitsAt Strings.Standard input.now at }
 {
     cut_at_in(input, at, Strings::Standard)
 }
 
-/// The token that begins at the byte `at` of a text, by the rules of `docs/GRAMMAR.md`. `strings`
-/// says how strings without a prefix are read.
+/// Returns the first token of `input[at..]`, by the rules of `docs/GRAMMAR.md`, as [`cut_at`] does.
+/// `strings` says how strings without a prefix are read.
 ///
-/// `at` is a place in bytes, below the text's length and between two characters. The text has at
-/// most 4294967295 bytes.
-///
-/// The answer is what a cut of the text from `at` on gives first, so a place inside a token begins
-/// one of its own. It has a byte at least, ends between two characters, and is never `Eof`. A byte
-/// order mark is `Whitespace` by itself exactly where `at` is 0. No memory is taken.
+/// `at` is an offset in bytes. It must be less than the length of `input` and lie on a character
+/// boundary; `input` must have less than 2^32 bytes.
 pub fn cut_at_in(input: &str, at: usize, strings: Strings) -> Token
     requires inside { at < length input.now }
     requires boundary { IsCharBoundary input.now at }
     requires fits { length input.now < 2 ^ 32 }
     ensures token { result ≡ token_at strings (at == 0) (chars (drop at input.now)) }
-    ensures first { tokens_from strings 0 (at == 0) (chars (drop at input.now))
-        ≡ result ∷ tokens_from strings 0 false (chars (drop (at + result.len) input.now)) }
+    ensures first { IsFirstTokenAt strings input.now at result }
     ensures positive { 0 < result.len }
     ensures ends_between { IsCharBoundary input.now (at + result.len) }
     ensures never_eof { result.kind ≢ TokenKind.Eof }
     ensures looks_ahead { IsDecided strings (at == 0) (drop at input.now) result }
     ensures restarts { RestartsAt strings input.now at }
-    ensures parts { SplitsAt strings input.now at }
+    ensures splits { SplitsAt strings input.now at }
 {
     cut(&input[at..], at == 0, strings).0
 }

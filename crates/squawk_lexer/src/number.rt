@@ -1,7 +1,10 @@
-//! Numbers and parameters.
+//! Numeric constants (PostgreSQL manual, 4.1.2.6) and positional parameters (4.2.2).
+//!
+//! Each ends with its trailing junk: an identifier glued to the digits, which PostgreSQL reports as
+//! an error. It belongs to the token, and `trailing_junk_start` tells where it begins.
 ghost use Rattle.std.specs.Prelude.{◌≡◌, ◌+◌, ◌<◌, ◌==◌, slice_index, ◌&&◌, not, length, true};
 ghost use Rattle.squawk_lexer.specs.Kind.{lexeme_until};
-ghost use Rattle.squawk_lexer.specs.Numbers.{based_int, numeric, with_exponent, fractional, decimal_from, number, parameter};
+ghost use Rattle.squawk_lexer.specs.Numbers as spec;
 ghost use Rattle.squawk_lexer.specs.Runs.{exponent_end, fraction_end, is_sign, is_exponent_letter};
 ghost use Rattle.squawk_lexer.specs.Classes.{is_digit};
 
@@ -22,6 +25,7 @@ fn is_exponent_letter(c: char) -> bool
 }
 
 impl<'a> Cursor<'a> {
+    // Whether a sign and a digit come next.
     fn is_at_signed_digit(&self) -> bool
         ensures { result ≡ (is_sign (slice_index self.now.text self.now.at)
             && is_digit (slice_index self.now.text (self.now.at + 1))) }
@@ -29,9 +33,10 @@ impl<'a> Cursor<'a> {
         is_sign(self.first()) && is_digit(self.second())
     }
 
-    /// Moves behind an exponent, whose letter stands at the place, and tells whether it has digits.
+    // Consumes an exponent, whose letter comes next, and returns whether it has digits. Without
+    // digits it is the letter alone.
     #[tactic(auto, using(crate::proofs::Steps::exponent_steps))]
-    pub(crate) fn eat_exponent(&mut self) -> bool
+    pub(crate) fn eat_numeric_exponent(&mut self) -> bool
         requires { self.old.at < length self.old.text }
         ensures text { self.new.text ≡ self.old.text }
         ensures at { self.new.at ≡ exponent_end self.old.text self.old.at }
@@ -50,7 +55,8 @@ impl<'a> Cursor<'a> {
         false
     }
 
-    /// Moves behind the digits that may follow a point.
+    // Consumes the digits after a decimal point, if there are any. They begin with a digit, not
+    // with `_`.
     fn eat_fraction_digits(&mut self)
         ensures text { self.new.text ≡ self.old.text }
         ensures at { self.new.at ≡ fraction_end self.old.text self.old.at }
@@ -60,64 +66,68 @@ impl<'a> Cursor<'a> {
         }
     }
 
-    /// Moves behind junk after a number with a point or an exponent.
-    fn numeric(&mut self, empty_exponent_start: Option<u32>) -> TokenKind
+    // Consumes the trailing junk of a number with a decimal point or an exponent.
+    fn finish_numeric(&mut self, empty_exponent_start: Option<u32>) -> TokenKind
         ensures text { self.new.text ≡ self.old.text }
-        ensures gives { lexeme_until result self.new.at
-            ≡ numeric empty_exponent_start self.old.text self.old.at }
+        ensures lexeme { lexeme_until result self.new.at
+            ≡ spec.numeric empty_exponent_start self.old.text self.old.at }
     {
         let kind = LiteralKind::Numeric {
             empty_exponent_start,
-            trailing_junk_start: self.position(),
+            trailing_junk_start: self.pos_within_token(),
         };
-        self.eat_junk();
+        self.eat_identifier();
         literal(kind)
     }
 
-    /// Moves behind an exponent, whose letter stands at the place, and junk.
+    // Consumes an exponent, whose letter comes next, and the trailing junk.
     #[tactic(auto, using(crate::proofs::Steps::exponent_steps))]
-    fn with_exponent(&mut self) -> TokenKind
+    fn finish_with_exponent(&mut self) -> TokenKind
         requires { is_exponent_letter (slice_index self.old.text self.old.at) ≡ true }
         ensures text { self.new.text ≡ self.old.text }
-        ensures gives { lexeme_until result self.new.at ≡ with_exponent self.old.text self.old.at }
+        ensures lexeme { lexeme_until result self.new.at
+            ≡ spec.with_exponent self.old.text self.old.at }
     {
-        let start = self.position();
-        if self.eat_exponent() {
-            self.numeric(None)
+        let start = self.pos_within_token();
+        if self.eat_numeric_exponent() {
+            self.finish_numeric(None)
         } else {
-            self.numeric(Some(start))
+            self.finish_numeric(Some(start))
         }
     }
 
-    /// Moves behind a number, whose point stands before the place.
+    // Consumes what follows a decimal point: digits, an exponent and the trailing junk.
     #[inline(never)]
-    pub(crate) fn fractional(&mut self) -> TokenKind
+    pub(crate) fn eat_fractional(&mut self) -> TokenKind
         ensures text { self.new.text ≡ self.old.text }
-        ensures gives { lexeme_until result self.new.at ≡ fractional self.old.text self.old.at }
+        ensures lexeme { lexeme_until result self.new.at
+            ≡ spec.fractional self.old.text self.old.at }
     {
         self.eat_fraction_digits();
         if is_exponent_letter(self.first()) {
-            self.with_exponent()
+            self.finish_with_exponent()
         } else {
-            self.numeric(None)
+            self.finish_numeric(None)
         }
     }
 
-    /// Moves behind a number without a base, whose first digits end at the place.
+    // Consumes what follows the first digits of a number without a base prefix.
     #[tactic(auto, using(crate::proofs::Steps::exponent_steps))]
-    fn decimal(&mut self) -> TokenKind
+    fn finish_decimal(&mut self) -> TokenKind
         ensures text { self.new.text ≡ self.old.text }
-        ensures gives { lexeme_until result self.new.at ≡ decimal_from self.old.text self.old.at }
+        ensures lexeme { lexeme_until result self.new.at
+            ≡ spec.decimal_from self.old.text self.old.at }
     {
+        // In `1..10` the dots are a `DotDot`, and no decimal point.
         if self.first() == '.' && self.second() != '.' {
             self.bump();
-            return self.fractional();
+            return self.eat_fractional();
         }
         if is_exponent_letter(self.first()) {
-            return self.with_exponent();
+            return self.finish_with_exponent();
         }
-        let trailing_junk_start = self.position();
-        self.eat_junk();
+        let trailing_junk_start = self.pos_within_token();
+        self.eat_identifier();
         literal(LiteralKind::Int {
             base: Base::Decimal,
             empty_int: false,
@@ -125,14 +135,16 @@ impl<'a> Cursor<'a> {
         })
     }
 
-    /// Moves behind junk after the digits of a number with a base.
-    fn finish_based(&mut self, base: Base, has_digits: bool) -> TokenKind
+    // Consumes the trailing junk of a number with a base prefix. `has_digits` says whether digits
+    // follow the prefix.
+    fn finish_base_prefixed_int(&mut self, base: Base, has_digits: bool) -> TokenKind
         requires { has_digits ≡ not (self.old.at == 2) }
         ensures text { self.new.text ≡ self.old.text }
-        ensures gives { lexeme_until result self.new.at ≡ based_int base self.old.text self.old.at }
+        ensures lexeme { lexeme_until result self.new.at
+            ≡ spec.based_int base self.old.text self.old.at }
     {
-        let trailing_junk_start = self.position();
-        let has_junk = self.eat_junk();
+        let trailing_junk_start = self.pos_within_token();
+        let has_junk = self.eat_identifier();
         literal(LiteralKind::Int {
             base,
             empty_int: !has_digits && !has_junk,
@@ -140,48 +152,49 @@ impl<'a> Cursor<'a> {
         })
     }
 
-    /// Moves behind a number, from behind its first digit.
+    // Consumes a number, whose first digit was consumed. As PostgreSQL's `scan.l`, but for the
+    // digits of `0b` and `0o`: any decimal digit is taken, so that `0b12` is one token.
     #[inline(never)]
     #[tactic(auto, using(crate::proofs::NumberSteps::number_steps))]
     pub(crate) fn number(&mut self, first: char) -> TokenKind
         requires first { first ≡ slice_index self.old.text 0 }
         requires at { self.old.at ≡ 1 }
         ensures text { self.new.text ≡ self.old.text }
-        ensures gives { lexeme_until result self.new.at ≡ number self.old.text }
+        ensures lexeme { lexeme_until result self.new.at ≡ spec.number self.old.text }
     {
         if first == '0' {
             match self.first() {
                 'b' | 'B' => {
                     self.bump();
                     let has_digits = self.eat_decimal_digits();
-                    return self.finish_based(Base::Binary, has_digits);
+                    return self.finish_base_prefixed_int(Base::Binary, has_digits);
                 }
                 'o' | 'O' => {
                     self.bump();
                     let has_digits = self.eat_decimal_digits();
-                    return self.finish_based(Base::Octal, has_digits);
+                    return self.finish_base_prefixed_int(Base::Octal, has_digits);
                 }
                 'x' | 'X' => {
                     self.bump();
                     let has_digits = self.eat_hexadecimal_digits();
-                    return self.finish_based(Base::Hexadecimal, has_digits);
+                    return self.finish_base_prefixed_int(Base::Hexadecimal, has_digits);
                 }
                 _ => {}
             }
         }
         self.eat_decimal_digits();
-        self.decimal()
+        self.finish_decimal()
     }
 
-    /// Moves behind a parameter, from behind its `$`.
-    pub(crate) fn parameter(&mut self) -> TokenKind
+    // Consumes a positional parameter, whose `$` was consumed. Its digits have no `_`.
+    pub(crate) fn positional_param(&mut self) -> TokenKind
         requires { self.old.at ≡ 1 }
         ensures text { self.new.text ≡ self.old.text }
-        ensures gives { lexeme_until result self.new.at ≡ parameter self.old.text }
+        ensures lexeme { lexeme_until result self.new.at ≡ spec.parameter self.old.text }
     {
         self.eat_while(Class::Digit);
-        let trailing_junk_start = self.position();
-        self.eat_junk();
+        let trailing_junk_start = self.pos_within_token();
+        self.eat_identifier();
         TokenKind::PositionalParam {
             trailing_junk_start,
         }

@@ -1,22 +1,22 @@
-//! psql commands.
-ghost use Rattle.std.specs.Prelude.{◌≡◌, ◌≢◌, ℕ, ◌<◌, ◌≤◌, ◌+◌, length, take, ◌||◌, ◌&&◌, ◌==◌, not, drop, slice_index, slice_get, unwrap_or, is_some, Some, true, false, codes};
+//! psql's backslash commands (PostgreSQL manual, psql, "Meta-Commands").
+ghost use Rattle.std.specs.Prelude.{◌≡◌, ◌≢◌, ℕ, ◌<◌, ◌≤◌, ◌+◌, length, take, ◌||◌, ◌&&◌, ◌==◌, drop, slice_index, slice_get, unwrap_or, is_some, Some, true, false, codes};
 ghost use Rattle.std.specs.Str.{chars, str_eq_ignore_ascii_case};
 ghost use Rattle.squawk_lexer.specs.Kind.{lexeme_until};
 ghost use Rattle.squawk_lexer.specs.Classes.{is_line_end, backslash};
-ghost use Rattle.squawk_lexer.specs.PsqlWords.{is_among, query_ending_words, pipe_words, option_words, whole_line_words, takes_line};
+ghost use Rattle.squawk_lexer.specs.PsqlWords as words;
 ghost use Rattle.squawk_lexer.specs.Text.{utf8_len};
 ghost use Rattle.squawk_lexer.specs.Runs.{line_end};
 ghost use Rattle.squawk_lexer.specs.PsqlQuotes.{close_end, last_before, piece_stop};
-ghost use Rattle.squawk_lexer.specs.PsqlParts.{is_quote, is_escape_pair, close_len, quote_len, last_inside, ends_arguments, part_rest, arguments_len, arguments_end, mark_after, is_parenthesis, marked_len_at};
-ghost use Rattle.squawk_lexer.specs.Psql.{word_end, command_word, options_end, output_start, output_end, command_end, psql};
+ghost use Rattle.squawk_lexer.specs.PsqlParts as parts;
+ghost use Rattle.squawk_lexer.specs.Psql as spec;
 
 use crate::classes::{Class, is_blank};
 use crate::cursor::Cursor;
-use crate::quoted::second_stop;
+use crate::quoted::escape_or_quote;
 use crate::token::TokenKind;
 
-/// The commands that send the query buffer, end it or throw it away.
-const QUERY_ENDING: [&str; 18] = [
+// Commands that end the query before them: they send, finish or reset the query buffer.
+const QUERY_ENDING_WORDS: [&str; 18] = [
     "g",
     "gx",
     "gdesc",
@@ -37,39 +37,40 @@ const QUERY_ENDING: [&str; 18] = [
     "reset",
 ];
 
-/// The commands whose output may go to a pipe.
-const PIPE: [&str; 6] = ["g", "gx", "o", "out", "w", "write"];
+// Commands whose output can go to a pipe.
+const PIPE_WORDS: [&str; 6] = ["g", "gx", "o", "out", "w", "write"];
 
-/// Those of them that take options in parentheses.
-const WITH_OPTIONS: [&str; 2] = ["g", "gx"];
+// Those of them that can have options in parentheses.
+const OPTION_WORDS: [&str; 2] = ["g", "gx"];
 
-/// The commands that take the rest of the line as it stands, `copy` apart.
-const WHOLE_LINE: [&str; 9] = ["!", "ef", "ev", "sf", "sf+", "sv", "sv+", "h", "help"];
+// Commands that take the rest of the line as it is, without `copy`.
+const WHOLE_LINE_WORDS: [&str; 9] = ["!", "ef", "ev", "sf", "sf+", "sv", "sv+", "h", "help"];
 
 fn is_query_ending(word: &str) -> bool
-    ensures { result ≡ is_among query_ending_words (chars word.now) }
+    ensures { result ≡ words.is_among words.query_ending_words (chars word.now) }
 {
-    QUERY_ENDING.contains(&word)
+    QUERY_ENDING_WORDS.contains(&word)
 }
 
-fn is_pipe(word: &str) -> bool
-    ensures { result ≡ is_among pipe_words (chars word.now) }
+fn takes_pipe(word: &str) -> bool
+    ensures { result ≡ words.is_among words.pipe_words (chars word.now) }
 {
-    PIPE.contains(&word)
+    PIPE_WORDS.contains(&word)
 }
 
-fn has_options(word: &str) -> bool
-    ensures { result ≡ is_among option_words (chars word.now) }
+fn takes_options(word: &str) -> bool
+    ensures { result ≡ words.is_among words.option_words (chars word.now) }
 {
-    WITH_OPTIONS.contains(&word)
+    OPTION_WORDS.contains(&word)
 }
 
-fn is_whole_line(word: &str) -> bool
-    ensures { result ≡ is_among whole_line_words (chars word.now) }
+fn is_whole_line_word(word: &str) -> bool
+    ensures { result ≡ words.is_among words.whole_line_words (chars word.now) }
 {
-    WHOLE_LINE.contains(&word)
+    WHOLE_LINE_WORDS.contains(&word)
 }
 
+// psql itself compares this name without case.
 fn is_copy(word: &str) -> bool
     ensures { result ≡ str_eq_ignore_ascii_case (chars word.now) (codes "copy") }
 {
@@ -77,9 +78,9 @@ fn is_copy(word: &str) -> bool
 }
 
 fn takes_line(word: &str) -> bool
-    ensures { result ≡ takes_line (chars word.now) }
+    ensures { result ≡ words.takes_line (chars word.now) }
 {
-    is_whole_line(word) || is_copy(word)
+    is_whole_line_word(word) || is_copy(word)
 }
 
 fn is_line_end(c: char) -> bool
@@ -88,22 +89,22 @@ fn is_line_end(c: char) -> bool
     c == '\n' || c == '\r'
 }
 
-/// Whether no part of the arguments begins with the character.
+// Whether `c` ends the arguments, if it is outside quotes.
 fn ends_arguments(c: char) -> bool
-    ensures { result ≡ ends_arguments c }
+    ensures { result ≡ parts.ends_arguments c }
 {
     is_line_end(c) || c == '\\'
 }
 
-/// Whether the characters are one piece of a quote.
-fn is_pair(quote: char, c: char, next: char) -> bool
-    ensures { result ≡ is_escape_pair quote c next }
+// Whether a backslash `c` escapes `next`: in single quotes alone, and not at the end of a line.
+fn is_escape_pair(quote: char, c: char, next: char) -> bool
+    ensures { result ≡ parts.is_escape_pair quote c next }
 {
     quote == '\'' && c == '\\' && !is_line_end(next)
 }
 
 fn is_parenthesis(mark: Option<char>) -> bool
-    ensures { result ≡ is_parenthesis mark }
+    ensures { result ≡ parts.is_parenthesis mark }
 {
     match mark {
         Some(c) => c == ')',
@@ -112,13 +113,14 @@ fn is_parenthesis(mark: Option<char>) -> bool
 }
 
 impl<'a> Cursor<'a> {
-    /// Moves behind what a backslash begins, from behind it.
+    // Consumes the token of a backslash, which was consumed: psql's separator `\\`, an escaped `;`
+    // or `:`, or a command.
     #[inline(never)]
     pub(crate) fn psql_command(&mut self) -> TokenKind
         requires first { slice_index self.old.text 0 ≡ backslash }
         requires at { self.old.at ≡ 1 }
         ensures text { self.new.text ≡ self.old.text }
-        ensures gives { lexeme_until result self.new.at ≡ psql self.old.text }
+        ensures lexeme { lexeme_until result self.new.at ≡ spec.psql self.old.text }
     {
         match self.first() {
             '\\' => {
@@ -135,7 +137,7 @@ impl<'a> Cursor<'a> {
             }
             _ => {
                 let word = self.command_word();
-                self.eat_command(word);
+                self.eat_command_rest(word);
                 TokenKind::PsqlCommand {
                     ends_query: is_query_ending(word),
                 }
@@ -143,85 +145,87 @@ impl<'a> Cursor<'a> {
         }
     }
 
-    /// Moves behind the word of a command, from behind its backslash, and gives the word.
+    // Consumes the name of a command, whose backslash was consumed, and returns it.
     fn command_word(&mut self) -> &'a str
         requires first { slice_index self.old.text 0 ≡ backslash }
         requires at { self.old.at ≡ 1 }
         ensures text { self.new.text ≡ self.old.text }
-        ensures at { self.new.at ≡ word_end self.old.text }
-        ensures is { chars result.now ≡ command_word self.old.text }
+        ensures at { self.new.at ≡ spec.word_end self.old.text }
+        ensures chars { chars result.now ≡ spec.command_word self.old.text }
     {
         self.eat_while(Class::CommandChar);
-        &self.taken()[1..]
+        &self.consumed_text()[1..]
     }
 
-    /// Moves behind what belongs to the command of that name, from behind its word.
-    fn eat_command(&mut self, name: &str)
-        requires name { chars name.now ≡ command_word self.old.text }
-        requires at { self.old.at ≡ word_end self.old.text }
+    // Consumes what belongs to the command `name` after that name.
+    fn eat_command_rest(&mut self, name: &str)
+        requires name { chars name.now ≡ spec.command_word self.old.text }
+        requires at { self.old.at ≡ spec.word_end self.old.text }
         ensures text { self.new.text ≡ self.old.text }
-        ensures at { self.new.at ≡ command_end self.old.text }
+        ensures at { self.new.at ≡ spec.command_end self.old.text }
     {
         if takes_line(name) {
             self.eat_while(Class::NotLineEnd);
             return;
         }
-        if is_pipe(name) {
+        if takes_pipe(name) {
             self.eat_while(Class::Blank);
-            self.eat_options(has_options(name));
+            self.eat_options(takes_options(name));
             self.eat_output();
             return;
         }
-        self.eat_arguments();
+        self.eat_psql_args();
     }
 
-    /// Moves to where the output is named, behind options in parentheses if the command takes them.
-    fn eat_options(&mut self, options: bool)
+    // Consumes options in parentheses and the blanks after them, if `has_options` and a `(` comes
+    // next.
+    fn eat_options(&mut self, has_options: bool)
         ensures text { self.new.text ≡ self.old.text }
-        ensures at { self.new.at ≡ output_start options self.old.text self.old.at }
+        ensures at { self.new.at ≡ spec.output_start has_options self.old.text self.old.at }
     {
-        if !options || self.first() != '(' {
+        if !has_options || self.first() != '(' {
             return;
         }
-        if self.eat_marked() {
+        if self.eat_psql_options() {
             self.eat_while(Class::Blank);
         }
     }
 
-    /// Moves behind the name of an output, a pipe or a file.
+    // Consumes where the output goes: a pipe, which takes the rest of the line, or arguments.
     fn eat_output(&mut self)
         ensures text { self.new.text ≡ self.old.text }
-        ensures at { self.new.at ≡ output_end self.old.text self.old.at }
+        ensures at { self.new.at ≡ spec.output_end self.old.text self.old.at }
     {
         if self.first() == '|' {
             self.eat_while(Class::NotLineEnd);
             return;
         }
-        self.eat_arguments();
+        self.eat_psql_args();
     }
 
-    /// Moves behind the arguments.
+    // Consumes the arguments, up to the end of the line or the next backslash outside quotes.
     #[tactic(auto, using(crate::proofs::PsqlSteps::args_steps))]
-    fn eat_arguments(&mut self)
+    fn eat_psql_args(&mut self)
         ensures text { self.new.text ≡ self.old.text }
-        ensures at { self.new.at ≡ arguments_end self.old.text self.old.at }
+        ensures at { self.new.at ≡ parts.arguments_end self.old.text self.old.at }
     {
         while let Some(c) = self.peek()
             && !ends_arguments(c)
         {
-            self.eat_part(c, None);
+            self.eat_psql_arg_part(c, None);
         }
     }
 
-    /// Moves behind the first argument whose mark is `)`, and tells whether there is one; else
-    /// behind all arguments.
+    // Consumes arguments up to the first one that ends the options, and returns whether there is
+    // one. Otherwise consumes all arguments. An argument ends the options if its mark is `)`: see
+    // `docs/GRAMMAR.md`, "Commands of psql".
     #[tactic(auto, using(crate::proofs::PsqlSteps::marked_steps))]
-    fn eat_marked(&mut self) -> bool
+    fn eat_psql_options(&mut self) -> bool
         ensures text { self.new.text ≡ self.old.text }
         ensures at { self.new.at ≡ self.old.at
-            + unwrap_or (marked_len_at self.old.text self.old.at)
-            (arguments_len 0 (drop self.old.at self.old.text)) }
-        ensures found { result ≡ is_some (marked_len_at self.old.text self.old.at) }
+            + unwrap_or (parts.marked_len_at self.old.text self.old.at)
+            (parts.arguments_len 0 (drop self.old.at self.old.text)) }
+        ensures found { result ≡ is_some (parts.marked_len_at self.old.text self.old.at) }
     {
         let mut mark = None;
         while let Some(c) = self.peek() {
@@ -229,7 +233,7 @@ impl<'a> Cursor<'a> {
                 return is_parenthesis(mark);
             }
             if !is_blank(c) {
-                mark = self.eat_part(c, mark);
+                mark = self.eat_psql_arg_part(c, mark);
                 continue;
             }
             if is_parenthesis(mark) {
@@ -241,70 +245,73 @@ impl<'a> Cursor<'a> {
         is_parenthesis(mark)
     }
 
-    /// Moves behind the part of the arguments that begins with the character at the place. Given
-    /// the mark of its argument before the part, gives that behind it.
+    // Consumes the part of an argument that begins with the next character `c`: a quote, or `c`
+    // alone. Takes the mark of the argument before that part, and returns the mark after it.
     #[tactic(auto, using(crate::proofs::PsqlSteps::part_steps))]
-    fn eat_part(&mut self, c: char, mark: Option<char>) -> Option<char>
+    fn eat_psql_arg_part(&mut self, c: char, mark: Option<char>) -> Option<char>
         requires { Some c ≡ slice_get self.old.text self.old.at }
         ensures text { self.new.text ≡ self.old.text }
         ensures at { self.new.at ≡ self.old.at + 1
-            + part_rest c (drop (self.old.at + 1) self.old.text) }
-        ensures mark { result ≡ mark_after mark c (drop (self.old.at + 1) self.old.text) }
+            + parts.part_rest c (drop (self.old.at + 1) self.old.text) }
+        ensures mark { result ≡ parts.mark_after mark c (drop (self.old.at + 1) self.old.text) }
     {
         self.bump();
         match c {
-            '\'' => self.eat_quote(c).or(mark),
+            '\'' => self.psql_quoted_arg(c).or(mark),
             '"' => {
-                self.eat_quote(c);
+                self.psql_quoted_arg(c);
                 Some(c)
             }
             '`' => {
-                self.eat_quote(c);
+                self.psql_quoted_arg(c);
                 None
             }
             _ => Some(c),
         }
     }
 
-    /// Moves behind a quote, from behind its opening, and gives the last character before a closing
-    /// quote.
+    // Consumes a quoted part, whose opening quote was consumed, up to its closing quote or the end
+    // of the line. Returns the last character inside, if there is one and the quote is closed.
     #[tactic(auto, using(crate::proofs::PsqlSteps::quote_steps))]
-    fn eat_quote(&mut self, quote: char) -> Option<char>
-        requires { is_quote quote ≡ true }
+    fn psql_quoted_arg(&mut self, quote: char) -> Option<char>
+        requires { parts.is_quote quote ≡ true }
         ensures text { self.new.text ≡ self.old.text }
-        ensures at { self.new.at ≡ self.old.at + quote_len quote (drop self.old.at self.old.text) }
+        ensures at { self.new.at ≡ self.old.at
+            + parts.quote_len quote (drop self.old.at self.old.text) }
         ensures last { result
-            ≡ last_inside (drop self.old.at self.old.text)
-            (close_len quote (drop self.old.at self.old.text)) }
+            ≡ parts.last_inside (drop self.old.at self.old.text)
+            (parts.close_len quote (drop self.old.at self.old.text)) }
     {
-        let start = self.position();
-        self.pass_pieces(quote);
+        let start = self.pos_within_token();
+        self.eat_psql_quoted_text(quote);
         while let Some(c) = self.peek()
             && !is_line_end(c)
         {
             if c == quote {
-                let last = self.last_since(start);
+                let last = self.last_char_since(start);
                 self.bump();
                 return last;
             }
-            self.eat_piece(quote);
-            self.pass_pieces(quote);
+            self.eat_psql_quoted_char(quote);
+            self.eat_psql_quoted_text(quote);
         }
         None
     }
 
-    /// Moves to what may close the quote or begin a pair, or to the end of the line.
-    fn pass_pieces(&mut self, quote: char)
-        requires { is_quote quote ≡ true }
+    // Skips to the next character that can close the quote or escape one, or to the end of the
+    // line.
+    fn eat_psql_quoted_text(&mut self, quote: char)
+        requires { parts.is_quote quote ≡ true }
         ensures text { self.new.text ≡ self.old.text }
         ensures at { self.new.at ≡ piece_stop quote self.old.text self.old.at }
     {
         let quote = quote as u8;
-        self.pass_inside(quote, second_stop(quote, quote == b'\''));
+        self.eat_until2_on_line(quote, escape_or_quote(quote, quote == b'\''));
     }
 
-    /// Moves behind a piece of a quote, which no quote and no line end begins.
-    fn eat_piece(&mut self, quote: char)
+    // Consumes a character inside quotes, with the one that it escapes. It is neither a line end
+    // nor the quote.
+    fn eat_psql_quoted_char(&mut self, quote: char)
         requires some { self.old.at < length self.old.text }
         requires plain { is_line_end (slice_index self.old.text self.old.at) ≡ false }
         requires other { slice_index self.old.text self.old.at ≢ quote }
@@ -314,22 +321,23 @@ impl<'a> Cursor<'a> {
         ensures line { line_end self.new.text self.new.at ≡ line_end self.old.text self.old.at }
         ensures on { self.old.at < self.new.at }
     {
-        let first = self.first();
+        let c = self.first();
         self.bump();
-        if is_pair(quote, first, self.first()) {
+        // At the end of the text `first` reads NUL, and `bump` then consumes nothing.
+        if is_escape_pair(quote, c, self.first()) {
             self.bump();
         }
     }
 
-    /// The last character since the byte `start`, if one comes behind it.
-    fn last_since(&self, start: u32) -> Option<char>
+    // The character consumed last, if one was since the offset `start`.
+    fn last_char_since(&self, start: u32) -> Option<char>
         requires { self.now.at ≤ length self.now.text }
         ensures { (i : ℕ) → i ≤ self.now.at → start ≡ utf8_len (take i self.now.text)
             → result ≡ last_before self.now.text i self.now.at }
     {
-        if self.position() == start {
+        if self.pos_within_token() == start {
             return None;
         }
-        self.previous()
+        self.prev_char()
     }
 }

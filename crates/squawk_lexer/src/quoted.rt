@@ -1,32 +1,33 @@
-//! Text in quotes.
+//! Text between quotes: strings and quoted identifiers (PostgreSQL manual, 4.1.2.1 and 4.1.1).
 ghost use Rattle.std.specs.Prelude.{◌≡◌, ◌<◌, if◌then◌else◌};
 ghost use Rattle.squawk_lexer.specs.Classes.{backslash};
 ghost use Rattle.squawk_lexer.specs.Quoted.{quoted_end, is_terminated};
 
 use crate::cursor::Cursor;
 
-/// The byte besides the quote that begins a pair, if there is one, or else the quote.
-pub(crate) fn second_stop(quote: u8, escapes: bool) -> u8
+// What to search for beside `quote`: a backslash where it escapes, or else `quote` once more.
+pub(crate) fn escape_or_quote(quote: u8, escapes: bool) -> u8
     ensures { result ≡ (if escapes then backslash else quote) }
 {
     if escapes { b'\\' } else { quote }
 }
 
 impl<'a> Cursor<'a> {
-    /// Moves behind a text in quotes, from behind the opening quote, and tells whether a quote
-    /// ended it.
+    // Consumes quoted text, whose opening quote was consumed, and returns whether it is terminated.
+    // Two quotes in a row stand for one and do not end it. With `escapes`, a backslash escapes the
+    // next character.
     #[inline(never)]
     #[tactic(auto, using(crate::proofs::QuotedSteps::quoted_steps))]
-    pub(crate) fn quoted(&mut self, quote: u8, escapes: bool) -> bool
+    pub(crate) fn quoted_text(&mut self, quote: u8, escapes: bool) -> bool
         requires { (0 < quote) × (quote < 128) }
         ensures text { self.new.text ≡ self.old.text }
         ensures at { self.new.at ≡ quoted_end escapes quote self.old.text self.old.at }
         ensures terminated { result ≡ is_terminated escapes quote self.old.text self.old.at }
     {
-        let other = second_stop(quote, escapes);
-        while let Some(c) = self.bump_to(quote, other) {
+        let escape = escape_or_quote(quote, escapes);
+        while let Some(c) = self.eat_through2(quote, escape) {
             if c != quote as char {
-                // A backslash that escapes.
+                // The character after a backslash ends nothing.
                 self.bump();
                 continue;
             }

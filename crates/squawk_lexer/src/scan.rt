@@ -1,16 +1,18 @@
-//! Runs over the bytes of a text.
-ghost use Rattle.std.specs.Prelude.{◌≡◌, ◌+◌, ◌<◌, ◌≤◌, ℕ, length, drop, slice_index};
+//! Lengths of runs over the bytes of a text. No function here decodes UTF-8: the classes have all
+//! characters beyond ASCII or none, so a run of bytes ends where the run of characters does.
+ghost use Rattle.std.specs.Prelude.{◌≡◌, ◌+◌, ◌<◌, ◌≤◌, length, drop, slice_index};
 ghost use Rattle.std.specs.List.{prefix_len};
-ghost use Rattle.squawk_lexer.specs.Classes.{class_test, is_whitespace, is_ident_cont, is_digit, is_hex_digit};
+ghost use Rattle.squawk_lexer.specs.Classes.{class_test, is_whitespace, is_ident_cont};
+ghost use Rattle.squawk_lexer.specs.Digits.{digit_test};
 ghost use Rattle.squawk_lexer.specs.Runs.{digits_len};
 ghost use Rattle.squawk_lexer.specs.Stops.{is_neither, is_neither_on_line};
 ghost use Rattle.squawk_lexer.specs.Bytes.{HasIdentCont};
 
-use crate::classes::{Class, is_digit, is_hex_digit, is_in};
+use crate::classes::{Class, Digits, is_digit_byte, is_in, is_whitespace};
 use memchr::{memchr, memchr2, memchr3};
 
-// Each byte that an identifier goes on with stands at its own place or is `*`, and `,` stands at
-// every other.
+// The bytes of an identifier after its first character: an ASCII byte of it stands at its own
+// index, `*` at all from 0x80 on, and `,` at those that end an identifier.
 static ID_CONT: [u8; 256] = *b"\
     ,,,,,,,,,,,,,,,,,,,,,,,,,,,,,,,,\
     ,,,,$,,,,,,,,,,,0123456789,,,,,,\
@@ -21,29 +23,28 @@ static ID_CONT: [u8; 256] = *b"\
     ********************************\
     ********************************";
 
-/// The table of the bytes that an identifier goes on with.
-fn id_cont() -> &'static [u8]
+fn ident_cont_table() -> &'static [u8]
     ensures { HasIdentCont result.now }
 {
     &ID_CONT
 }
 
-/// How many bytes from the front on are of the class.
+// The length of the longest prefix of `class`.
 pub(crate) fn run_len(class: Class, bytes: &[u8]) -> usize
     ensures { result ≡ prefix_len (class_test class) bytes.now }
 {
     match class {
-        Class::IdentCont => id_cont_len(bytes),
-        Class::Whitespace => white_len(bytes),
-        Class::NotLineEnd => others_len(b'\n', b'\r', bytes),
+        Class::IdentCont => ident_cont_len(bytes),
+        Class::Whitespace => whitespace_len(bytes),
+        Class::NotLineEnd => len_until2(b'\n', b'\r', bytes),
         _ => class_len(class, bytes),
     }
 }
 
-fn id_cont_len(bytes: &[u8]) -> usize
+fn ident_cont_len(bytes: &[u8]) -> usize
     ensures { result ≡ prefix_len is_ident_cont bytes.now }
 {
-    let table = id_cont();
+    let table = ident_cont_table();
     let mut len = 0;
     while len < bytes.len() && table[bytes[len] as usize] != b',' {
         len += 1;
@@ -51,131 +52,11 @@ fn id_cont_len(bytes: &[u8]) -> usize
     len
 }
 
-fn is_whitespace(b: u8) -> bool
-    ensures { result ≡ is_whitespace b }
-{
-    b == b' ' || (b'\t' <= b && b <= b'\r')
-}
-
-fn white_len(bytes: &[u8]) -> usize
+fn whitespace_len(bytes: &[u8]) -> usize
     ensures { result ≡ prefix_len is_whitespace bytes.now }
 {
     let mut len = 0;
-    while len < bytes.len() && is_whitespace(bytes[len]) {
-        len += 1;
-    }
-    len
-}
-
-// So many bytes are looked at one by one before a search, which costs more to begin than they do.
-const NEAR: usize = 8;
-
-/// How many bytes from the front on are neither of the two.
-pub(crate) fn others_len(a: u8, b: u8, bytes: &[u8]) -> usize
-    ensures { result ≡ prefix_len (is_neither a b) bytes.now }
-{
-    let near = near_others_len(a, b, bytes);
-    if near < NEAR {
-        return near;
-    }
-    near + far_others_len(a, b, &bytes[near..])
-}
-
-/// The same, but no more than `NEAR`.
-fn near_others_len(a: u8, b: u8, bytes: &[u8]) -> usize
-    ensures within { result ≤ length bytes.now }
-    ensures on { result + prefix_len (is_neither a b) (drop result bytes.now)
-        ≡ prefix_len (is_neither a b) bytes.now }
-    ensures stops { result < NEAR → result ≡ prefix_len (is_neither a b) bytes.now }
-{
-    let mut len = 0;
-    while len < bytes.len() && len < NEAR && bytes[len] != a && bytes[len] != b {
-        len += 1;
-    }
-    len
-}
-
-#[inline(never)]
-fn far_others_len(a: u8, b: u8, bytes: &[u8]) -> usize
-    ensures { result ≡ prefix_len (is_neither a b) bytes.now }
-{
-    let found = if a == b {
-        memchr(a, bytes)
-    } else {
-        memchr2(a, b, bytes)
-    };
-    found.unwrap_or(bytes.len())
-}
-
-/// How many bytes from the front on are neither of the two and end no line.
-pub(crate) fn inside_len(a: u8, b: u8, bytes: &[u8]) -> usize
-    ensures { result ≡ prefix_len (is_neither_on_line a b) bytes.now }
-{
-    let near = near_inside_len(a, b, bytes);
-    if near < NEAR {
-        return near;
-    }
-    near + far_inside_len(a, b, &bytes[near..])
-}
-
-/// The same, but no more than `NEAR`.
-fn near_inside_len(a: u8, b: u8, bytes: &[u8]) -> usize
-    ensures within { result ≤ length bytes.now }
-    ensures on { result + prefix_len (is_neither_on_line a b) (drop result bytes.now)
-        ≡ prefix_len (is_neither_on_line a b) bytes.now }
-    ensures stops { result < NEAR → result ≡ prefix_len (is_neither_on_line a b) bytes.now }
-{
-    let mut len = 0;
-    while len < bytes.len() && len < NEAR && is_inside(a, b, bytes[len]) {
-        len += 1;
-    }
-    len
-}
-
-fn is_inside(a: u8, b: u8, byte: u8) -> bool
-    ensures { result ≡ is_neither_on_line a b byte }
-{
-    byte != a && byte != b && byte != b'\n' && byte != b'\r'
-}
-
-#[inline(never)]
-fn far_inside_len(a: u8, b: u8, bytes: &[u8]) -> usize
-    ensures { result ≡ prefix_len (is_neither_on_line a b) bytes.now }
-{
-    let len = memchr3(a, b, b'\n', bytes).unwrap_or(bytes.len());
-    memchr(b'\r', &bytes[..len]).unwrap_or(len)
-}
-
-/// The byte at the place, or NUL past the end.
-fn byte_at(bytes: &[u8], at: usize) -> u8
-    ensures { result ≡ slice_index bytes.now at }
-{
-    if at < bytes.len() { bytes[at] } else { 0 }
-}
-
-/// How many bytes from the front on are digits, or `_` directly before one.
-#[tactic(auto, using(crate::proofs::Steps::digit_steps))]
-pub(crate) fn decimal_len(bytes: &[u8]) -> usize
-    ensures { result ≡ digits_len is_digit bytes.now }
-{
-    let mut len = 0;
-    'digits: while is_digit(byte_at(bytes, len) as char)
-        || (byte_at(bytes, len) == b'_' && is_digit(byte_at(bytes, len + 1) as char))
-    {
-        len += 1;
-    }
-    len
-}
-
-/// The same with hexadecimal digits.
-#[tactic(auto, using(crate::proofs::Steps::hex_steps))]
-pub(crate) fn hexadecimal_len(bytes: &[u8]) -> usize
-    ensures { result ≡ digits_len is_hex_digit bytes.now }
-{
-    let mut len = 0;
-    'digits: while is_hex_digit(byte_at(bytes, len) as char)
-        || (byte_at(bytes, len) == b'_' && is_hex_digit(byte_at(bytes, len + 1) as char))
-    {
+    while len < bytes.len() && is_whitespace(bytes[len] as char) {
         len += 1;
     }
     len
@@ -186,6 +67,109 @@ fn class_len(class: Class, bytes: &[u8]) -> usize
 {
     let mut len = 0;
     while len < bytes.len() && is_in(class, bytes[len]) {
+        len += 1;
+    }
+    len
+}
+
+// A call of `memchr` costs as much as a test of some bytes one by one. So the first bytes are
+// tested so, and `memchr` is called only if none of them ends the run.
+const BYTES_BEFORE_MEMCHR: usize = 8;
+
+// The length up to the first `a` or `b`, or of all bytes.
+pub(crate) fn len_until2(a: u8, b: u8, bytes: &[u8]) -> usize
+    ensures { result ≡ prefix_len (is_neither a b) bytes.now }
+{
+    let len = short_len_until2(a, b, bytes);
+    if len < BYTES_BEFORE_MEMCHR {
+        return len;
+    }
+    len + memchr_len_until2(a, b, &bytes[len..])
+}
+
+// The same, but at most `BYTES_BEFORE_MEMCHR`.
+fn short_len_until2(a: u8, b: u8, bytes: &[u8]) -> usize
+    ensures within { result ≤ length bytes.now }
+    ensures prefix { result + prefix_len (is_neither a b) (drop result bytes.now)
+        ≡ prefix_len (is_neither a b) bytes.now }
+    ensures whole { result < BYTES_BEFORE_MEMCHR → result ≡ prefix_len (is_neither a b) bytes.now }
+{
+    let mut len = 0;
+    while len < bytes.len() && len < BYTES_BEFORE_MEMCHR && bytes[len] != a && bytes[len] != b {
+        len += 1;
+    }
+    len
+}
+
+#[inline(never)]
+fn memchr_len_until2(a: u8, b: u8, bytes: &[u8]) -> usize
+    ensures { result ≡ prefix_len (is_neither a b) bytes.now }
+{
+    let found = if a == b {
+        memchr(a, bytes)
+    } else {
+        memchr2(a, b, bytes)
+    };
+    found.unwrap_or(bytes.len())
+}
+
+// The length up to the first `a`, `b`, LF or CR, or of all bytes.
+pub(crate) fn len_until2_on_line(a: u8, b: u8, bytes: &[u8]) -> usize
+    ensures { result ≡ prefix_len (is_neither_on_line a b) bytes.now }
+{
+    let len = short_len_until2_on_line(a, b, bytes);
+    if len < BYTES_BEFORE_MEMCHR {
+        return len;
+    }
+    len + memchr_len_until2_on_line(a, b, &bytes[len..])
+}
+
+// The same, but at most `BYTES_BEFORE_MEMCHR`.
+fn short_len_until2_on_line(a: u8, b: u8, bytes: &[u8]) -> usize
+    ensures within { result ≤ length bytes.now }
+    ensures prefix { result + prefix_len (is_neither_on_line a b) (drop result bytes.now)
+        ≡ prefix_len (is_neither_on_line a b) bytes.now }
+    ensures whole { result < BYTES_BEFORE_MEMCHR
+        → result ≡ prefix_len (is_neither_on_line a b) bytes.now }
+{
+    let mut len = 0;
+    while len < bytes.len() && len < BYTES_BEFORE_MEMCHR && is_neither_on_line(a, b, bytes[len]) {
+        len += 1;
+    }
+    len
+}
+
+fn is_neither_on_line(a: u8, b: u8, byte: u8) -> bool
+    ensures { result ≡ is_neither_on_line a b byte }
+{
+    byte != a && byte != b && byte != b'\n' && byte != b'\r'
+}
+
+// The second search reads only what the first one skipped, so that both together are linear.
+#[inline(never)]
+fn memchr_len_until2_on_line(a: u8, b: u8, bytes: &[u8]) -> usize
+    ensures { result ≡ prefix_len (is_neither_on_line a b) bytes.now }
+{
+    let len = memchr3(a, b, b'\n', bytes).unwrap_or(bytes.len());
+    memchr(b'\r', &bytes[..len]).unwrap_or(len)
+}
+
+// The byte at an index, or NUL past the end, which is no digit.
+fn byte_or_nul(bytes: &[u8], index: usize) -> u8
+    ensures { result ≡ slice_index bytes.now index }
+{
+    if index < bytes.len() { bytes[index] } else { 0 }
+}
+
+// The length of the longest prefix of digits, each with at most one `_` before it.
+#[tactic(auto, using(crate::proofs::DigitClasses::digit_class_steps))]
+pub(crate) fn digits_len(digits: Digits, bytes: &[u8]) -> usize
+    ensures { result ≡ digits_len (digit_test digits) bytes.now }
+{
+    let mut len = 0;
+    'digits: while is_digit_byte(digits, byte_or_nul(bytes, len))
+        || (byte_or_nul(bytes, len) == b'_' && is_digit_byte(digits, byte_or_nul(bytes, len + 1)))
+    {
         len += 1;
     }
     len

@@ -1,4 +1,5 @@
-//! Words, and the texts in quotes that a letter or two before the quote name.
+//! Unquoted identifiers and keywords, and the forms that begin with a letter and a quote: `N'..'`,
+//! `B'..'`, `X'..'`, `E'..'`, `U&'..'` and `U&".."` (PostgreSQL manual, 4.1.1 and 4.1.2).
 ghost use Rattle.std.specs.Prelude.{◌≡◌, slice_index, true};
 ghost use Rattle.squawk_lexer.specs.Kind.{lexeme_until};
 ghost use Rattle.squawk_lexer.specs.Position.{position_after};
@@ -10,105 +11,109 @@ use crate::classes::Class;
 use crate::cursor::Cursor;
 use crate::token::{LiteralKind, TokenKind, literal};
 
-/// What an identifier's first letters open.
+// The prefix of a string or of a quoted identifier.
 enum StringPrefix {
+    // N'
     National,
+    // B'
     Bit,
+    // X'
     Byte,
+    // E'
     Escape,
+    // U&'
     UnicodeString,
+    // U&"
     UnicodeIdent,
-    Plain,
+    // An identifier.
+    NoPrefix,
 }
 
+// The prefix of a token that begins with these bytes, of which the first begins an identifier.
 #[tactic(auto, unfolding(crate::specs::Token::prefix_of))]
-fn opening_of(first: u8, second: u8, third: u8) -> StringPrefix
+fn prefix_of(first: u8, second: u8, third: u8) -> StringPrefix
     ensures { result ≡ prefix_of first second third }
 {
-    // Most words are plain, which their second byte tells.
+    // Most words have no prefix. The second byte tells that soonest.
     match second {
         b'\'' => match first {
             b'n' | b'N' => StringPrefix::National,
             b'b' | b'B' => StringPrefix::Bit,
             b'x' | b'X' => StringPrefix::Byte,
             b'e' | b'E' => StringPrefix::Escape,
-            _ => StringPrefix::Plain,
+            _ => StringPrefix::NoPrefix,
         },
         b'&' => match (first, third) {
             (b'u' | b'U', b'\'') => StringPrefix::UnicodeString,
             (b'u' | b'U', b'"') => StringPrefix::UnicodeIdent,
-            _ => StringPrefix::Plain,
+            _ => StringPrefix::NoPrefix,
         },
-        _ => StringPrefix::Plain,
+        _ => StringPrefix::NoPrefix,
     }
 }
 
+// Consumes a string whose prefix has one more character, and returns it as a literal of the kind.
+macro_rules! prefixed_literal {
+    ($cursor:ident, $kind:ident, $escapes:literal) => {{
+        let terminated = $cursor.prefixed_string($escapes);
+        literal(LiteralKind::$kind { terminated })
+    }};
+}
+
 impl<'a> Cursor<'a> {
-    /// What the first three characters open.
-    fn opens(&self) -> StringPrefix
+    // The prefix of the token that begins here.
+    fn string_prefix(&self) -> StringPrefix
         requires { self.now.at ≡ 0 }
         ensures { result ≡ prefix_of (slice_index self.now.text 0) (slice_index self.now.text 1)
             (slice_index self.now.text 2) }
     {
-        opening_of(self.byte(0), self.byte(1), self.byte(2))
+        prefix_of(self.peek_byte(0), self.peek_byte(1), self.peek_byte(2))
     }
 
-    /// Moves behind a string, of which one character comes before the opening quote, and tells
-    /// whether a quote ended it.
-    fn string(&mut self, escapes: bool) -> bool
+    // Consumes one character of a prefix, a quote and the string, and returns whether the string is
+    // terminated.
+    fn prefixed_string(&mut self, escapes: bool) -> bool
         ensures text { self.new.text ≡ self.old.text }
-        ensures at { self.new.at
-            ≡ quoted_end escapes apostrophe self.old.text (position_after self.old.text (position_after self.old.text self.old.at)) }
-        ensures terminated { result
-            ≡ is_terminated escapes apostrophe self.old.text (position_after self.old.text (position_after self.old.text self.old.at)) }
+        ensures at { self.new.at ≡ quoted_end escapes apostrophe self.old.text
+            (position_after self.old.text (position_after self.old.text self.old.at)) }
+        ensures terminated { result ≡ is_terminated escapes apostrophe self.old.text
+            (position_after self.old.text (position_after self.old.text self.old.at)) }
     {
         self.bump();
         self.bump();
-        self.quoted(b'\'', escapes)
+        self.quoted_text(b'\'', escapes)
     }
 
-    /// Moves behind an identifier in quotes, from behind the opening quote.
+    // Consumes a quoted identifier, whose opening quote was consumed. `uescape` says that it began
+    // with `U&`.
     pub(crate) fn quoted_ident(&mut self, uescape: bool) -> TokenKind
         ensures text { self.new.text ≡ self.old.text }
-        ensures gives { lexeme_until result self.new.at
+        ensures lexeme { lexeme_until result self.new.at
             ≡ quoted_ident uescape self.old.text self.old.at }
     {
-        let terminated = self.quoted(b'"', false);
+        let terminated = self.quoted_text(b'"', false);
         TokenKind::QuotedIdent {
             terminated,
             uescape,
         }
     }
 
-    /// Moves behind a word or what its first letters open.
+    // Consumes a token that begins as an identifier does.
     #[tactic(auto, using(crate::proofs::WordSteps::word_steps))]
-    pub(crate) fn word(&mut self) -> TokenKind
+    pub(crate) fn ident_or_string(&mut self) -> TokenKind
         requires at { self.old.at ≡ 0 }
         requires first { is_ident_start (slice_index self.old.text 0) ≡ true }
         ensures text { self.new.text ≡ self.old.text }
-        ensures gives { lexeme_until result self.new.at ≡ ident_or_string self.old.text }
+        ensures lexeme { lexeme_until result self.new.at ≡ ident_or_string self.old.text }
     {
-        match self.opens() {
-            StringPrefix::National => {
-                let terminated = self.string(false);
-                literal(LiteralKind::NationalStr { terminated })
-            }
-            StringPrefix::Bit => {
-                let terminated = self.string(false);
-                literal(LiteralKind::BitStr { terminated })
-            }
-            StringPrefix::Byte => {
-                let terminated = self.string(false);
-                literal(LiteralKind::ByteStr { terminated })
-            }
-            StringPrefix::Escape => {
-                let terminated = self.string(true);
-                literal(LiteralKind::EscStr { terminated })
-            }
+        match self.string_prefix() {
+            StringPrefix::National => prefixed_literal!(self, NationalStr, false),
+            StringPrefix::Bit => prefixed_literal!(self, BitStr, false),
+            StringPrefix::Byte => prefixed_literal!(self, ByteStr, false),
+            StringPrefix::Escape => prefixed_literal!(self, EscStr, true),
             StringPrefix::UnicodeString => {
                 self.bump();
-                let terminated = self.string(false);
-                literal(LiteralKind::UnicodeEscStr { terminated })
+                prefixed_literal!(self, UnicodeEscStr, false)
             }
             StringPrefix::UnicodeIdent => {
                 self.bump();
@@ -116,7 +121,7 @@ impl<'a> Cursor<'a> {
                 self.bump();
                 self.quoted_ident(true)
             }
-            StringPrefix::Plain => {
+            StringPrefix::NoPrefix => {
                 self.eat_while(Class::IdentCont);
                 TokenKind::Ident
             }

@@ -41,6 +41,6 @@ returns-clause-looks_ahead c =
 pub returns-clause-restarts : goal.returns-clause-restarts
 returns-clause-restarts c = restarts_at c.args.strings c.args.input.now c.args.at c.utf8.input
 
-pub returns-clause-parts : goal.returns-clause-parts
-returns-clause-parts c =
+pub returns-clause-splits : goal.returns-clause-splits
+returns-clause-splits c =
     splits_at c.args.strings c.args.input.now c.args.at c.utf8.input c.requires.boundary

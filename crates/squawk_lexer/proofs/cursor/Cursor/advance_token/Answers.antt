@@ -4,14 +4,14 @@ use Rattle.squawk_lexer.proofs.Steps.{after_within}
 use Rattle.squawk_lexer.proofs.FormSteps.{form_lexeme}
 use Rattle.squawk_lexer.proofs.cursor.Cursor.advance_token.Goals as goal
 
-pub returns-in-String-clause-gives : goal.returns-in-String-clause-gives
-returns-in-String-clause-gives c =
+pub returns-in-String-clause-lexeme : goal.returns-in-String-clause-lexeme
+returns-in-String-clause-lexeme c =
     let is_row = form_lexeme c.args.strings c.args.self.now.text String (sym c.in-String.is
-    ∙ c.begins.ensures) in
+    ∙ c.next_token_form.ensures) in
     rw (
       c.literal.ensures,
-      c.quoted-terminated.ensures.terminated,
-      c.quoted-terminated.ensures.at,
+      c.quoted_text-terminated.ensures.terminated,
+      c.quoted_text-terminated.ensures.at,
       c.has_escapes.ensures,
       c.bump-in-String.ensures.text,
       c.bump-in-String.ensures.at,

@@ -1,5 +1,0 @@
-use Rattle.squawk_lexer.proofs.ByteClasses.{ident_cont_table}
-use Rattle.squawk_lexer.proofs.scan.id_cont.Goals as goal
-
-pub returns : goal.returns
-returns c = ident_cont_table
