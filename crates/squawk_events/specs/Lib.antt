@@ -1,3 +1,4 @@
+pub mod Limit
 pub mod Message
 pub mod Kinds
 pub mod Depth

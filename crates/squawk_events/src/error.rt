@@ -1,5 +1,5 @@
 //! What the front end may refuse.
-ghost use Rattle.std.specs.Prelude.{◌≡◌};
+ghost use Rattle.std.specs.Prelude.{◌≡◌, ◌↔◌, IsTrue};
 ghost use Rattle.squawk_events.specs.declared.error.FrontError.TheVariants.{OutOfMemory};
 
 use std::alloc::{AllocError, AllocFailed};
@@ -31,3 +31,8 @@ impl<T: Drop> From<AllocFailed<T>> for FrontError {
         FrontError::from(AllocError)
     }
 }
+
+/// Two errors are equal exactly if they are the same variant. For proofs: it does nothing.
+pub fn front_errors_are_equal_if_same()
+    ensures { (a b : FrontError) → IsTrue (⟦<FrontError as PartialEq>⟧.eq a b) ↔ (a ≡ b) }
+{}

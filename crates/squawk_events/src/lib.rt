@@ -4,6 +4,7 @@
 mod error;
 mod grammar;
 mod input;
+mod limit;
 mod messages;
 mod output;
 mod sink;
@@ -11,9 +12,10 @@ mod steps;
 #[cfg(test)]
 mod tests;
 
-pub use error::FrontError;
+pub use error::{FrontError, front_errors_are_equal_if_same};
 pub use grammar::{EntryPoint, Grammar};
 pub use input::Input;
+pub use limit::LIMIT;
 pub use messages::message;
 pub use output::Output;
 pub use sink::StepSink;

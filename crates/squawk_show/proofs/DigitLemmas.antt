@@ -1,4 +1,4 @@
--- The digits of a number, four at a time.
+-- The decimal digits of a number, four at a time.
 use Rattle.std.proofs.Common.{◌≡◌, ℕ, ◌+◌, ◌-◌, ◌/◌, ◌%◌, ◌^◌, ◌<◌, ◌≤◌, List, [], ◌∷◌, ◌++◌, length, refl, subst, ◌⊎◌, inl, inr, take, drop, ap, sym, ◌∙◌, append_assoc, arith, slice_index, length-take-le}
 use Rattle.std.specs.Prelude.{decimal}
 use Rattle.std.proofs.lemmas.Fmt.{decimal_digit, decimal_step}
@@ -6,38 +6,40 @@ use Rattle.std.proofs.lemmas.List.{take_at, drop_at, take-append-le, length_push
 use Rattle.std.proofs.lemmas.Bool.{cases_lt}
 use Rattle.std.proofs.Math.Seq.{take-add}
 use borrow.Rule.Slice.PartMut.{put_mid, post_of}
-use Rattle.squawk_show.specs.Digits.{last_four, bytes_of, AreDigits, BeginsWith, EndsWith, AreFours}
+use Rattle.squawk_show.specs.Digits.{last_four_digits, u32_bytes, SpellsNumber, StartsWithDigits, IsLastFourDigits, IsTable}
 
-pub decimal-one : (n : ℕ) → n < 10 → decimal n ≡ (48 + n) ∷ []
-decimal-one n h = decimal_digit n h
+-- `decimal_one` to `decimal_four`: the digits of a number with so many digits
+pub decimal_one : (n : ℕ) → n < 10 → decimal n ≡ (48 + n) ∷ []
+decimal_one n h = decimal_digit n h
 
-pub decimal-two : (n : ℕ) → 10 ≤ n → n < 100 → decimal n ≡ (48 + n / 10) ∷ (48 + n % 10) ∷ []
-decimal-two n low high =
+pub decimal_two : (n : ℕ) → 10 ≤ n → n < 100 → decimal n ≡ (48 + n / 10) ∷ (48 + n % 10) ∷ []
+decimal_two n low high =
     decimal_step n low (omega arith)
-    ∙ ap (λ ds. ds ++ (48 + n % 10) ∷ []) (decimal-one (n / 10) (omega arith))
+    ∙ ap (λ ds. ds ++ (48 + n % 10) ∷ []) (decimal_one (n / 10) (omega arith))
 
-pub decimal-three : (n : ℕ) → 100 ≤ n → n < 1000
+pub decimal_three : (n : ℕ) → 100 ≤ n → n < 1000
     → decimal n ≡ (48 + n / 100) ∷ (48 + n / 10 % 10) ∷ (48 + n % 10) ∷ []
-decimal-three n low high =
+decimal_three n low high =
     let e : n / 10 / 10 ≡ n / 100 = omega arith in
     decimal_step n (omega arith) (omega arith)
-    ∙ ap (λ ds. ds ++ (48 + n % 10) ∷ []) (decimal-two (n / 10) (omega arith) (omega arith))
+    ∙ ap (λ ds. ds ++ (48 + n % 10) ∷ []) (decimal_two (n / 10) (omega arith) (omega arith))
     ∙ ap (λ d. (48 + d) ∷ (48 + n / 10 % 10) ∷ (48 + n % 10) ∷ []) e
 
-pub decimal-four : (n : ℕ) → 1000 ≤ n → n < 10000
+pub decimal_four : (n : ℕ) → 1000 ≤ n → n < 10000
     → decimal n ≡ (48 + n / 1000) ∷ (48 + n / 100 % 10) ∷ (48 + n / 10 % 10) ∷ (48 + n % 10) ∷ []
-decimal-four n low high =
+decimal_four n low high =
     let e : n / 10 / 100 ≡ n / 1000 = omega arith in
     let f : n / 10 / 10 ≡ n / 100 = omega arith in
     decimal_step n (omega arith) (omega arith)
-    ∙ ap (λ ds. ds ++ (48 + n % 10) ∷ []) (decimal-three (n / 10) (omega arith) (omega arith))
+    ∙ ap (λ ds. ds ++ (48 + n % 10) ∷ []) (decimal_three (n / 10) (omega arith) (omega arith))
     ∙ ap (λ d. (48 + d) ∷ (48 + n / 10 / 10 % 10) ∷ (48 + n / 10 % 10) ∷ (48 + n % 10) ∷ []) e
     ∙ ap (λ d. (48 + n / 1000) ∷ (48 + d % 10) ∷ (48 + n / 10 % 10) ∷ (48 + n % 10) ∷ []) f
 
--- a number of more than four digits is its front and its last four digits
-pub decimal-more : (n : ℕ) → 10000 ≤ n → n < 2 ^ 32
-    → decimal n ≡ decimal (n / 10000) ++ last_four (n % 10000)
-decimal-more n low high =
+-- the digits of a number with more than four are those of n / 10000, and then the last
+-- four
+pub decimal_more : (n : ℕ) → 10000 ≤ n → n < 2 ^ 32
+    → decimal n ≡ decimal (n / 10000) ++ last_four_digits (n % 10000)
+decimal_more n low high =
     let q1 = n / 10 in
     let q2 = q1 / 10 in
     let q3 = q2 / 10 in
@@ -65,50 +67,57 @@ decimal-more n low high =
     let g0 : n % 10 ≡ m % 10 = omega arith in
     f1 ∙ rw (g4, g3, g2, g1, g0) refl
 
--- what begins with the digits of a number
-pub front-from : (n : ℕ) (ds rest : List ℕ) → decimal n ≡ ds
+-- a list that starts with the digits of a number, cut to their count
+pub take_digits : (n : ℕ) (ds rest : List ℕ) → decimal n ≡ ds
     → take (length (decimal n)) (ds ++ rest) ≡ decimal n
-front-from n ds rest e = ap (λ xs. take (length xs) (ds ++ rest)) e
+take_digits n ds rest e = ap (λ xs. take (length xs) (ds ++ rest)) e
     ∙ take_at ds rest (length ds) refl ∙ sym e
 
-one_of : (Is : ℕ → ℕ → Type 0) (n x : ℕ) (xs : List ℕ) → AreFours Is n xs → Is n x → (k : ℕ)
+-- the entries of a table to which one was pushed, by whether `k` is the new one
+entry_push : (Is : ℕ → ℕ → Type 0) (n x : ℕ) (xs : List ℕ) → IsTable Is n xs → Is n x → (k : ℕ)
     → k < n + 1 → (k < n) ⊎ (n ≤ k) → Is k (slice_index (xs ++ x ∷ []) k)
-one_of Is n x xs so_far is k below (inl before) =
+entry_push Is n x xs so_far is k below (inl before) =
     subst (Is k) (sym (get_or_append_left xs (x ∷ []) 0 k (omega (arith, so_far.counted, before))))
     (so_far.each k before)
-one_of Is n x xs so_far is k below (inr last) =
+entry_push Is n x xs so_far is k below (inr last) =
     let e : n ≡ k = omega (arith, below, last) in
     subst (λ m. Is m (slice_index (xs ++ x ∷ []) m)) e
     (subst (Is n) (sym (get_or_push xs x 0 n so_far.counted)) is)
 
--- one number more
-pub fours-more : (Is : ℕ → ℕ → Type 0) (n x : ℕ) (xs : List ℕ) → AreFours Is n xs → Is n x
-    → AreFours Is (n + 1) (xs ++ x ∷ [])
-fours-more Is n x xs so_far is = record {
+-- a table with one entry more
+pub table_push : (Is : ℕ → ℕ → Type 0) (n x : ℕ) (xs : List ℕ) → IsTable Is n xs → Is n x
+    → IsTable Is (n + 1) (xs ++ x ∷ [])
+table_push Is n x xs so_far is = record {
   counted = length_push xs x ∙ ap (λ m. m + 1) so_far.counted;
-  each = λ k below. one_of Is n x xs so_far is k below (cases_lt k n);
+  each = λ k below. entry_push Is n x xs so_far is k below (cases_lt k n);
 }
 
--- a number of more than four digits
-pub digits-more : (n front back width : ℕ) → 10000 ≤ n → n < 2 ^ 32
-    → width ≡ length (decimal (n / 10000)) → width ≤ 4 → BeginsWith (n / 10000) front
-    → EndsWith (n % 10000) back → AreDigits n front back width (width + 4)
-digits-more n front back width low high wide narrow begins ends =
+-- the groups of a number with more than four digits spell it
+pub spells_long_number : (n leading trailing width : ℕ) → 10000 ≤ n → n < 2 ^ 32
+    → width ≡ length (decimal (n / 10000)) → width ≤ 4 → StartsWithDigits (n / 10000) leading
+    → IsLastFourDigits (n % 10000) trailing → SpellsNumber n (record {
+      leading = leading;
+      trailing = trailing;
+      width = width;
+      len = width + 4;
+    })
+spells_long_number n leading trailing width low high wide narrow starts ends =
     let all : width + 4 - width ≡ 4 = omega arith in
     record {
       narrow = narrow;
       ordered = let h : width ≤ width + 4 = omega arith in h;
       short = let h : width + 4 ≤ width + 4 = omega arith in h;
-      written = ap (λ m. take m (bytes_of front) ++ take (width + 4 - width) (bytes_of back)) wide
-          ∙ ap (λ xs. xs ++ take (width + 4 - width) (bytes_of back)) begins
-          ∙ ap (λ m. decimal (n / 10000) ++ take m (bytes_of back)) all
-          ∙ ap (λ xs. decimal (n / 10000) ++ take 4 xs) ends ∙ sym (decimal-more n low high);
+      written = ap (λ m. take m (u32_bytes leading)
+          ++ take (width + 4 - width) (u32_bytes trailing)) wide
+          ∙ ap (λ xs. xs ++ take (width + 4 - width) (u32_bytes trailing)) starts
+          ∙ ap (λ m. decimal (n / 10000) ++ take m (u32_bytes trailing)) all
+          ∙ ap (λ xs. decimal (n / 10000) ++ take 4 xs) ends ∙ sym (decimal_more n low high);
     }
 
--- bytes written at a place: what was before it, and a front of what was written
-pub put-front : (at k n : ℕ) (xs ys zs : List ℕ) → at ≤ length xs → ys ≡ zs → n ≤ length zs
+-- after bytes were written at an offset: what was before it, and a prefix of what was written
+pub take_put : (at k n : ℕ) (xs ys zs : List ℕ) → at ≤ length xs → ys ≡ zs → n ≤ length zs
     → take (at + n) (put_mid at k xs ys) ≡ take at xs ++ take n zs
-put-front at k n xs ys zs within same short =
+take_put at k n xs ys zs within same short =
     let post = post_of at k xs in
     let size = length-take-le at xs within in
     take-add at n (take at xs ++ (ys ++ post))

@@ -2,4 +2,4 @@ pub mod DigitLemmas
 pub mod LineLemmas
 pub mod RefusalLemmas
 pub mod ReportLemmas
-pub mod Transfer
+pub mod TransferLemmas

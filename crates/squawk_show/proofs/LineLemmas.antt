@@ -3,48 +3,47 @@ use Rattle.std.proofs.Common.{◌≡◌, ℕ, ◌+◌, ◌-◌, ◌<◌, ◌≤�
 use Rattle.std.specs.Prelude.{decimal}
 use Rattle.std.proofs.Math.Seq.{take-add}
 use Rattle.std.proofs.lemmas.List.{take_at, drop_at, take-take, take-append-le, take_rest}
-use Rattle.squawk_show.proofs.DigitLemmas.{decimal-one}
+use Rattle.squawk_show.proofs.DigitLemmas.{decimal_one}
 
--- the first four bytes of a line, and the printed text that stands behind them
-pub front-of : (depth letter len : ℕ) (text old : List ℕ) → depth < 10
+-- after the first four bytes of a line were written over: they, and the printed text after them
+pub take_start : (depth letter len : ℕ) (text old : List ℕ) → depth < 10
     → text ≡ decimal depth ++ (32 ∷ letter ∷ 32 ∷ []) ++ drop 4 old
     → take (4 + len) text ≡ decimal depth ++ (32 ∷ letter ∷ 32 ∷ []) ++ take len (drop 4 old)
-front-of depth letter len text old small is =
-    let one = decimal-one depth small in
+take_start depth letter len text old small is =
+    let one = decimal_one depth small in
     let four : text ≡ ((48 + depth) ∷ 32 ∷ letter ∷ 32 ∷ []) ++ drop 4 old = is
     ∙ ap (λ ds. ds ++ (32 ∷ letter ∷ 32 ∷ []) ++ drop 4 old) one in
     take-add 4 len text ∙ ap (λ xs. take 4 xs ++ take len (drop 4 xs)) four
     ∙ sym (ap (λ ds. ds ++ (32 ∷ letter ∷ 32 ∷ []) ++ take len (drop 4 old)) one)
 
--- behind that a space, two numbers with two dots between, and an LF
-pub line-of : (front a b c d e f from to : List ℕ) → a ≡ front ++ 32 ∷ [] → b ≡ a ++ from
+-- pieces appended in turn: a space, two numbers with two dots between, and an LF
+pub join_pieces : (start a b c d e f from to : List ℕ) → a ≡ start ++ 32 ∷ [] → b ≡ a ++ from
     → c ≡ b ++ 46 ∷ [] → d ≡ c ++ 46 ∷ [] → e ≡ d ++ to → f ≡ e ++ 10 ∷ []
-    → f ≡ front ++ (32 ∷ []) ++ (from ++ (46 ∷ 46 ∷ []) ++ to) ++ (10 ∷ [])
-line-of front a b c d e f from to is_a is_b is_c is_d is_e is_f =
+    → f ≡ start ++ (32 ∷ []) ++ (from ++ (46 ∷ 46 ∷ []) ++ to) ++ (10 ∷ [])
+join_pieces start a b c d e f from to is_a is_b is_c is_d is_e is_f =
     let dots : d ≡ b ++ 46 ∷ 46 ∷ [] = is_d ∙ ap (λ xs. xs ++ 46 ∷ []) is_c
     ∙ append_assoc b (46 ∷ []) (46 ∷ []) in
-    let start : d ≡ a ++ (from ++ 46 ∷ 46 ∷ []) = dots ∙ ap (λ xs. xs ++ 46 ∷ 46 ∷ []) is_b
+    let upto : d ≡ a ++ (from ++ 46 ∷ 46 ∷ []) = dots ∙ ap (λ xs. xs ++ 46 ∷ 46 ∷ []) is_b
     ∙ append_assoc a from (46 ∷ 46 ∷ []) in
-    let both : e ≡ a ++ (from ++ (46 ∷ 46 ∷ []) ++ to) = is_e ∙ ap (λ xs. xs ++ to) start
+    let both : e ≡ a ++ (from ++ (46 ∷ 46 ∷ []) ++ to) = is_e ∙ ap (λ xs. xs ++ to) upto
     ∙ append_assoc a (from ++ 46 ∷ 46 ∷ []) to in
     is_f ∙ ap (λ xs. xs ++ 10 ∷ []) (both ∙ ap (λ xs. xs ++ (from ++ (46 ∷ 46 ∷ []) ++ to)) is_a)
 
--- A row was appended, what stood there was written over, and the rest was cut off: `seen` is the
--- report with the row, `text` the row as it then was, and `shape` says what a front of it is by the
--- row as it was before.
-pub row-written : (shape : List ℕ
+-- A row was appended to `out`, overwritten by `text`, and cut off after `count` bytes of it. `shape`
+-- gives those bytes from the row as it was.
+pub row_overwritten : (shape : List ℕ
     → List ℕ) (out row seen text post rest now : List ℕ) (old count total : ℕ)
     → now ≡ take (old + count) (take total ((take old seen ++ (text ++ post)) ++ rest))
     → seen ≡ out ++ row → old ≡ length out → total ≡ old + 64 → length row ≡ 64
     → length text ≡ length (take (length seen - old) (drop old seen)) → count ≤ 64
     → take count text ≡ shape (take (length seen - old) (drop old seen)) → now ≡ out ++ shape row
-row-written shape out row seen text post rest now old count total is_now is_seen is_old is_total
+row_overwritten shape out row seen text post rest now old count total is_now is_seen is_old is_total
     row_size text_size short written =
     let before : take old seen ≡ out = ap (take old) is_seen ∙ take_at out row old (sym is_old) in
-    let behind : take (length seen - old) (drop old seen) ≡ row = take_rest seen old
+    let rest_is : take (length seen - old) (drop old seen) ≡ row = take_rest seen old
     ∙ ap (drop old) is_seen ∙ drop_at out row old (sym is_old) in
-    let size : length text ≡ 64 = text_size ∙ ap length behind ∙ row_size in
-    let line : take count text ≡ shape row = written ∙ ap shape behind in
+    let size : length text ≡ 64 = text_size ∙ ap length rest_is ∙ row_size in
+    let line : take count text ≡ shape row = written ∙ ap shape rest_is in
     let all : (take old seen ++ (text ++ post)) ++ rest ≡ out ++ (text ++ (post ++ rest)) =
     ap (λ xs. (xs ++ (text ++ post)) ++ rest) before ∙ append_assoc out (text ++ post) rest
     ∙ ap (λ xs. out ++ xs) (append_assoc text post rest) in

@@ -1,41 +1,49 @@
--- The digits of numbers as bytes, four at a time, and each four as the number that they are in the
--- order of a `u32`.
+-- The decimal digits of numbers as bytes, in groups of four, each group packed in a `u32`.
 use Rattle.std.specs.Prelude.{ℕ, ◌≡◌, ◌+◌, ◌-◌, ◌<◌, ◌≤◌, ◌/◌, ◌%◌, List, [], ◌∷◌, ◌++◌, length, take, decimal, slice_index}
 use Rattle.std.specs.Int.{w32, to_le_bytes}
 
--- the bytes of four digits, the first lowest
-abbrev pub bytes_of : ℕ → List ℕ
-bytes_of four = to_le_bytes w32 four
+-- the four bytes of a `u32`, the lowest first
+abbrev pub u32_bytes : ℕ → List ℕ
+u32_bytes packed = to_le_bytes w32 packed
 
--- the last four digits of a number
-abbrev pub last_four : ℕ → List ℕ
-last_four n = (48 + n / 1000 % 10) ∷ (48 + n / 100 % 10) ∷ (48 + n / 10 % 10) ∷ (48 + n % 10) ∷ []
+-- the last four digits of a number, with leading zeros
+abbrev pub last_four_digits : ℕ → List ℕ
+last_four_digits n =
+    (48 + n / 1000 % 10) ∷ (48 + n / 100 % 10) ∷ (48 + n / 10 % 10) ∷ (48 + n % 10) ∷ []
 
--- four bytes that begin with all digits of a number
-abbrev pub BeginsWith : ℕ → ℕ → Type 0
-BeginsWith n four = take (length (decimal n)) (bytes_of four) ≡ decimal n
+-- the packed bytes start with all digits of a number
+abbrev pub StartsWithDigits : ℕ → ℕ → Type 0
+StartsWithDigits n packed = take (length (decimal n)) (u32_bytes packed) ≡ decimal n
 
--- four bytes that are the last four digits of a number
-abbrev pub EndsWith : ℕ → ℕ → Type 0
-EndsWith n four = bytes_of four ≡ last_four n
+-- the packed bytes are the last four digits of a number
+abbrev pub IsLastFourDigits : ℕ → ℕ → Type 0
+IsLastFourDigits n packed = u32_bytes packed ≡ last_four_digits n
 
--- for each number below a bound, four bytes of which this holds
-pub record AreFours (Is : ℕ → ℕ → Type 0) (bound : ℕ) (fours : List ℕ) : Type 0 where
-  pub counted : length fours ≡ bound
-  pub each : (n : ℕ) → n < bound → Is n (slice_index fours n)
+-- a table with an entry for each number below a bound, and `Is` relates the number to its entry
+pub record IsTable (Is : ℕ → ℕ → Type 0) (bound : ℕ) (entries : List ℕ) : Type 0 where
+  pub counted : length entries ≡ bound
+  pub each : (n : ℕ) → n < bound → Is n (slice_index entries n)
 
--- for each number below a bound, four bytes that begin with its digits
-abbrev pub AreFronts : ℕ → List ℕ → Type 0
-AreFronts bound fours = AreFours BeginsWith bound fours
+-- the table of leading digits: entry n starts with all digits of n
+abbrev pub IsLeadingTable : ℕ → List ℕ → Type 0
+IsLeadingTable bound entries = IsTable StartsWithDigits bound entries
 
--- for each number below a bound, its last four digits
-abbrev pub AreBacks : ℕ → List ℕ → Type 0
-AreBacks bound fours = AreFours EndsWith bound fours
+-- the table of trailing digits: entry n is the last four digits of n
+abbrev pub IsTrailingTable : ℕ → List ℕ → Type 0
+IsTrailingTable bound entries = IsTable IsLastFourDigits bound entries
 
--- the digits of a number: the first `width` bytes of one four, and then others of another, `len` in
--- all
-pub record AreDigits (number front back width len : ℕ) : Type 0 where
-  pub narrow : width ≤ 4
-  pub ordered : width ≤ len
-  pub short : len ≤ width + 4
-  pub written : take width (bytes_of front) ++ take (len - width) (bytes_of back) ≡ decimal number
+-- the digits of a number in two packed groups: `width` bytes of the first, and then bytes of the
+-- second up to `len` bytes in all
+pub record DigitGroups : Type 0 where
+  pub leading : ℕ
+  pub trailing : ℕ
+  pub width : ℕ
+  pub len : ℕ
+
+-- the groups spell a number
+pub record SpellsNumber (number : ℕ) (groups : DigitGroups) : Type 0 where
+  pub narrow : groups.width ≤ 4
+  pub ordered : groups.width ≤ groups.len
+  pub short : groups.len ≤ groups.width + 4
+  pub written : take groups.width (u32_bytes groups.leading)
+      ++ take (groups.len - groups.width) (u32_bytes groups.trailing) ≡ decimal number

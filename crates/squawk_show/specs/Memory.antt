@@ -1,9 +1,11 @@
--- What a source and a sink in memory are seen as, and what one call makes of them.
-use Rattle.std.specs.Prelude.{ℕ, ◌-◌, min, List, ◌++◌, length, take, drop}
-use Rattle.squawk_show.specs.Causes.{next_count}
+-- What contracts see of a source and a sink in memory, and what one call does to them.
+use Rattle.std.specs.Prelude.{ℕ, ◌-◌, min, List, [], ◌++◌, length, take, drop, Some, ⊤}
+use Rattle.squawk_events.specs.declared.error.FrontError.{FrontError}
+use Rattle.squawk_events.specs.declared.error.FrontError.TheVariants.{TooLong, OutOfMemory}
+use Rattle.squawk_show.specs.Edge.{SourceView, SinkView, next_count}
 
--- a source: the bytes left, the most that it gives in a call, the numbers of the calls that fail,
--- and how many calls and faults there were
+-- a source: the bytes left, the most bytes of a call, the numbers of the calls that fail, and the
+-- counts of calls and of faults
 pub record SourceState : Type 0 where
   pub left : List ℕ
   pub largest : ℕ
@@ -11,34 +13,34 @@ pub record SourceState : Type 0 where
   pub calls : ℕ
   pub faults : ℕ
 
--- how many bytes a call with this much room gives
-abbrev pub given : SourceState → ℕ → ℕ
-given s room = min (min s.largest room) (length s.left)
-
--- after a call that gave n bytes
-abbrev pub after_giving : ℕ → SourceState → SourceState
-after_giving n s = record {
-  left = drop n s.left;
-  largest = s.largest;
-  failing = s.failing;
-  calls =
-      next_count s.calls;
-  faults = s.faults;
+-- a source of some bytes as it is made
+abbrev pub new_source : List ℕ → ℕ → List ℕ → SourceState
+new_source bytes largest failing = record {
+  left = bytes;
+  largest = largest;
+  failing = failing;
+  calls = 0;
+  faults = 0;
 }
 
--- after a call that failed
+-- its bytes are observable, and it counts its reads
+abbrev pub source_view : SourceState → SourceView
+source_view s = record { left = Some s.left; faults = s.faults; reads = s.calls }
+
+-- the number of bytes that a read into a buffer of this length returns
+abbrev pub read_len : SourceState → ℕ → ℕ
+read_len s room = min (min s.largest room) (length s.left)
+
+-- the source after a read of n bytes
+abbrev pub after_read : ℕ → SourceState → SourceState
+after_read n s = record s { left = drop n s.left; calls = next_count s.calls }
+
+-- the source after a read that failed
 abbrev pub after_failed_read : SourceState → SourceState
-after_failed_read s = record {
-  left = s.left;
-  largest = s.largest;
-  failing = s.failing;
-  calls =
-      next_count s.calls;
-  faults = next_count s.faults;
-}
+after_failed_read s = record s { calls = next_count s.calls; faults = next_count s.faults }
 
--- a sink: the bytes taken, the room left, the most that it takes in a call, the numbers of the
--- calls that fail, and how many calls and faults there were
+-- a sink: the bytes taken, the room left, the most bytes of a call, the numbers of the calls that
+-- fail, and the counts of calls and of faults
 pub record SinkState : Type 0 where
   pub taken : List ℕ
   pub room : ℕ
@@ -47,30 +49,35 @@ pub record SinkState : Type 0 where
   pub calls : ℕ
   pub faults : ℕ
 
--- how many bytes of a piece a call takes
-abbrev pub accepted : SinkState → List ℕ → ℕ
-accepted s piece = min (min s.largest (length piece)) s.room
-
--- after a call that took the first n bytes of a piece
-abbrev pub after_taking : ℕ → List ℕ → SinkState → SinkState
-after_taking n piece s = record {
-  taken = s.taken ++ take n piece;
-  room = s.room - n;
-  largest =
-      s.largest;
-  failing = s.failing;
-  calls = next_count s.calls;
-  faults = s.faults;
+-- an empty sink as it is made
+abbrev pub new_sink : (room largest : ℕ) → List ℕ → SinkState
+new_sink room largest failing = record {
+  taken = [];
+  room = room;
+  largest = largest;
+  failing = failing;
+  calls = 0;
+  faults = 0;
 }
 
--- after a call that failed
+-- its bytes are observable
+abbrev pub sink_view : SinkState → SinkView
+sink_view s = record { taken = Some s.taken; faults = s.faults }
+
+-- the number of bytes of a piece that a write takes
+abbrev pub write_len : SinkState → List ℕ → ℕ
+write_len s piece = min (min s.largest (length piece)) s.room
+
+-- the sink after a write of the first n bytes of a piece
+abbrev pub after_write : ℕ → List ℕ → SinkState → SinkState
+after_write n piece s =
+    record s { taken = s.taken ++ take n piece; room = s.room - n; calls = next_count s.calls }
+
+-- the sink after a write that failed
 abbrev pub after_failed_write : SinkState → SinkState
-after_failed_write s = record {
-  taken = s.taken;
-  room = s.room;
-  largest = s.largest;
-  failing =
-      s.failing;
-  calls = next_count s.calls;
-  faults = next_count s.faults;
-}
+after_failed_write s = record s { calls = next_count s.calls; faults = next_count s.faults }
+
+-- the errors that making a source or a sink in memory returns
+abbrev pub IsMemoryRefusal : FrontError → Type 0
+IsMemoryRefusal TooLong = ⊥
+IsMemoryRefusal OutOfMemory = ⊤

@@ -1,10 +1,10 @@
--- How a run ends: the status of each refusal, and the line that tells of it.
-use Rattle.std.specs.Prelude.{ℕ, List, [], ◌∷◌, ◌++◌, codes, decimal, ⊤}
+-- The status of each error, and its line on standard error.
+use Rattle.std.specs.Prelude.{ℕ, List, [], ◌∷◌, ◌++◌, codes, decimal}
 use Rattle.squawk_events.specs.declared.error.FrontError.TheVariants.{TooLong, OutOfMemory}
 use Rattle.squawk_show.specs.declared.error.RunError.{RunError}
 use Rattle.squawk_show.specs.declared.error.RunError.TheVariants.{BadWords, ReadFault, NotUtf8, Front, WriteFault}
 
--- the status that a run ends with after a refusal
+-- the status that the program ends with after an error
 abbrev pub status_of_error : RunError → ℕ
 status_of_error BadWords = 2
 status_of_error ReadFault = 3
@@ -13,31 +13,24 @@ status_of_error (Front TooLong) = 5
 status_of_error (Front OutOfMemory) = 6
 status_of_error WriteFault = 7
 
--- what reading a source to its end may refuse
-abbrev pub IsReadRefusal : RunError → Type 0
-IsReadRefusal BadWords = ⊥
-IsReadRefusal ReadFault = ⊤
-IsReadRefusal (NotUtf8 at) = ⊥
-IsReadRefusal (Front e) = ⊤
-IsReadRefusal WriteFault = ⊥
+-- the message of an error, up to its number
+abbrev pub error_message : RunError → List ℕ
+error_message BadWords = codes "bad words"
+error_message ReadFault = codes "cannot read the input"
+error_message (NotUtf8 at) = codes "not UTF-8 at "
+error_message (Front TooLong) = codes "too long"
+error_message (Front OutOfMemory) = codes "out of memory"
+error_message WriteFault = codes "cannot write the output"
 
--- what is told of a refusal, up to a number
-abbrev pub words_of : RunError → List ℕ
-words_of BadWords = codes "bad words"
-words_of ReadFault = codes "cannot read the input"
-words_of (NotUtf8 at) = codes "not UTF-8 at "
-words_of (Front TooLong) = codes "too long"
-words_of (Front OutOfMemory) = codes "out of memory"
-words_of WriteFault = codes "cannot write the output"
+-- the number in the message of an error, in decimal digits, if it has one
+abbrev pub error_number : RunError → List ℕ
+error_number BadWords = []
+error_number ReadFault = []
+error_number (NotUtf8 at) = decimal at
+error_number (Front TooLong) = []
+error_number (Front OutOfMemory) = []
+error_number WriteFault = []
 
--- the number that is told of a refusal, in decimal digits; empty where there is none
-abbrev pub number_of : RunError → List ℕ
-number_of BadWords = []
-number_of ReadFault = []
-number_of (NotUtf8 at) = decimal at
-number_of (Front e) = []
-number_of WriteFault = []
-
--- the line that tells of a refusal
-abbrev pub line_of : RunError → List ℕ
-line_of e = words_of e ++ number_of e ++ 10 ∷ []
+-- the line that `run` writes to `err` for an error
+abbrev pub error_line : RunError → List ℕ
+error_line e = error_message e ++ error_number e ++ 10 ∷ []

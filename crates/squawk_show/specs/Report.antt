@@ -8,6 +8,20 @@ use Rattle.squawk_names.specs.Texts.{texts}
 use Rattle.squawk_tree.specs.Ranges.{ranges}
 use Rattle.squawk_tree.specs.Tree.{Tree}
 
+abbrev pub space : ℕ
+space = 32
+
+abbrev pub line_feed : ℕ
+line_feed = 10
+
+-- the letter of a line of a node: N
+abbrev pub node_letter : ℕ
+node_letter = 78
+
+-- the letter of a line of a leaf: T
+abbrev pub leaf_letter : ℕ
+leaf_letter = 84
+
 -- a range: its start, two dots and its end
 abbrev pub range_text : ℕ × ℕ → List ℕ
 range_text range = decimal range.0 ++ codes ".." ++ decimal range.1
@@ -16,38 +30,42 @@ range_text range = decimal range.0 ++ codes ".." ++ decimal range.1
 abbrev pub kind_text : ℕ → List ℕ
 kind_text kind = unwrap_or (slice_get texts kind) []
 
--- depth, letter, printed kind and range, with spaces between, and an LF
-abbrev pub line : (depth letter kind : ℕ) → ℕ × ℕ → List ℕ
-line depth letter kind range = decimal depth ++ (32 ∷ letter ∷ 32 ∷ []) ++ kind_text kind
-    ++ (32 ∷ []) ++ range_text range ++ (10 ∷ [])
+-- depth, letter, text and range, with spaces between, and an LF
+abbrev pub line_with_text : (depth letter : ℕ) → List ℕ → ℕ × ℕ → List ℕ
+line_with_text depth letter text range = decimal depth ++ (space ∷ letter ∷ space ∷ []) ++ text
+    ++ (space ∷ []) ++ range_text range ++ (line_feed ∷ [])
 
--- the line of a step with this range: of a node with N, of a leaf with T
+-- the line of a node or a leaf
+abbrev pub report_line : (depth letter kind : ℕ) → ℕ × ℕ → List ℕ
+report_line depth letter kind range = line_with_text depth letter (kind_text kind) range
+
+-- the line of a step with this range, if it has one
 abbrev pub step_line : ℕ → StrStep → ℕ × ℕ → List ℕ
-step_line depth (Enter kind) range = line depth 78 kind range
-step_line depth (Token kind start end) range = line depth 84 kind range
+step_line depth (Enter kind) range = report_line depth node_letter kind range
+step_line depth (Token kind start end) range = report_line depth leaf_letter kind range
 step_line depth Exit range = []
 step_line depth (Error number at) range = []
 
--- the depth behind a step
+-- the depth after a step
 abbrev pub depth_after : ℕ → StrStep → ℕ
 depth_after depth (Enter kind) = depth + 1
 depth_after depth (Token kind start end) = depth
 depth_after depth Exit = depth - 1
 depth_after depth (Error number at) = depth
 
--- the lines of steps with these ranges, from a depth on
+-- the lines of steps with these ranges, the first of which stands at a depth
 abbrev pub step_lines : ℕ → List StrStep → List (ℕ × ℕ) → List ℕ
 step_lines depth [] spans = []
 step_lines depth (x ∷ xs) [] = []
 step_lines depth (x ∷ xs) (r ∷ rs) = step_line depth x r ++ step_lines (depth_after depth x) xs rs
 
--- the line of an error: the letter E, its range and its message
-abbrev pub error_line : ParseError → List ℕ
-error_line e = codes "E " ++ range_text (e.start, e.end) ++ (32 ∷ []) ++ message_of e.number
-    ++ (10 ∷ [])
+-- the line of an error in a text: the letter E, its range and its message
+abbrev pub parse_error_line : ParseError → List ℕ
+parse_error_line e = codes "E " ++ range_text (e.start, e.end) ++ (space ∷ [])
+    ++ message_of e.number ++ (line_feed ∷ [])
 
 abbrev pub report : List StrStep → List ParseError → List ℕ
-report steps errors = step_lines 0 steps (ranges steps) ++ flat_map error_line errors
+report steps errors = step_lines 0 steps (ranges steps) ++ flat_map parse_error_line errors
 
 -- the report of a tree
 abbrev pub report_of : Tree → List ℕ

@@ -1,105 +1,184 @@
--- When a run ends with a report, and when with each refusal.
-use Rattle.std.specs.Prelude.{ℕ, ◌≡◌, ◌≤◌, ◌<◌, ◌+◌, List, length, map, Option, Some, None, Result, Ok, Err, IsUtf8, chars, ⊤}
+-- How a run of the program ends, and when it ends with each error.
+use Rattle.std.specs.Prelude.{ℕ, ◌≡◌, ◌≤◌, ◌<◌, ◌+◌, List, [], length, map, Option, Some, None, Result, Ok, Err, IsOk, IsErr, IfOk, IfErr, OnOk, IfSome, IsSomeAnd, IsUtf8, chars, ⊤}
 use Rattle.std.specs.Io.KnownBytes.{IsAtEnd}
 use Rattle.std.specs.Str.Lossy.{utf8_valid_len}
+use Rattle.squawk_events.specs.Limit.{limit}
 use Rattle.squawk_events.specs.declared.error.FrontError.TheVariants.{TooLong, OutOfMemory}
 use Rattle.squawk_lexer.specs.Cut.{tokens, token_ends}
 use Rattle.squawk_lexer.specs.declared.token.Strings.TheVariants.{Standard}
-use Rattle.squawk_show.specs.Causes.{Rose}
-use Rattle.squawk_show.specs.Outcome.{status_of_error}
-use Rattle.squawk_show.specs.Reading.{TakesExactly, AppendsFront}
+use Rattle.squawk_show.specs.Edge.{SourceView, SinkView, SourceFaultRose, SinkFaultRose, TakesExactly, AppendsAll, AppendsPrefix}
+use Rattle.squawk_show.specs.Outcome.{status_of_error, error_line}
 use Rattle.squawk_show.specs.Report.{report_of}
+use Rattle.squawk_show.specs.declared.command.Command.{Command}
+use Rattle.squawk_show.specs.declared.command.Command.TheVariants.{Report}
 use Rattle.squawk_show.specs.declared.error.RunError.{RunError}
 use Rattle.squawk_show.specs.declared.error.RunError.TheVariants.{BadWords, ReadFault, NotUtf8, Front, WriteFault}
 use Rattle.squawk_tree.specs.Children.{children, roles_of, root_child}
 use Rattle.squawk_tree.specs.ParseOf.{parse_of}
 use Rattle.squawk_tree.specs.Steps.{leaves, ranges_through, root_children}
-use Rattle.squawk_tree.specs.Tree.{Tree}
+use Rattle.squawk_tree.specs.Tree.{Tree, IsTree}
 use Rattle.squawk_tree.specs.declared.division.Division.TheVariants.{Flat}
 
--- the most bytes of a text
-abbrev pub limit : ℕ
-limit = 4294967295
+-- Texts and their trees
+
+-- bytes within the limit that are UTF-8
+pub record IsText (bytes : List ℕ) : Type 0 where
+  pub within : length bytes ≤ limit
+  pub valid : IsUtf8 bytes
+
+-- bytes within the limit that are not UTF-8
+pub record IsInvalidText (bytes : List ℕ) : Type 0 where
+  pub within : length bytes ≤ limit
+  pub invalid : ¬ (IsUtf8 bytes)
+
+abbrev pub IsOverLimit : List ℕ → Type 0
+IsOverLimit bytes = limit < length bytes
 
 -- the tree of a text of these bytes
 unfoldable pub tree_of : List ℕ → Tree
 tree_of text = parse_of Standard Flat text
 
 -- the leaves of a tree are the tokens of a text, each by its range in bytes
-unfoldable pub HasLeavesOf : List ℕ → Tree → Type 0
-HasLeavesOf text tree = leaves tree.steps
+unfoldable pub LeavesAreTokens : List ℕ → Tree → Type 0
+LeavesAreTokens text tree = leaves tree.steps
     ≡ ranges_through 0 (token_ends 0 (tokens Standard (chars text)))
 
 -- the children of a tree's root are those into which the tokens of a text are divided, as leaves
 -- and nodes
-unfoldable pub HasChildrenOf : List ℕ → Tree → Type 0
-HasChildrenOf text tree = root_children tree.steps
+unfoldable pub ChildrenAreStatements : List ℕ → Tree → Type 0
+ChildrenAreStatements text tree = root_children tree.steps
     ≡ map root_child (children Flat (roles_of (tokens Standard (chars text))))
+
+-- the bytes are a text, and this is its tree
+pub record IsParsed (bytes : List ℕ) (tree : Tree) : Type 0 where
+  pub text : IsText bytes
+  pub parsed : tree ≡ tree_of bytes
+  pub leaves_of : LeavesAreTokens bytes tree
+  pub children_of : ChildrenAreStatements bytes tree
+
+-- Commands: each definition by cases on what the words name
+
+-- what a command writes to `out` for its tree
+abbrev pub output_of : Result Command RunError → Tree → List ℕ
+output_of (Ok Report) tree = report_of tree
+output_of (Err e) tree = []
+
+-- a sink took exactly the output of a command for its tree
+abbrev pub Writes : Result Command RunError → (old new : SinkView) → Tree → Type 0
+Writes command old new tree = AppendsAll old new (output_of command tree)
+
+-- these bytes are all that a source had left, where it is observable
+abbrev pub IsAll : Option (List ℕ) → List ℕ → Type 0
+IsAll None bytes = ⊤
+IsAll (Some left) bytes = left ≡ bytes
+
+-- the bytes that a command reads as a text are these
+abbrev pub IsInput : Result Command RunError → SourceView → List ℕ → Type 0
+IsInput (Ok Report) source bytes = IsAll source.left bytes
+IsInput (Err e) source bytes = ⊥
+
+-- the bytes that a command reads as a text are observable, and P holds of them
+abbrev pub HasInput : (List ℕ → Type 0) → Result Command RunError → SourceView → Type 0
+HasInput P (Ok Report) source = IsSomeAnd source.left P
+HasInput P (Err e) source = ⊥
+
+-- P holds of the bytes that a command reads as a text, where they are observable
+abbrev pub OnInput : (List ℕ → Type 0) → Result Command RunError → SourceView → Type 0
+OnInput P (Ok Report) source = IfSome source.left P
+OnInput P (Err e) source = ⊥
+
+-- a command reads its source to the end
+abbrev pub IsReadToEnd : Result Command RunError → SourceView → Type 0
+IsReadToEnd (Ok Report) source = IsAtEnd source.left
+IsReadToEnd (Err e) source = ⊥
+
+-- the tree of a command's input, which is a text
+abbrev pub IsTreeOf : Result Command RunError → SourceView → Tree → Type 0
+IsTreeOf command source tree = (text : List ℕ) × IsInput command source text × IsParsed text tree
+
+-- the leaves of a tree are the tokens of a command's input
+abbrev pub HasLeavesOf : Result Command RunError → SourceView → Tree → Type 0
+HasLeavesOf command source tree = OnInput (λ text. LeavesAreTokens text tree) command source
+
+-- the children of a tree's root are those into which the tokens of a command's input are divided
+abbrev pub IsDivided : Result Command RunError → SourceView → Tree → Type 0
+IsDivided command source tree = OnInput (λ text. ChildrenAreStatements text tree) command source
+
+-- Runs
 
 -- the status that a run ends with
 abbrev pub status_of : Result Tree RunError → ℕ
 status_of (Ok tree) = 0
 status_of (Err e) = status_of_error e
 
--- all that a source had left, where it tells that, is these bytes
-abbrev pub IsAll : Option (List ℕ) → List ℕ → Type 0
-IsAll None bytes = ⊤
-IsAll (Some left) bytes = left ≡ bytes
+-- what a run was called with, and what it did to the source and to the sink of its output
+pub record Run : Type 0 where
+  pub command : Result Command RunError
+  pub source_before : SourceView
+  pub source_after : SourceView
+  pub out_before : SinkView
+  pub out_after : SinkView
 
--- bytes within the limit that are a text
-pub record IsText (bytes : List ℕ) : Type 0 where
-  pub within : length bytes ≤ limit
-  pub valid : IsUtf8 bytes
+-- the source was read to its end, and what it had left is not UTF-8 from an offset on
+pub record IsInvalidAt (at : ℕ) (command : Result Command RunError) (old new : SourceView)
+    : Type 0 where
+  pub end : IsReadToEnd command new
+  pub input : (bytes : List ℕ) × IsInput command old bytes × IsInvalidText bytes
+      × (at ≡ utf8_valid_len bytes)
 
--- bytes within the limit that are no text, of which so many are valid
-pub record IsNoText (bytes : List ℕ) (at : ℕ) : Type 0 where
-  pub within : length bytes ≤ limit
-  pub invalid : ¬ (IsUtf8 bytes)
-  pub place : at ≡ utf8_valid_len bytes
+-- a prefix of the command's output was written, and then the sink failed
+pub record IsCutOff (run : Run) : Type 0 where
+  pub end : IsReadToEnd run.command run.source_after
+  pub fault : SinkFaultRose run.out_before run.out_after
+  pub prefix : (tree : Tree) × IsTreeOf run.command run.source_before tree
+      × AppendsPrefix run.out_before run.out_after (output_of run.command tree)
 
--- the bytes are a text, and this is its tree
-pub record IsParsed (bytes : List ℕ) (tree : Tree) : Type 0 where
-  pub text : IsText bytes
-  pub parsed : tree ≡ tree_of bytes
-  pub leaves_of : HasLeavesOf bytes tree
-  pub children_of : HasChildrenOf bytes tree
+-- the errors of a run, and when each comes
+abbrev pub IsRefused : Run → RunError → Type 0
+IsRefused run BadWords = IsErr run.command
+IsRefused run ReadFault = IsOk run.command × SourceFaultRose run.source_before run.source_after
+IsRefused run (NotUtf8 at) = IsInvalidAt at run.command run.source_before run.source_after
+IsRefused run (Front TooLong) = IsOk run.command
+    × TakesExactly run.source_before run.source_after (limit + 1)
+IsRefused run (Front OutOfMemory) = IsOk run.command
+IsRefused run WriteFault = IsCutOff run
 
--- the tree of all that a source had left, which is a text within the limit
-abbrev pub IsTreeOfAll : Option (List ℕ) → Tree → Type 0
-IsTreeOfAll left tree = (text : List ℕ) × IsAll left text × IsParsed text tree
+-- a run with this outcome, but for what it writes to `err`
+pub record EndsWith (run : Run) (outcome : Result Tree RunError) : Type 0 where
+  pub written : IfOk outcome (Writes run.command run.out_before run.out_after)
+  pub tree : IfOk outcome (IsTreeOf run.command run.source_before)
+  pub balanced : IfOk outcome IsTree
+  pub end : OnOk outcome (IsReadToEnd run.command run.source_after)
+  pub refusals : IfErr outcome (IsRefused run)
 
--- a sink's known bytes grew by a front of the report of that tree
-abbrev pub IsFrontOfAll : Option (List ℕ) → Option (List ℕ) → Option (List ℕ) → Type 0
-IsFrontOfAll left before now = (tree : Tree) × IsTreeOfAll left tree
-    × AppendsFront before now (report_of tree)
+-- a sink took the line of an error, or a prefix of it where it failed
+pub record WritesErrorLine (old new : SinkView) (e : RunError) : Type 0 where
+  pub prefix : AppendsPrefix old new (error_line e)
+  pub whole : ¬ (SinkFaultRose old new) → AppendsAll old new (error_line e)
 
--- all that a source had left is within the limit and no text; so many bytes of it are valid
-abbrev pub IsNoTextOfAll : Option (List ℕ) → ℕ → Type 0
-IsNoTextOfAll left at = (bytes : List ℕ) × IsAll left bytes × IsNoText bytes at
+-- Parts of a run
 
--- there were no words, and the source had no fault
-pub record IsUndisturbed (words before now : ℕ) : Type 0 where
-  pub no_words : words ≡ 0
-  pub no_fault : ¬ (Rose before now)
-
--- When each refusal of a run may come: by the number of words, by what the source had left and has
--- left, by its faults before and now, and by whether the sink of the output had a fault.
-abbrev pub IsRefused : ℕ → Option (List ℕ) → Option (List ℕ) → ℕ → ℕ → Type 0 → RunError → Type 0
-IsRefused words old new before now Fault BadWords = 0 < words
-IsRefused words old new before now Fault ReadFault = (words ≡ 0) × Rose before now
-IsRefused words old new before now Fault (NotUtf8 at) = (words ≡ 0) × IsAtEnd new
-    × IsNoTextOfAll old at
-IsRefused words old new before now Fault (Front TooLong) = (words ≡ 0)
-    × TakesExactly old new (limit + 1)
-IsRefused words old new before now Fault (Front OutOfMemory) = words ≡ 0
-IsRefused words old new before now Fault WriteFault = (words ≡ 0) × IsAtEnd new × Fault
-    × ((tree : Tree) × IsTreeOfAll old tree)
-
--- what making the tree of bytes within the limit may refuse
+-- the errors of making the tree of bytes within the limit, and when each comes
 abbrev pub IsParseRefusal : List ℕ → RunError → Type 0
 IsParseRefusal bytes BadWords = ⊥
 IsParseRefusal bytes ReadFault = ⊥
-IsParseRefusal bytes (NotUtf8 at) = IsNoText bytes at
+IsParseRefusal bytes (NotUtf8 at) = IsInvalidText bytes × (at ≡ utf8_valid_len bytes)
 IsParseRefusal bytes (Front TooLong) = ⊥
 IsParseRefusal bytes (Front OutOfMemory) = ⊤
 IsParseRefusal bytes WriteFault = ⊥
+
+-- the errors of making the report of what a source has left, and when each comes
+abbrev pub IsReportRefusal : (old new : SourceView) → RunError → Type 0
+IsReportRefusal old new BadWords = ⊥
+IsReportRefusal old new ReadFault = SourceFaultRose old new
+IsReportRefusal old new (NotUtf8 at) = IsInvalidAt at (Ok Report) old new
+IsReportRefusal old new (Front TooLong) = TakesExactly old new (limit + 1)
+IsReportRefusal old new (Front OutOfMemory) = ⊤
+IsReportRefusal old new WriteFault = ⊥
+
+-- a source was read to its end, and this is the tree of what it had left, and the tree's report
+pub record IsReported (old new : SourceView) (tree : Tree) (report : List ℕ) : Type 0 where
+  pub tree_of : IsTreeOf (Ok Report) old tree
+  pub balanced : IsTree tree
+  pub end : IsAtEnd new.left
+  pub report_of : report ≡ report_of tree

@@ -1,10 +1,10 @@
-//! The digits of numbers, looked up four at a time.
+//! Decimal digits by table look-up, four at a time: numbers are the larger part of a report.
 ghost use Rattle.std.specs.Prelude.{◌≡◌, ℕ, ◌≤◌, ◌<◌, ◌+◌, ◌++◌, ◌∷◌, [], length, take, decimal, IfOk};
-ghost use Rattle.squawk_show.specs.Digits.{bytes_of, last_four, BeginsWith, AreFronts, AreBacks, AreDigits};
+ghost use Rattle.squawk_show.specs.Digits as spec;
 
 use std::alloc::{AllocError, Global};
 
-// A digit as a byte.
+// The ASCII code of a digit.
 fn digit(n: u32) -> u8
     requires { n < 10 }
     ensures { result ≡ 48 + n }
@@ -12,10 +12,10 @@ fn digit(n: u32) -> u8
     48 + n as u8
 }
 
-// How many digits a number has.
-fn width_of(n: u32) -> usize
+// The number of digits of a number.
+fn digit_count(n: u32) -> usize
     requires { n < 10000 }
-    ensures width { result ≡ length (decimal n) }
+    ensures count { result ≡ length (decimal n) }
     ensures narrow { result ≤ 4 }
 {
     if n < 10 {
@@ -29,8 +29,8 @@ fn width_of(n: u32) -> usize
     }
 }
 
-// Four bytes that begin with the digits of a number.
-fn front_bytes(n: u32) -> [u8; 4]
+// Four bytes that start with all digits of a number; the bytes after them do not matter.
+fn leading_bytes(n: u32) -> [u8; 4]
     requires { n < 10000 }
     ensures { take (length (decimal n)) result ≡ decimal n }
 {
@@ -50,9 +50,9 @@ fn front_bytes(n: u32) -> [u8; 4]
     }
 }
 
-// The last four digits of a number.
-fn back_bytes(n: u32) -> [u8; 4]
-    ensures { result ≡ last_four n }
+// The last four digits of a number, with leading zeros.
+fn trailing_bytes(n: u32) -> [u8; 4]
+    ensures { result ≡ spec.last_four_digits n }
 {
     [
         digit(n / 1000 % 10),
@@ -62,143 +62,147 @@ fn back_bytes(n: u32) -> [u8; 4]
     ]
 }
 
-// Four bytes as a number.
-fn four_of(bytes: [u8; 4]) -> u32
-    ensures { bytes_of result ≡ bytes }
+// Packs four bytes in a `u32`.
+fn pack(bytes: [u8; 4]) -> u32
+    ensures { spec.u32_bytes result ≡ bytes }
 {
     u32::from_le_bytes(bytes)
 }
 
-// For each number below 10000, four bytes that begin with its digits.
-fn make_fronts(alloc: Global) -> Result<Vec<u32>, AllocError>
-    ensures { IfOk result (λ fours. AreFronts 10000 fours.items) }
+// The table of leading digits of the numbers below 10000.
+fn make_leading(alloc: Global) -> Result<Vec<u32>, AllocError>
+    ensures { IfOk result (λ table. spec.IsLeadingTable 10000 table.items) }
 {
-    let mut fours = Vec::new(alloc);
+    let mut table = Vec::new(alloc);
     for n in 0..10000u32 {
-        fours.push(four_of(front_bytes(n)))?;
+        table.push(pack(leading_bytes(n)))?;
     }
-    Ok(fours)
+    Ok(table)
 }
 
-// For each number below 10000, its last four digits.
-fn make_backs(alloc: Global) -> Result<Vec<u32>, AllocError>
-    ensures { IfOk result (λ fours. AreBacks 10000 fours.items) }
+// The table of the last four digits of the numbers below 10000.
+fn make_trailing(alloc: Global) -> Result<Vec<u32>, AllocError>
+    ensures { IfOk result (λ table. spec.IsTrailingTable 10000 table.items) }
 {
-    let mut fours = Vec::new(alloc);
+    let mut table = Vec::new(alloc);
     for n in 0..10000u32 {
-        fours.push(four_of(back_bytes(n)))?;
+        table.push(pack(trailing_bytes(n)))?;
     }
-    Ok(fours)
+    Ok(table)
 }
 
-/// The digits of each number below 10000, as four bytes each.
+// The digits of the numbers below 10000, as packed bytes.
 #[derive(Drop)]
-pub(crate) struct Digits {
-    fronts: Vec<u32>,
-    backs: Vec<u32>,
-    ghost fronts_known: { AreFronts 10000 fronts.items },
-    ghost backs_known: { AreBacks 10000 backs.items },
+pub(crate) struct DigitTables {
+    leading: Vec<u32>,
+    trailing: Vec<u32>,
+    ghost leading_digits: { spec.IsLeadingTable 10000 leading.items },
+    ghost trailing_digits: { spec.IsTrailingTable 10000 trailing.items },
 }
 
-/// A number with its digits.
+// A number with its digits: `width` bytes of `leading`, and then bytes of `trailing` up to `len`
+// bytes in all.
 #[derive(Clone, Copy)]
-pub(crate) struct Place {
-    pub(crate) number: u32,
-    front: u32,
-    back: u32,
+pub(crate) struct Number {
+    pub(crate) value: u32,
+    leading: u32,
+    trailing: u32,
     width: usize,
     len: usize,
-    ghost digits: { AreDigits number front back width len },
+    ghost digits: { spec.SpellsNumber value (record {
+      leading = leading;
+      trailing = trailing;
+      width = width;
+      len = len;
+    }) },
 }
 
-impl Place {
-    /// The number 0.
-    pub(crate) fn zero() -> Place
-        ensures { result.number ≡ 0 }
+impl Number {
+    pub(crate) fn zero() -> Number
+        ensures { result.value ≡ 0 }
     {
-        Place {
-            number: 0,
-            front: 48,
-            back: 0,
+        Number {
+            value: 0,
+            leading: 48,
+            trailing: 0,
             width: 1,
             len: 1,
         }
     }
 }
 
-impl Digits {
-    /// The digits of the numbers below 10000.
-    pub(crate) fn new(alloc: Global) -> Result<Digits, AllocError> {
-        let fronts = make_fronts(alloc)?;
-        let backs = make_backs(alloc)?;
-        Ok(Digits { fronts, backs })
+impl DigitTables {
+    pub(crate) fn new(alloc: Global) -> Result<DigitTables, AllocError> {
+        let leading = make_leading(alloc)?;
+        let trailing = make_trailing(alloc)?;
+        Ok(DigitTables { leading, trailing })
     }
 
-    /// A number with its digits.
+    // A number of at most eight digits, with its digits.
     #[inline(always)]
-    pub(crate) fn place(&self, number: u32) -> Place
-        requires { number < 100000000 }
-        ensures { result.number ≡ number }
+    pub(crate) fn number(&self, value: u32) -> Number
+        requires { value < 100000000 }
+        ensures { result.value ≡ value }
     {
-        if number < 10000 {
-            let width = width_of(number);
-            let front = self.fronts[number as usize];
-            return Place {
-                number,
-                front,
-                back: 0,
+        if value < 10000 {
+            let width = digit_count(value);
+            let leading = self.leading[value as usize];
+            return Number {
+                value,
+                leading,
+                trailing: 0,
                 width,
                 len: width,
             };
         }
-        let high = number / 10000;
-        let width = width_of(high);
-        let front = self.fronts[high as usize];
-        let back = self.backs[(number % 10000) as usize];
-        Place {
-            number,
-            front,
-            back,
+        let high = value / 10000;
+        let width = digit_count(high);
+        let leading = self.leading[high as usize];
+        let trailing = self.trailing[(value % 10000) as usize];
+        Number {
+            value,
+            leading,
+            trailing,
             width,
             len: width + 4,
         }
     }
 
-    /// A number with its digits, by those of another where that is the same.
+    // As `number`, but reuses the digits of the last number if that is the same.
     #[inline(always)]
-    pub(crate) fn place_after(&self, last: Place, number: u32) -> Place
-        requires { number < 100000000 }
-        ensures { result.number ≡ number }
+    pub(crate) fn number_after(&self, last: Number, value: u32) -> Number
+        requires { value < 100000000 }
+        ensures { result.value ≡ value }
     {
-        if last.number == number {
+        if last.value == value {
             return last;
         }
-        self.place(number)
+        self.number(value)
     }
 }
 
-// Writes four bytes at a place of a buffer; any front of them then stands behind what was before
-// the place.
+// Writes four packed bytes at an offset. Callers count only a prefix of them: what follows it is
+// overwritten later or cut off.
 #[inline(always)]
-fn put_four(text: &mut [u8], at: usize, four: u32)
+fn put_u32(text: &mut [u8], at: usize, packed: u32)
     requires { at + 4 ≤ length text.old }
-    ensures written { (n : ℕ) → n ≤ 4 → take (at + n) text.new
-        ≡ take at text.old ++ take n (bytes_of four) }
+    ensures written { (n : ℕ) → n ≤ 4
+        → take (at + n) text.new ≡ take at text.old ++ take n (spec.u32_bytes packed) }
     ensures same_length { length text.new ≡ length text.old }
 {
-    text[at..at + 4].copy_from_slice(&four.to_le_bytes());
+    text[at..at + 4].copy_from_slice(&packed.to_le_bytes());
 }
 
-/// Writes a number at a place of a buffer, and answers the place behind it; bytes behind that may
-/// be written too.
+// Writes the digits of a number at an offset, and returns the offset after them. It writes eight
+// bytes whatever the number, since two copies of a fixed size are faster than one of any size.
 #[inline(always)]
-pub(crate) fn put_place(text: &mut [u8], at: usize, place: Place) -> usize
+pub(crate) fn put_number(text: &mut [u8], at: usize, number: Number) -> usize
     requires { at + 8 ≤ length text.old }
     ensures near { (at ≤ result) × (result ≤ at + 8) }
-    ensures written { take result text.new ≡ take at text.old ++ decimal place.number }
+    ensures written { take result text.new ≡ take at text.old ++ decimal number.value }
     ensures same_length { length text.new ≡ length text.old }
 {
-    put_four(text, at, place.front);
-    put_four(text, at + place.width, place.back);
-    at + place.len
+    put_u32(text, at, number.leading);
+    put_u32(text, at + number.width, number.trailing);
+    at + number.len
 }

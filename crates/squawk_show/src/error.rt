@@ -1,27 +1,27 @@
 //! Why a run ends without a report.
-ghost use Rattle.std.specs.Prelude.{◌≡◌, ◌≤◌, length};
+ghost use Rattle.std.specs.Prelude.{◌≡◌, ◌≤◌, ◌↔◌, IsTrue, length};
 ghost use Rattle.squawk_events.specs.declared.error.FrontError.TheVariants.{OutOfMemory};
-ghost use Rattle.squawk_show.specs.Outcome.{status_of_error, words_of};
+ghost use Rattle.squawk_show.specs.Outcome.{status_of_error, error_message};
 ghost use Rattle.squawk_show.specs.declared.error.RunError.TheVariants.{Front};
 
 use squawk_events::FrontError;
 use std::alloc::{AllocError, AllocFailed};
 use thiserror::Error;
 
-/// Why a run ends without a report. Its displayed text is the line that the program writes, without
-/// the LF.
+/// Why a run ends without a report. Its displayed text is the line on standard error, without the
+/// LF.
 #[derive(Clone, Copy, Debug, PartialEq, Eq, Error)]
 pub enum RunError {
-    /// The words of the command line are none of the commands.
+    /// The words of the command line name no command.
     #[error("bad words")]
     BadWords,
     /// The source failed.
     #[error("cannot read the input")]
     ReadFault,
-    /// The input is no text; `at` is the number of bytes of its longest valid prefix.
+    /// The input is not UTF-8; `at` is the length in bytes of its longest valid prefix.
     #[error("not UTF-8 at {at}")]
     NotUtf8 { at: usize },
-    /// The front end refused: the input is too long, or there was no memory.
+    /// The front end refused: the input is too long, or there is not enough memory.
     #[error("{0}")]
     Front(FrontError),
     /// The sink of the output failed.
@@ -30,9 +30,9 @@ pub enum RunError {
 }
 
 impl RunError {
-    /// What is told of it, up to a number.
-    pub(crate) fn words(self) -> &'static str
-        ensures words { result.now ≡ words_of self }
+    // The message, up to the number of `NotUtf8`.
+    pub(crate) fn message(self) -> &'static str
+        ensures message { result.now ≡ error_message self }
         ensures short { length result.now ≤ 30 }
     {
         match self {
@@ -45,7 +45,7 @@ impl RunError {
         }
     }
 
-    /// The status that a run ends with after it.
+    /// The status that the program ends with after this error.
     pub fn status(self) -> u8
         ensures { result ≡ status_of_error self }
     {
@@ -83,3 +83,8 @@ impl<T: Drop> From<AllocFailed<T>> for RunError {
         RunError::Front(FrontError::OutOfMemory)
     }
 }
+
+/// Two errors are equal exactly if they are the same. For proofs: it does nothing.
+pub fn run_errors_are_equal_if_same()
+    ensures { (a b : RunError) → IsTrue (⟦<RunError as PartialEq>⟧.eq a b) ↔ (a ≡ b) }
+{}

@@ -1,59 +1,66 @@
 //! The program: the report of the text on standard input.
 #![tactic(auto)]
 
+mod command;
 mod digits;
+mod edge;
 mod error;
 mod line;
-mod memory_sink;
-mod memory_source;
+mod line_buffer;
 mod program;
-mod read_write;
 mod reading;
+mod refusal;
 mod report;
-mod sink;
-mod source;
-mod telling;
 #[cfg(test)]
 mod tests;
 mod writing;
 
-pub use error::RunError;
-pub use memory_sink::MemorySink;
-pub use memory_source::MemorySource;
+pub use command::Command;
+pub use edge::{Failed, MemorySink, MemorySource, ReadSource, Sink, Source, WriteSink};
+pub use error::{RunError, run_errors_are_equal_if_same};
 pub use program::{Shown, run};
-pub use read_write::{ReadSource, WriteSink};
-pub use reading::{LIMIT, read_all};
+pub use reading::read_all;
 pub use report::make_report;
-pub use sink::Sink;
-pub use source::{Failed, Source};
+use std::alloc::Global;
 use std::env;
-use std::io::ErrorKind;
+use std::io::{ErrorKind, Read, Write};
 use std::process::ExitCode;
 pub use writing::write_whole;
 
-// The status where there is no memory for the words of the command line.
-const NO_MEMORY: u8 = 6;
+// The status if there is not enough memory for the words of the command line.
+const OUT_OF_MEMORY: u8 = 6;
 
-// The status where the system refuses the words for another cause, as where one is no text.
-const NO_WORDS: u8 = 11;
+// The status if the system refuses the words for another cause, as where one is not UTF-8.
+const WORDS_REFUSED: u8 = 11;
 
 fn main(rt: HostRuntime) -> ExitCode {
     let args = match env::args(&rt) {
         Ok(args) => args,
         Err(error) => {
             let status = match error.kind() {
-                ErrorKind::OutOfMemory => NO_MEMORY,
-                _ => NO_WORDS,
+                ErrorKind::OutOfMemory => OUT_OF_MEMORY,
+                _ => WORDS_REFUSED,
             };
             return ExitCode::from(status);
         }
     };
     let Ok(words) = args.skip(1).collect::<Vec<String>>(rt.alloc()) else {
-        return ExitCode::from(NO_MEMORY);
+        return ExitCode::from(OUT_OF_MEMORY);
     };
-    let mut source = ReadSource::new(rt.stdin());
-    let mut out = WriteSink::new(rt.stdout());
-    let mut err = WriteSink::new(rt.stderr());
-    let shown = run(rt.alloc(), &words, &mut source, &mut out, &mut err);
-    ExitCode::from(shown.status)
+    let status = run_streams(rt.alloc(), &words, rt.stdin(), rt.stdout(), rt.stderr());
+    ExitCode::from(status)
+}
+
+// Runs the program over streams of std, and returns the status that it ends with.
+fn run_streams<R: Read + Drop, W: Write + Drop, E: Write + Drop>(
+    alloc: Global,
+    words: &[String],
+    input: R,
+    output: W,
+    errors: E,
+) -> u8 {
+    let mut source = ReadSource::new(input);
+    let mut out = WriteSink::new(output);
+    let mut err = WriteSink::new(errors);
+    run(alloc, words, &mut source, &mut out, &mut err).status
 }

@@ -3,40 +3,40 @@ ghost use Rattle.std.specs.Prelude.{◌≡◌, ◌++◌, [], ◌+◌, ◌^◌, �
 ghost use Rattle.squawk_show.specs.Report.{report_of, step_line, step_lines, depth_after};
 ghost use Rattle.squawk_tree.specs.Ranges.{ranges};
 
-use crate::digits::{Digits, Place};
+use crate::digits::{DigitTables, Number};
 use crate::line::{push_error, push_line};
 use squawk_events::StrStep;
 use squawk_tree::Parse;
 use std::alloc::{AllocError, Global};
 
-// Below so many steps the tables of digits cost more than they save.
-const FEW: usize = 16384;
+// For fewer steps the tables of digits cost more than they save.
+const MIN_STEPS_FOR_TABLES: usize = 16384;
 
-// The bytes of a line, as it is on average.
-const USUAL: usize = 34;
+// The average length of a line, in bytes.
+const USUAL_LINE: usize = 34;
 
-// Appends the line of a step, if it has one, and answers the depth behind it, and the digits of the
-// last end.
+// Appends the line of a step, if it has one. Returns the depth after it, and the last printed
+// number.
 #[inline(always)]
 fn push_step(
     out: &mut Vec<u8>,
-    digits: &Option<Digits>,
-    last: Place,
+    tables: &Option<DigitTables>,
+    last: Number,
     depth: usize,
     step: StrStep,
     range: (u32, u32),
-) -> Result<(usize, Place), AllocError>
+) -> Result<(usize, Number), AllocError>
     requires { depth + 1 < 2 ^ 64 }
     ensures line { OnOk result (out.new.items ≡ out.old.items ++ step_line depth step range) }
     ensures depth { IfOk result (λ next. next.0 ≡ depth_after depth step) }
 {
     match step {
         StrStep::Enter { kind } => {
-            push_line(out, digits, last, depth, b'N', kind, range)?;
+            push_line(out, tables, last, depth, b'N', kind, range)?;
             Ok((depth + 1, last))
         }
         StrStep::Token { kind, .. } => {
-            let end = push_line(out, digits, last, depth, b'T', kind, range)?;
+            let end = push_line(out, tables, last, depth, b'T', kind, range)?;
             Ok((depth, end))
         }
         StrStep::Exit => Ok((depth.saturating_sub(1), last)),
@@ -44,44 +44,46 @@ fn push_step(
     }
 }
 
-// An empty report, with room for the lines of so many steps where there is memory for that.
+// An empty report with room for its lines. Without memory for that much it grows as needed.
 fn make_room(alloc: Global, steps: usize) -> Vec<u8>
     ensures { result.items ≡ [] }
 {
     let mut out = Vec::new(alloc);
-    let _ = out.reserve(steps.saturating_mul(USUAL));
+    let _ = out.reserve(steps.saturating_mul(USUAL_LINE));
     out
 }
 
-// Tables of digits, where there are so many steps that they are worth making.
-fn make_digits(alloc: Global, steps: usize) -> Result<Option<Digits>, AllocError> {
-    if steps < FEW {
+// The tables of digits, if there are enough steps to be worth it.
+fn make_tables(alloc: Global, steps: usize) -> Result<Option<DigitTables>, AllocError> {
+    if steps < MIN_STEPS_FOR_TABLES {
         return Ok(None);
     }
-    Ok(Some(Digits::new(alloc)?))
+    Ok(Some(DigitTables::new(alloc)?))
 }
 
 // The lines of the nodes and the leaves.
 fn make_step_lines(alloc: Global, parse: &Parse) -> Result<Vec<u8>, AllocError>
-    ensures { IfOk result (λ text. text.items
-        ≡ step_lines 0 parse.now.steps (ranges parse.now.steps)) }
+    ensures { IfOk result (λ text.
+        text.items ≡ step_lines 0 parse.now.steps (ranges parse.now.steps)) }
 {
     let steps = parse.steps().len();
-    let digits = make_digits(alloc, steps)?;
+    let tables = make_tables(alloc, steps)?;
     let mut out = make_room(alloc, steps);
     let mut depth = 0usize;
-    let mut last = Place::zero();
+    let mut last = Number::zero();
     for (i, step) in parse.steps().iter().enumerate() {
-        let next = push_step(&mut out, &digits, last, depth, *step, parse.range(i))?;
+        let next = push_step(&mut out, &tables, last, depth, *step, parse.range(i))?;
         depth = next.0;
         last = next.1;
     }
     Ok(out)
 }
 
-/// The report of a tree: a line for each node and leaf, in order, and then one for each error.
+/// Returns the report of a tree: a line for each node and leaf, in order, and then a line for each
+/// error.
 ///
-/// It takes time and memory in proportion to its own length. The only refusal is want of memory.
+/// It takes time and memory in proportion to the report's length. The only refusal is lack of
+/// memory.
 pub fn make_report(alloc: Global, parse: &Parse) -> Result<Vec<u8>, AllocError>
     ensures { IfOk result (λ text. text.items ≡ report_of parse.now) }
 {

@@ -1,7 +1,11 @@
-//! What no clause says: the worked examples with ample memory, a fault of each stream, and std's
-//! streams.
-use crate::{MemorySink, MemorySource, ReadSource, RunError, Sink, WriteSink, read_all, run};
+//! What no clause says: worked examples with ample memory, a fault at each call, and streams of std.
+use crate::{
+    Failed, MemorySink, MemorySource, ReadSource, RunError, Sink, Source, WriteSink, read_all, run,
+    run_streams,
+};
 use squawk_events::FrontError;
+use std::io;
+use std::io::BufWriter;
 use std::test::Fail;
 
 const SELECT_ONE: &[u8] = b"0 N source file 0..9\n\
@@ -11,29 +15,31 @@ const SELECT_ONE: &[u8] = b"0 N source file 0..9\n\
     2 T integer literal 7..8\n\
     2 T `;` 8..9\n";
 
-// The bytes that a source has, the most that it gives in a call and the calls that fail; the room
-// of the output, the most that it takes in a call and the calls that fail; the most that the sink
-// of lines takes in a call and the calls that fail; and the status, the output and the line that
-// are wanted.
+// A run: the bytes of the source; of each stream the most bytes of a call, and the calls that fail;
+// the room of the output; and the expected status, output and line on `err`.
 #[derive(Clone, Copy)]
 struct Row<'a> {
+    name: &'a str,
     input: &'a [u8],
     read: (usize, &'a [u64]),
-    write: (usize, usize, &'a [u64]),
-    tell: (usize, &'a [u64]),
+    write: (usize, &'a [u64]),
+    room: usize,
+    write_err: (usize, &'a [u64]),
     status: u8,
     out: &'a [u8],
     err: &'a [u8],
 }
 
 impl<'a> Row<'a> {
-    // A run on streams that give and take all at once, and never fail.
-    fn new(input: &'a [u8], status: u8, out: &'a [u8], err: &'a [u8]) -> Row<'a> {
+    // A run that reads and writes all at once, and never fails.
+    fn new(name: &'a str, input: &'a [u8], status: u8, out: &'a [u8], err: &'a [u8]) -> Row<'a> {
         Row {
+            name,
             input,
             read: (1000, &[]),
-            write: (1000, 1000, &[]),
-            tell: (1000, &[]),
+            write: (1000, &[]),
+            room: 1000,
+            write_err: (1000, &[]),
             status,
             out,
             err,
@@ -75,53 +81,76 @@ fn runs_without_words(rt: HostRuntime) -> Result<(), Fail> {
     let read_line = b"cannot read the input\n";
     let write_line = b"cannot write the output\n";
     let rows = [
-        // empty_text, select_one, lone_command, commands_in_statement, semicolon_in_group, and a
-        // mark before a semicolon
-        Row::new(b"", 0, b"0 N source file 0..0\n", b""),
-        Row::new(b"select 1;", 0, SELECT_ONE, b""),
-        Row::new(b" ;\n\\dt\n", 0, lone_command, b""),
-        Row::new(b"select 1 \\echo x \\gset x_", 0, commands, b""),
-        Row::new(b"foo (a;b", 0, semicolon_in_group, b""),
-        Row::new(b"\xef\xbb\xbf;", 0, mark_and_semicolon, b""),
-        // edge_faults: no text, a source and a sink that fail, too little room, a byte at a time
-        Row::new(b"\x73\xff", 4, b"", b"not UTF-8 at 1\n"),
+        Row::new("empty_text", b"", 0, b"0 N source file 0..0\n", b""),
+        Row::new("select_one", b"select 1;", 0, SELECT_ONE, b""),
+        Row::new("lone_command", b" ;\n\\dt\n", 0, lone_command, b""),
+        Row::new(
+            "commands_in_statement",
+            b"select 1 \\echo x \\gset x_",
+            0,
+            commands,
+            b"",
+        ),
+        Row::new(
+            "semicolon_in_group",
+            b"foo (a;b",
+            0,
+            semicolon_in_group,
+            b"",
+        ),
+        Row::new(
+            "mark_and_semicolon",
+            b"\xef\xbb\xbf;",
+            0,
+            mark_and_semicolon,
+            b"",
+        ),
+        Row::new("not_utf8", b"\x73\xff", 4, b"", b"not UTF-8 at 1\n"),
         Row {
             read: (4, &[2]),
-            ..Row::new(b"select 1;", 3, b"", read_line)
+            ..Row::new("second_read_fails", b"select 1;", 3, b"", read_line)
         },
         Row {
-            write: (1000, 1000, &[1]),
-            ..Row::new(b"select 1;", 7, b"", write_line)
+            write: (1000, &[1]),
+            ..Row::new("first_write_fails", b"select 1;", 7, b"", write_line)
         },
         Row {
-            write: (20, 1000, &[]),
-            ..Row::new(b"select 1;", 7, b"0 N source file 0..9", write_line)
+            room: 20,
+            ..Row::new(
+                "little_room",
+                b"select 1;",
+                7,
+                b"0 N source file 0..9",
+                write_line,
+            )
         },
         Row {
             read: (1, &[]),
-            write: (1000, 1, &[]),
-            ..Row::new(b"select 1;", 0, SELECT_ONE, b"")
+            write: (1, &[]),
+            ..Row::new("a_byte_at_a_time", b"select 1;", 0, SELECT_ONE, b"")
         },
         Row {
-            tell: (1, &[3]),
-            ..Row::new(b"\xff", 4, b"", b"no")
+            write_err: (1, &[3]),
+            ..Row::new("error_line_cut_off", b"\xff", 4, b"", b"no")
         },
     ];
-    for (i, row) in rows.iter().enumerate() {
-        assert!(rt; row.read.0 > 0 && row.write.1 > 0 && row.tell.0 > 0);
+    for row in &rows {
+        let write_err_most = row.write_err.0;
+        assert!(rt; row.read.0 > 0 && row.write.0 > 0);
+        assert!(rt; write_err_most > 0);
         let mut source = MemorySource::new(rt.alloc(), row.input, row.read.0, row.read.1)?;
-        let mut out = MemorySink::new(rt.alloc(), row.write.0, row.write.1, row.write.2)?;
-        let mut err = MemorySink::new(rt.alloc(), 1000, row.tell.0, row.tell.1)?;
-        let shown = run(rt.alloc(), &[], &mut source, &mut out, &mut err);
-        assert_eq!(rt; shown.status, row.status, "row {i}");
-        assert_eq!(rt; out.taken(), row.out, "row {i}");
-        assert_eq!(rt; err.taken(), row.err, "row {i}");
+        let mut out = MemorySink::new(rt.alloc(), row.room, row.write.0, row.write.1)?;
+        let mut err = MemorySink::new(rt.alloc(), 1000, write_err_most, row.write_err.1)?;
+        let result = run(rt.alloc(), &[], &mut source, &mut out, &mut err);
+        assert_eq!(rt; result.status, row.status, "{}", row.name);
+        assert_eq!(rt; out.taken(), row.out, "{}", row.name);
+        assert_eq!(rt; err.taken(), row.err, "{}", row.name);
     }
     Ok(())
 }
 
-// Four calls read the input, and three write the report: a fault at each of them is answered, and
-// at none after.
+// Four calls read the input, and three write the report. A fault at one of them ends the run, and
+// one after them does not come.
 #[test]
 fn a_fault_at_each_call(rt: HostRuntime) -> Result<(), Fail> {
     for (failing, read_status, write_status, written) in [
@@ -135,14 +164,14 @@ fn a_fault_at_each_call(rt: HostRuntime) -> Result<(), Fail> {
         let mut err = MemorySink::new(rt.alloc(), 1000, 1000, &[])?;
         let mut source = MemorySource::new(rt.alloc(), b"select 1;", 4, &calls)?;
         let mut out = MemorySink::new(rt.alloc(), 1000, 1000, &[])?;
-        let shown = run(rt.alloc(), &[], &mut source, &mut out, &mut err);
-        assert_eq!(rt; shown.status, read_status, "call {failing}");
+        let result = run(rt.alloc(), &[], &mut source, &mut out, &mut err);
+        assert_eq!(rt; result.status, read_status, "call {failing}");
         assert_eq!(rt; out.taken().is_empty(), read_status != 0, "call {failing}");
         assert_eq!(rt; source.faults() == 1, read_status != 0, "call {failing}");
         let mut source = MemorySource::new(rt.alloc(), b"select 1;", 1000, &[])?;
         let mut out = MemorySink::new(rt.alloc(), 1000, 50, &calls)?;
-        let shown = run(rt.alloc(), &[], &mut source, &mut out, &mut err);
-        assert_eq!(rt; shown.status, write_status, "call {failing}");
+        let result = run(rt.alloc(), &[], &mut source, &mut out, &mut err);
+        assert_eq!(rt; result.status, write_status, "call {failing}");
         assert_eq!(rt; out.taken().len(), written, "call {failing}");
         assert_eq!(rt; out.faults() == 1, write_status != 0, "call {failing}");
     }
@@ -156,8 +185,8 @@ fn any_word_is_bad(rt: HostRuntime) -> Result<(), Fail> {
     let mut source = MemorySource::new(rt.alloc(), b"select 1;", 1000, &[])?;
     let mut out = MemorySink::new(rt.alloc(), 1000, 1000, &[])?;
     let mut err = MemorySink::new(rt.alloc(), 1000, 1000, &[])?;
-    let shown = run(rt.alloc(), &words, &mut source, &mut out, &mut err);
-    assert_eq!(rt; shown.status, 2);
+    let result = run(rt.alloc(), &words, &mut source, &mut out, &mut err);
+    assert_eq!(rt; result.status, 2);
     assert_eq!(rt; source.left(), b"select 1;".as_slice());
     assert_eq!(rt; out.taken(), b"".as_slice());
     assert_eq!(rt; err.taken(), b"bad words\n".as_slice());
@@ -180,20 +209,115 @@ fn reads_up_to_a_limit(rt: HostRuntime) -> Result<(), Fail> {
 }
 
 #[test]
-fn runs_over_streams_of_std(rt: HostRuntime) -> Result<(), Fail> {
+fn writes_the_report_to_a_writer(rt: HostRuntime) -> Result<(), Fail> {
     let mut written = Vec::<u8>::new(rt.alloc());
     let mut source = ReadSource::new(b"select 1;".as_slice());
     let mut out = WriteSink::new(&mut written);
     let mut err = WriteSink::new(Vec::<u8>::new(rt.alloc()));
-    let shown = run(rt.alloc(), &[], &mut source, &mut out, &mut err);
-    assert_eq!(rt; shown.status, 0);
+    let result = run(rt.alloc(), &[], &mut source, &mut out, &mut err);
+    assert_eq!(rt; result.status, 0);
     assert_eq!(rt; written.as_slice(), SELECT_ONE);
+    Ok(())
+}
+
+// A reader whose second read fails, and whose third would be the end.
+#[derive(Drop)]
+struct FailsOnce(usize);
+
+impl io::Read for FailsOnce {
+    fn read(&mut self, buf: &mut [u8]) -> io::Result<usize> {
+        self.0 = self.0.saturating_add(1);
+        match self.0 {
+            1 => {
+                let count = buf.len().min(1);
+                buf[..count].copy_from_slice(&b";"[..count]);
+                Ok(count)
+            }
+            2 => Err(io::Error::from(io::ErrorKind::Interrupted)),
+            _ => Ok(0),
+        }
+    }
+}
+
+#[test]
+fn a_failed_read_is_not_tried_again(rt: HostRuntime) {
+    let mut source = ReadSource::new(FailsOnce(0));
+    let mut buffer = [0u8; 8];
+    assert_eq!(rt; source.read(&mut buffer), Ok(1));
+    assert_eq!(rt; source.read(&mut buffer), Err(Failed));
+    assert_eq!(rt; source.read(&mut buffer), Ok(0));
+    let mut source = ReadSource::new(FailsOnce(0));
+    let refused = read_all(rt.alloc(), &mut source, 10).err();
+    assert_eq!(rt; refused, Some(RunError::ReadFault));
+}
+
+// A writer that takes nothing, and one that cannot be flushed.
+#[derive(Drop)]
+struct TakesNothing;
+
+impl io::Write for TakesNothing {
+    fn write(&mut self, _: &[u8]) -> io::Result<usize> {
+        Ok(0)
+    }
+
+    fn flush(&mut self) -> io::Result<()> {
+        Ok(())
+    }
+}
+
+#[derive(Drop)]
+struct NeverFlushes;
+
+impl io::Write for NeverFlushes {
+    fn write(&mut self, piece: &[u8]) -> io::Result<usize> {
+        Ok(piece.len())
+    }
+
+    fn flush(&mut self) -> io::Result<()> {
+        Err(io::Error::from(io::ErrorKind::BrokenPipe))
+    }
+}
+
+#[test]
+fn each_write_is_flushed(rt: HostRuntime) -> Result<(), Fail> {
+    let mut writer = BufWriter::new(rt.alloc(), Vec::new(rt.alloc()))?;
+    let mut sink = WriteSink::new(&mut writer);
+    assert_eq!(rt; sink.write(b"ab"), Ok(2));
+    assert_eq!(rt; writer.get_ref().as_slice(), b"ab".as_slice());
+    assert_eq!(rt; WriteSink::new(NeverFlushes).write(b"ab"), Err(Failed));
+    Ok(())
+}
+
+#[test]
+fn a_write_that_takes_nothing_fails(rt: HostRuntime) {
+    assert_eq!(rt; WriteSink::new(TakesNothing).write(b"ab"), Err(Failed));
+    assert_eq!(rt; WriteSink::new(TakesNothing).write(b""), Ok(0));
+}
+
+#[test]
+fn status_over_streams(rt: HostRuntime) -> Result<(), Fail> {
+    let mut words = Vec::new(rt.alloc());
+    words.push(String::from_str(rt.alloc(), "select")?)?;
+    for (name, input, status) in [("text", b";", 0), ("not_utf8", b"\xff", 4)] {
+        let (out, err) = (Vec::<u8>::new(rt.alloc()), Vec::<u8>::new(rt.alloc()));
+        let ended = run_streams(rt.alloc(), &[], input.as_slice(), out, err);
+        assert_eq!(rt; ended, status, "{name}");
+    }
+    let (out, err) = (Vec::<u8>::new(rt.alloc()), Vec::<u8>::new(rt.alloc()));
+    let ended = run_streams(rt.alloc(), &words, b";".as_slice(), out, err);
+    assert_eq!(rt; ended, 2, "a_word");
+    let err = Vec::<u8>::new(rt.alloc());
+    let ended = run_streams(rt.alloc(), &[], b";".as_slice(), NeverFlushes, err);
+    assert_eq!(rt; ended, 7, "output_fails");
+    let (out, err) = (Vec::<u8>::new(rt.alloc()), Vec::<u8>::new(rt.alloc()));
+    let ended = run_streams(rt.alloc(), &[], FailsOnce(0), out, err);
+    assert_eq!(rt; ended, 3, "input_fails");
     Ok(())
 }
 
 #[test]
 fn refusals_are_displayed_as_their_lines(rt: HostRuntime) -> Result<(), Fail> {
-    for (error, text) in [
+    for (error, expected) in [
         (RunError::BadWords, "bad words"),
         (RunError::ReadFault, "cannot read the input"),
         (RunError::NotUtf8 { at: 12 }, "not UTF-8 at 12"),
@@ -201,8 +325,8 @@ fn refusals_are_displayed_as_their_lines(rt: HostRuntime) -> Result<(), Fail> {
         (RunError::from(FrontError::OutOfMemory), "out of memory"),
         (RunError::WriteFault, "cannot write the output"),
     ] {
-        let shown = format!(in rt.alloc(); "{error}")?;
-        assert_eq!(rt; shown.as_str(), text);
+        let text = format!(in rt.alloc(); "{error}")?;
+        assert_eq!(rt; text.as_str(), expected);
     }
     Ok(())
 }

@@ -1,16 +1,14 @@
-//! Writes a text to a sink.
+//! Writing a text to a sink.
 ghost use Rattle.std.specs.Prelude.{OnOk};
-ghost use Rattle.std.specs.Io.KnownBytes.{Appends};
-ghost use Rattle.squawk_show.specs.Causes.{HasCause};
-ghost use Rattle.squawk_show.specs.Reading.{AppendsFront};
+ghost use Rattle.squawk_show.specs.Edge.{AppendsAll, AppendsPrefix, HasCause};
 
 use crate::{Failed, Sink};
 
-/// Writes a whole text, without memory. Where the sink fails, a front of the text was written.
+/// Writes a whole text, without taking memory. On `Failed` a prefix of the text was written.
 pub fn write_whole<K: Sink>(sink: &mut K, text: &[u8]) -> Result<(), Failed>
-    ensures ok { OnOk result (Appends (K.taken sink.old) (K.taken sink.new) text.now) }
-    ensures front { AppendsFront (K.taken sink.old) (K.taken sink.new) text.now }
-    ensures cause { HasCause (K.faults sink.old) (K.faults sink.new) result }
+    ensures ok { OnOk result (AppendsAll (K.view sink.old) (K.view sink.new) text.now) }
+    ensures prefix { AppendsPrefix (K.view sink.old) (K.view sink.new) text.now }
+    ensures cause { HasCause (K.view sink.old).faults (K.view sink.new).faults result }
 {
     let mut done = 0;
     while done < text.len() {

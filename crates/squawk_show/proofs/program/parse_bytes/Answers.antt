@@ -1,6 +1,6 @@
 use Rattle.std.proofs.Common.{ap, ◌∙◌, map, chars}
 use Rattle.squawk_lexer.specs.declared.token.Strings.TheVariants.{Standard}
-use Rattle.squawk_show.specs.Run.{tree_of, HasLeavesOf, HasChildrenOf}
+use Rattle.squawk_show.specs.Run.{tree_of, LeavesAreTokens, ChildrenAreStatements}
 use Rattle.squawk_lexer.specs.Cut.{tokens, token_ends}
 use Rattle.squawk_tree.specs.Children.{children, roles_of, root_child}
 use Rattle.squawk_tree.specs.Steps.{ranges_through}
@@ -10,7 +10,7 @@ use Rattle.squawk_show.proofs.program.parse_bytes.Goals as goal
 
 pub
     returns-in_ok-parse_source-in-Ok-clause-parsed : goal.returns-in_ok-parse_source-in-Ok-clause-parsed
-unfolding tree_of HasLeavesOf HasChildrenOf
+unfolding tree_of LeavesAreTokens ChildrenAreStatements
 returns-in_ok-parse_source-in-Ok-clause-parsed c = record {
   text = record { within = c.requires; valid = c.in-Ok.ensures.cases.1 };
   parsed = c.in_ok-parse_source-in-Ok.ensures.tree

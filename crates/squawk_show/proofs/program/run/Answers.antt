@@ -1,22 +1,41 @@
-use Rattle.squawk_show.proofs.RefusalLemmas.{no_text-status, text-status, all-valid, all-parsed}
-use Rattle.squawk_show.specs.Run.{HasLeavesOf, HasChildrenOf}
+use Rattle.std.proofs.Common.{ap, ◌∙◌}
+use Rattle.squawk_show.proofs.RefusalLemmas.{text_status, invalid_status, over_status, invalid_no_tree, over_no_tree, on_input}
+use Rattle.squawk_show.specs.Command.{command_of}
+use Rattle.squawk_show.specs.Run.{status_of, LeavesAreTokens, ChildrenAreStatements}
 use Rattle.squawk_show.proofs.program.run.Goals as goal
 
-pub returns-in-Ok-clause-no_text : goal.returns-in-Ok-clause-no_text
-returns-in-Ok-clause-no_text g c = let t = c.in-Ok.ensures.tree in all-valid _ t.0 _ _ t.1 t.2.text
-
 pub returns-in-Ok-clause-leaves : goal.returns-in-Ok-clause-leaves
-returns-in-Ok-clause-leaves g c = let t = c.in-Ok.ensures.tree in
-    all-parsed _ t.0 (λ text. HasLeavesOf text c.in-Ok.parse) t.1 t.2.leaves_of
+returns-in-Ok-clause-leaves g c = let t = c.in-Ok.ensures.ends.tree in
+    on_input (λ text. LeavesAreTokens text c.in-Ok.parse) (command_of c.args.words.now)
+    (g.S.Source.view c.args.source.now) t.0 t.1 t.2.leaves_of
 
 pub returns-in-Ok-clause-children : goal.returns-in-Ok-clause-children
-returns-in-Ok-clause-children g c = let t = c.in-Ok.ensures.tree in
-    all-parsed _ t.0 (λ text. HasChildrenOf text c.in-Ok.parse) t.1 t.2.children_of
+returns-in-Ok-clause-children g c = let t = c.in-Ok.ensures.ends.tree in
+    on_input (λ text. ChildrenAreStatements text c.in-Ok.parse) (command_of c.args.words.now)
+    (g.S.Source.view c.args.source.now) t.0 t.1 t.2.children_of
+
+pub returns-in-Ok-clause-invalid : goal.returns-in-Ok-clause-invalid
+returns-in-Ok-clause-invalid g c = λ input calm.
+    absurd (invalid_no_tree (command_of c.args.words.now)
+    (g.S.Source.view c.args.source.now) c.in-Ok.parse c.in-Ok.ensures.ends.tree input)
+
+pub returns-in-Ok-clause-over_limit : goal.returns-in-Ok-clause-over_limit
+returns-in-Ok-clause-over_limit g c = λ input calm.
+    absurd (over_no_tree (command_of c.args.words.now)
+    (g.S.Source.view c.args.source.now) c.in-Ok.parse c.in-Ok.ensures.ends.tree input)
+
+pub returns-in-Err-clause-taken : goal.returns-in-Err-clause-taken
+returns-in-Err-clause-taken g c = λ other.
+    c.in-Err.ensures.taken (λ same. other (c.status.ensures ∙ ap status_of same))
 
 pub returns-in-Err-clause-complete : goal.returns-in-Err-clause-complete
 returns-in-Err-clause-complete g c =
-    rw c.status.ensures (text-status _ _ _ _ _ _ c.in-Err.error c.in-Err.ensures.refused)
+    rw c.status.ensures (text_status _ c.in-Err.error c.in-Err.ensures.ends.refusals)
 
-pub returns-in-Err-clause-no_text : goal.returns-in-Err-clause-no_text
-returns-in-Err-clause-no_text g c =
-    rw c.status.ensures (no_text-status _ _ _ _ _ _ c.in-Err.error c.in-Err.ensures.refused)
+pub returns-in-Err-clause-invalid : goal.returns-in-Err-clause-invalid
+returns-in-Err-clause-invalid g c =
+    rw c.status.ensures (invalid_status _ c.in-Err.error c.in-Err.ensures.ends.refusals)
+
+pub returns-in-Err-clause-over_limit : goal.returns-in-Err-clause-over_limit
+returns-in-Err-clause-over_limit g c =
+    rw c.status.ensures (over_status _ c.in-Err.error c.in-Err.ensures.ends.refusals)

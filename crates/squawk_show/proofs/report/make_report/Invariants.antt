@@ -1,10 +1,10 @@
 use Rattle.std.proofs.Common.{◌≡◌, ◌++◌, take}
 use Rattle.std.specs.Prelude.{flat_map}
-use Rattle.squawk_show.specs.Report.{step_lines, error_line}
+use Rattle.squawk_show.specs.Report.{step_lines, parse_error_line}
 use Rattle.squawk_tree.specs.Ranges.{ranges}
 use Rattle.squawk_show.proofs.report.make_report.Given as goal
 
 -- the lines of the steps, and then those of the errors so far
 abbrev pub invariant-loop-error : goal.invariant-loop-error
 invariant-loop-error l = l.out.items ≡ step_lines 0 l.parse.steps (ranges l.parse.steps)
-    ++ flat_map error_line (take l.error-index l.error-items)
+    ++ flat_map parse_error_line (take l.error-index l.error-items)
