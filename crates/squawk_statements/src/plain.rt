@@ -7,7 +7,7 @@ ghost use Rattle.squawk_statements.specs.Plain.{node_of, exits, kind_steps, grou
 ghost use Rattle.squawk_statements.specs.declared.division.Division.TheVariants.{Flat};
 
 use crate::division::{Division, is_end};
-use crate::first::first_rest;
+use crate::first::first_extent;
 use crate::node::statement_node;
 use squawk_events::{FrontError, Grammar, Input, Output};
 use squawk_kinds::SyntaxKind;
@@ -138,7 +138,7 @@ fn put_plain(
     output.enter(SyntaxKind::SOURCE_FILE)?;
     let mut at = 0;
     while at < kinds.len() {
-        let count = first_rest(division, &kinds[at..]).more + 1;
+        let count = first_extent(division, &kinds[at..]).tokens;
         put_child(output, division, &kinds[at..at + count])?;
         at += count;
     }
