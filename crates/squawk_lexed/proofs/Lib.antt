@@ -4,3 +4,5 @@ pub mod FrontLemmas
 pub mod KeptLemmas
 pub mod WovenLemmas
 pub mod PartLemmas
+mod PlacedLemmas
+mod GivenLemmas

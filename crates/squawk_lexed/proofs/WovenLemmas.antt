@@ -58,10 +58,10 @@ front_of_rest old mid now w at ts x rest k within read so_far le front =
     let last = all_out (k + 1) rest (omega arith) in
     front_on old mid now _ _ w (rw is at so_far) le (rw last at front)
 
-kept_behind : (ts : List LexedToken) → kinds_without_trivia (after_leading_trivia ts)
+pub kinds_after_leading_trivia : (ts : List LexedToken) → kinds_without_trivia (after_leading_trivia ts)
     ≡ kinds_without_trivia ts
-kept_behind [] = refl
-kept_behind (t ∷ ts) = by (is_trivia_kind t.kind) refl (kept_behind ts)
+kinds_after_leading_trivia [] = refl
+kinds_after_leading_trivia (t ∷ ts) = by (is_trivia_kind t.kind) refl (kinds_after_leading_trivia ts)
   where
     by : (b : Bool) → is_trivia_kind t.kind ≡ b
         → kinds_without_trivia (after_leading_trivia ts) ≡ kinds_without_trivia ts
@@ -92,7 +92,7 @@ kept_first (t ∷ ts) kind kinds h = by (is_trivia_kind t.kind) h (kept_first ts
 pub served_of : (ts : List LexedToken) (xs : List Step)
     → begins_with (kinds_without_trivia ts) (token_kinds xs) ≡ true → have_tokens_for ts xs ≡ true
 served_of ts [] h = refl
-served_of ts (Enter kind ∷ xs) h = served_of (after_leading_trivia ts) xs (rw (kept_behind ts) h)
+served_of ts (Enter kind ∷ xs) h = served_of (after_leading_trivia ts) xs (rw (kinds_after_leading_trivia ts) h)
 served_of ts (Token kind ∷ xs) h =
     let first = kept_first ts kind (token_kinds xs) h in
     rw first.0 (served_of (drop 1 (after_leading_trivia ts)) xs first.1)

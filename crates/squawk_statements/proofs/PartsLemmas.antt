@@ -1,4 +1,4 @@
--- The parts of a list: the first child's, and then those of what is left.
+-- The parts of a list are its first child and the parts of the rest.
 use Rattle.std.proofs.Common.{◌≡◌, ℕ, zero, suc, ◌+◌, ◌-◌, append_assoc, ◌≤◌, ◌<◌, List, [], ◌∷◌, ◌++◌, length, take, drop, map, ap, refl, sym, ◌∙◌, arith}
 use Rattle.std.proofs.lemmas.List.{length-drop, take_rest, drop-drop}
 use Rattle.squawk_kinds.specs.Role.{Role}
@@ -9,7 +9,7 @@ use Rattle.squawk_statements.specs.Children.{parts_from, parts, first_child, fir
 use Rattle.squawk_statements.specs.PlainIsLawful.{first_child_some, suc_minus_one}
 use Rattle.squawk_statements.specs.declared.division.Division.{Division}
 
--- what is inside a child is passed over
+-- the parts after those elements that belong to an earlier child
 pub parts_from_skip : {A : Type 0} (role_of : A → Role) (n : ℕ) (d : Division) (xs : List A)
     → parts_from role_of n d xs ≡ parts_from role_of 0 d (drop n xs)
 parts_from_skip role_of zero d xs = refl

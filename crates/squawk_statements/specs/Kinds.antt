@@ -1,4 +1,4 @@
--- Kinds as the division into statements sees them.
+-- The roles of kinds.
 use Rattle.std.specs.Prelude.{◌≡◌, ℕ, ◌==◌, ◌||◌, Bool, true, false, refl, if◌then◌else◌}
 use Rattle.squawk_events.specs.Kinds.{is_trivia_kind}
 use Rattle.squawk_kinds.specs.declared.numbers.TheConstants.Number as kind

@@ -5,18 +5,18 @@ ghost use Rattle.squawk_statements.specs.First.{first_shape, child_node};
 ghost use Rattle.squawk_kinds.specs.Role.{role};
 ghost use Rattle.squawk_statements.specs.declared.division.Division.TheVariants.{Flat};
 
-use crate::division::{Division, is_end, is_single_token, is_trivia, next_groups};
+use crate::division::{Division, ends_statement, is_single_token, is_trivia, open_groups_after};
 use crate::node::statement_node;
 use squawk_kinds::SyntaxKind;
 
-/// A child of the root: its number of tokens, its node, and whether it is closed.
-///
-/// A child without a node is one trivia token by itself. Only a statement that nothing ends is not
-/// closed.
+/// The shape of a child of the root.
 #[derive(Clone, Copy, Debug, PartialEq, Eq)]
 pub struct ChildShape {
+    /// The number of its tokens, trivia inside it included.
     pub tokens: usize,
+    /// The kind of its node; `None` for a leaf, which is one trivia token.
     pub node: Option<SyntaxKind>,
+    /// `false` for a statement that no token ends, which later tokens may extend.
     pub closed: bool,
 }
 
@@ -38,13 +38,13 @@ fn statement_extent(division: Division, kinds: &[SyntaxKind]) -> Extent
     let mut trimmed = 0;
     for i in 0..kinds.len() {
         let kind = kinds[i];
-        if is_end(division, groups, kind) {
+        if ends_statement(division, groups, kind) {
             return Extent {
                 tokens: i + 1,
                 closed: true,
             };
         }
-        groups = next_groups(groups, kind);
+        groups = open_groups_after(groups, kind);
         if !is_trivia(kind) {
             trimmed = i + 1;
         }
@@ -73,7 +73,7 @@ pub(crate) fn first_extent(division: Division, kinds: &[SyntaxKind]) -> Extent
     statement_extent(division, kinds)
 }
 
-/// The node of a child of these kinds; `None` where its one kind is trivia.
+// The node of a child of these kinds; `None` for a trivia token.
 #[tactic(auto, unfolding(squawk_kinds::specs::Role::role))]
 fn child_node(kinds: &[SyntaxKind]) -> Option<SyntaxKind>
     requires { 0 < length kinds.now }
@@ -90,7 +90,7 @@ fn child_node(kinds: &[SyntaxKind]) -> Option<SyntaxKind>
     }
 }
 
-/// The first child.
+// The first child.
 fn shape_of(kinds: &[SyntaxKind], division: Division) -> ChildShape
     requires { 0 < length kinds.now }
     ensures shape { result ≡ first_shape division kinds.now }
@@ -105,9 +105,10 @@ fn shape_of(kinds: &[SyntaxKind], division: Division) -> ChildShape
     }
 }
 
-/// The first child of the root of a text of exactly these kinds, trivia among them.
+/// Returns the first child of the root of a text whose tokens have exactly these kinds, trivia
+/// included.
 ///
-/// Where it is closed, it is the first child of every longer list too that begins with these kinds.
+/// A closed child is also the first child of every longer list that begins with these kinds.
 pub fn first_child_in(kinds: &[SyntaxKind], division: Division) -> ChildShape
     requires { 0 < length kinds.now }
     ensures shape { result ≡ first_shape division kinds.now }
@@ -119,7 +120,7 @@ pub fn first_child_in(kinds: &[SyntaxKind], division: Division) -> ChildShape
     shape_of(kinds, division)
 }
 
-/// The first child of the root, where each semicolon ends a statement.
+/// `first_child_in` where every semicolon ends a statement.
 pub fn first_child(kinds: &[SyntaxKind]) -> ChildShape
     requires { 0 < length kinds.now }
     ensures shape { result ≡ first_shape Flat kinds.now }

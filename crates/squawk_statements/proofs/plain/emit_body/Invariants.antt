@@ -1,7 +1,7 @@
 use Rattle.std.proofs.Common.{◌≡◌, ◌≤◌, ◌+◌, ◌++◌, drop}
 use Rattle.squawk_events.specs.Depth.{depth_of}
 use Rattle.squawk_statements.specs.Plain.{body_steps}
-use Rattle.squawk_statements.proofs.plain.put_core.Given as goal
+use Rattle.squawk_statements.proofs.plain.emit_body.Given as goal
 
 abbrev pub invariant-loop-i : goal.invariant-loop-i
 invariant-loop-i l = record {

@@ -1,7 +1,7 @@
 use Rattle.std.proofs.Common.{◌≡◌, ◌+◌, ◌++◌}
 use Rattle.squawk_events.specs.Depth.{depth_of}
 use Rattle.squawk_statements.specs.Plain.{exits}
-use Rattle.squawk_statements.proofs.plain.close_groups.Given as goal
+use Rattle.squawk_statements.proofs.plain.emit_exits.Given as goal
 
 abbrev pub invariant-loop-left : goal.invariant-loop-left
 invariant-loop-left l = record {

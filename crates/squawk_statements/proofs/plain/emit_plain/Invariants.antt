@@ -3,7 +3,7 @@ use Rattle.squawk_events.specs.Depth.{depth_of}
 use Rattle.squawk_kinds.specs.Role.{role}
 use Rattle.squawk_statements.specs.Children.{parts}
 use Rattle.squawk_statements.specs.Plain.{children_steps}
-use Rattle.squawk_statements.proofs.plain.put_plain.Given as goal
+use Rattle.squawk_statements.proofs.plain.emit_plain.Given as goal
 
 abbrev pub invariant-loop-at : goal.invariant-loop-at
 invariant-loop-at l = record {
