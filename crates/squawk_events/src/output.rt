@@ -1,4 +1,4 @@
-//! A list of steps that grows.
+//! The output of a grammar.
 ghost use Rattle.std.specs.Prelude.{◌≡◌, ◌+◌, ◌<◌, ◌≤◌, [], ◌∷◌, ◌++◌, OnOk, OnErr, IfErr};
 ghost use Rattle.squawk_events.specs.Depth.{depth_of};
 ghost use Rattle.squawk_events.specs.Refusals.{IsOutOfMemory};
@@ -9,7 +9,9 @@ use squawk_kinds::SyntaxKind;
 use std::alloc::Global;
 use std::marker::Model;
 
-/// The steps of a tree, as a grammar gives them.
+/// A growing list of steps: the output of a grammar.
+///
+/// The calls that append a step fail only where memory runs out, and then leave the list as it was.
 #[derive(Drop)]
 pub struct Output {
     steps: Vec<Step>,
@@ -30,7 +32,7 @@ impl Model for Output {
 
 #[tactic(auto, using(crate::proofs::DepthLemmas::enters_of_append, crate::proofs::DepthLemmas::exits_of_append, crate::proofs::DepthLemmas::enters_of_le))]
 impl Output {
-    /// No steps.
+    /// Returns an empty list. Takes no memory.
     pub fn new(alloc: Global) -> Output
         ensures { result ≡ [] }
     {
@@ -40,7 +42,7 @@ impl Output {
         }
     }
 
-    /// Enters a node.
+    /// Appends the start of a node of this kind.
     pub fn enter(&mut self, kind: SyntaxKind) -> Result<(), FrontError>
         ensures ok { OnOk result (self.new ≡ self.old ++ Enter kind ∷ []) }
         ensures depth { OnOk result (depth_of self.new ≡ depth_of self.old + 1) }
@@ -52,7 +54,7 @@ impl Output {
         Ok(())
     }
 
-    /// Takes a token.
+    /// Appends a token of this kind.
     pub fn token(&mut self, kind: SyntaxKind) -> Result<(), FrontError>
         ensures ok { OnOk result (self.new ≡ self.old ++ Token kind ∷ []) }
         ensures depth { OnOk result (depth_of self.new ≡ depth_of self.old) }
@@ -63,7 +65,7 @@ impl Output {
         Ok(())
     }
 
-    /// Leaves the node that was entered last.
+    /// Appends the end of the innermost open node. There has to be one.
     pub fn exit(&mut self) -> Result<(), FrontError>
         requires { 0 < depth_of self.old }
         ensures ok { OnOk result (self.new ≡ self.old ++ Exit ∷ []) }
@@ -76,7 +78,7 @@ impl Output {
         Ok(())
     }
 
-    /// Notes an error.
+    /// Appends an error by the number of its message, from 1 to 10.
     pub fn error(&mut self, number: u8) -> Result<(), FrontError>
         requires low { 1 ≤ number }
         requires high { number ≤ 10 }
@@ -89,7 +91,7 @@ impl Output {
         Ok(())
     }
 
-    /// How many nodes are open.
+    /// The number of open nodes.
     pub fn depth(&self) -> usize
         ensures { result ≡ depth_of self.now }
     {
