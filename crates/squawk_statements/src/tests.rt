@@ -1,4 +1,7 @@
 //! Openings, first children and steps of worked lists of kinds.
+ghost use Rattle.std.specs.Prelude.{IfOk, IsTrue};
+ghost use Rattle.squawk_events.specs.Kinds.{has_no_trivia};
+
 use super::*;
 use squawk_events::{EntryPoint, FrontError, Input, Step};
 use squawk_kinds::SyntaxKind;
@@ -221,7 +224,10 @@ fn first_children(rt: HostRuntime) {
 }
 
 // The input of `foo (a;b`, without its trivia.
-fn semicolon_in_group(alloc: Global) -> Result<Input, FrontError> {
+#[tactic(auto, unfolding(squawk_events::specs::Kinds::is_trivia_kind))]
+fn semicolon_in_group(alloc: Global) -> Result<Input, FrontError>
+    ensures { IfOk result (λ input. IsTrue (has_no_trivia input)) }
+{
     let mut input = Input::new(alloc);
     input.push(SyntaxKind::IDENT)?;
     input.push(SyntaxKind::L_PAREN)?;
