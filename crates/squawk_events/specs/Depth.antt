@@ -1,5 +1,5 @@
 -- The number of nodes that steps leave open.
-use Rattle.std.specs.Prelude.{ℕ, ◌+◌, ◌-◌, List, [], ◌∷◌}
+use Rattle.std.specs.Prelude.{◌≡◌, ℕ, ◌+◌, ◌-◌, List, [], ◌∷◌}
 use Rattle.squawk_events.specs.declared.steps.Step.{Step}
 use Rattle.squawk_events.specs.declared.steps.Step.TheVariants.{Enter, Token, Exit, Error}
 
@@ -22,3 +22,7 @@ exits_of (Error number ∷ xs) = exits_of xs
 -- the Enter steps less the Exit steps, of steps in which no node ends before it starts
 abbrev pub depth_of : List Step → ℕ
 depth_of steps = enters_of steps - exits_of steps
+
+-- the depth of steps; no more nodes end than start
+abbrev pub IsDepth : ℕ → List Step → Type 0
+IsDepth depth steps = (depth + exits_of steps ≡ enters_of steps) × (depth ≡ depth_of steps)

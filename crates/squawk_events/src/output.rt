@@ -19,15 +19,15 @@ pub struct Output {
 }
 
 impl Model for Output {
-    ghost use Rattle.std.specs.Prelude.{◌≡◌, ◌+◌, List};
+    ghost use Rattle.std.specs.Prelude.{List};
     ghost use Rattle.squawk_events.specs.declared.steps.Step.{Step};
-    ghost use Rattle.squawk_events.specs.Depth.{depth_of, enters_of, exits_of};
+    ghost use Rattle.squawk_events.specs.Depth.{IsDepth};
 
     ghost Value = { List Step };
 
     ghost view = { λ o. o.steps.items };
 
-    ghost invariant = { λ o. (o.depth + exits_of o.steps.items ≡ enters_of o.steps.items) × (o.depth ≡ depth_of o.steps.items) };
+    ghost invariant = { λ o. IsDepth o.depth o.steps.items };
 }
 
 #[tactic(auto, using(crate::proofs::DepthLemmas::enters_of_append, crate::proofs::DepthLemmas::exits_of_append, crate::proofs::DepthLemmas::enters_of_le))]

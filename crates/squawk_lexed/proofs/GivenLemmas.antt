@@ -1,4 +1,4 @@
--- The tokens that a weave gives out.
+-- The tokens that a weave emits, and those that are left.
 use Rattle.std.proofs.Common.{◌≡◌, ℕ, zero, suc, ◌+◌, ◌==◌, ◌&&◌, Bool, true, false, cond, List, [], ◌∷◌, ◌++◌, drop, append_assoc, refl, ap, sym, ◌∙◌, arith}
 use Rattle.std.proofs.lemmas.Bool.{eqb-true}
 use Rattle.squawk_events.specs.Kinds.{is_trivia_kind}
@@ -13,7 +13,7 @@ use Rattle.squawk_lexed.specs.Weave.{kinds_without_trivia, begins_with, leading_
 use Rattle.squawk_lexed.specs.WeaveLaws.{token_steps_of, token_steps, begins_with_trivia, IsWeave}
 use Rattle.squawk_lexed.proofs.KeptLemmas.{has_no_trivia_kept}
 use Rattle.squawk_lexed.proofs.PlacedLemmas.{prefix_no_trivia, steps_kept_from, trivia_in, error_in, none_leads, split}
-use Rattle.squawk_lexed.proofs.WovenLemmas.{kinds_after_leading_trivia}
+use Rattle.squawk_lexed.proofs.WeaveLemmas.{kinds_after_leading_trivia}
 
 token_steps_append : (at : ℕ) (ts us : List LexedToken)
     → token_steps at (ts ++ us) ≡ token_steps at ts ++ token_steps (at + total_len ts) us
@@ -31,7 +31,7 @@ token_steps_of_append (out.Token kind start end ∷ xs) ys =
 token_steps_of_append (out.Exit ∷ xs) ys = token_steps_of_append xs ys
 token_steps_of_append (out.Error number at ∷ xs) ys = token_steps_of_append xs ys
 
--- tokens given out from an offset on, up to another, so that others are left
+-- some steps emit these tokens, from one offset up to another, and leave the others
 record Gives (at : ℕ) (ts : List LexedToken) (xs : List StrStep) (end : ℕ)
     (left given : List LexedToken) : Type 0 where
   pub whole : ts ≡ given ++ left
@@ -80,7 +80,7 @@ gives_lead at (t ∷ ts) = by (is_trivia_kind t.kind) (gives_lead (at + t.len) t
     }
     by false h = record { whole = refl; steps = refl; reaches = omega arith }
 
--- a step that gives no token
+-- steps without a token
 gives_none : (at : ℕ) (ts : List LexedToken) (xs : List StrStep) → token_steps_of xs ≡ []
     → Gives at ts xs at ts []
 gives_none at ts xs none = record { whole = refl; steps = none; reaches = omega arith }
@@ -94,14 +94,16 @@ gives_next : (at kind : ℕ) (ts : List LexedToken) (kinds : List ℕ)
 gives_next at kind [] kinds none h = absurd (cc)
 gives_next at kind (t ∷ ts) kinds none h =
     let begins : (t.kind == kind && begins_with (kinds_without_trivia ts) kinds) ≡ true =
-        rw none at h in
+    rw none at h in
     let same = eqb-true t.kind kind
-        (split (t.kind == kind) (begins_with (kinds_without_trivia ts) kinds) begins).0 in
-    (t ∷ [], record {
-      whole = refl;
-      steps = ap (λ k. out.Token k at (at + t.len) ∷ []) (sym same);
-      reaches = omega arith;
-    })
+    (split (t.kind == kind) (begins_with (kinds_without_trivia ts) kinds) begins).0 in (
+      t ∷ [],
+      record {
+        whole = refl;
+        steps = ap (λ k. out.Token k at (at + t.len) ∷ []) (sym same);
+        reaches = omega arith;
+      },
+    )
 
 -- what is left after a token of the step's kind begins with the kinds that are left
 begins_after : (ts : List LexedToken) (kind : ℕ) (kinds : List ℕ)
@@ -111,10 +113,10 @@ begins_after : (ts : List LexedToken) (kind : ℕ) (kinds : List ℕ)
 begins_after [] kind kinds none h = absurd (cc)
 begins_after (t ∷ ts) kind kinds none h =
     let begins : (t.kind == kind && begins_with (kinds_without_trivia ts) kinds) ≡ true =
-        rw none at h in
+    rw none at h in
     (split (t.kind == kind) (begins_with (kinds_without_trivia ts) kinds) begins).1
 
--- the tokens that a weave gives out, with those that are left, are all
+-- the tokens that a weave emits, with those that are left, are all
 given_from : (at : ℕ) (ts : List LexedToken) (xs : List Step)
     → begins_with (kinds_without_trivia ts) (token_kinds xs) ≡ true
     → (g : List LexedToken) × (end : ℕ) × Gives at ts (weave_from at ts xs) end
@@ -124,45 +126,57 @@ given_from at ts (Enter kind ∷ xs) h =
     let mid = leading_trivia_end at ts in
     let left = after_leading_trivia ts in
     let rest = given_from mid left xs (ap (λ ks. begins_with ks (token_kinds xs)) (kinds_after_leading_trivia ts)
-        ∙ h) in
-    ((lead ts ++ []) ++ rest.0, rest.1,
-    gives_then at mid rest.1 ts left (remaining_from left xs) (lead ts ++ []) rest.0
-    (leading_trivia at ts ++ out.Enter kind ∷ []) (weave_from mid left xs)
-    (gives_then at mid mid ts left left (lead ts) [] (leading_trivia at ts) (out.Enter kind ∷ [])
-    (gives_lead at ts) (gives_none mid left (out.Enter kind ∷ []) refl)) rest.2)
+    ∙ h) in (
+      (lead ts ++ []) ++ rest.0,
+      rest.1,
+      gives_then at mid rest.1 ts left (remaining_from left xs) (lead ts ++ []) rest.0
+          (leading_trivia at ts ++ out.Enter kind ∷ []) (weave_from mid left xs)
+          (gives_then at mid mid ts left left (lead ts) [] (leading_trivia at ts) (out.Enter kind ∷ [])
+          (gives_lead at ts) (gives_none mid left (out.Enter kind ∷ []) refl)) rest.2,
+    )
 given_from at ts (Token kind ∷ xs) h =
     let mid = leading_trivia_end at ts in
     let left = after_leading_trivia ts in
     let here : begins_with (kinds_without_trivia left) (kind ∷ token_kinds xs) ≡ true =
-        ap (λ ks. begins_with ks (kind ∷ token_kinds xs)) (kinds_after_leading_trivia ts) ∙ h in
+    ap (λ ks. begins_with ks (kind ∷ token_kinds xs)) (kinds_after_leading_trivia ts) ∙ h in
     let next = gives_next mid kind left (token_kinds xs) (none_leads ts) here in
     let end = mid + next_len left in
     let rest = given_from end (drop 1 left) xs
-        (begins_after left kind (token_kinds xs) (none_leads ts) here) in
-    ((lead ts ++ next.0) ++ rest.0, rest.1,
-    gives_then at end rest.1 ts (drop 1 left) (remaining_from (drop 1 left) xs)
-    (lead ts ++ next.0) rest.0
-    (leading_trivia at ts ++ out.Token kind mid end ∷ []) (weave_from end (drop 1 left) xs)
-    (gives_then at mid end ts left (drop 1 left) (lead ts) next.0 (leading_trivia at ts)
-    (out.Token kind mid end ∷ []) (gives_lead at ts) next.1) rest.2)
+    (begins_after left kind (token_kinds xs) (none_leads ts) here) in (
+      (lead ts ++ next.0) ++ rest.0,
+      rest.1,
+      gives_then at end rest.1 ts (drop 1 left) (remaining_from (drop 1 left) xs)
+          (lead ts ++ next.0) rest.0
+          (leading_trivia at ts ++ out.Token kind mid end ∷ []) (weave_from end (drop 1 left) xs)
+          (gives_then at mid end ts left (drop 1 left) (lead ts) next.0 (leading_trivia at ts)
+          (out.Token kind mid end ∷ []) (gives_lead at ts) next.1) rest.2,
+    )
 given_from at ts (Exit ∷ []) h =
     let mid = leading_trivia_end at ts in
-    let left = after_leading_trivia ts in
-    ((lead ts ++ []) ++ [], mid,
-    gives_then at mid mid ts left left (lead ts ++ []) []
-    (leading_trivia at ts ++ out.Exit ∷ []) []
-    (gives_then at mid mid ts left left (lead ts) [] (leading_trivia at ts) (out.Exit ∷ [])
-    (gives_lead at ts) (gives_none mid left (out.Exit ∷ []) refl))
-    (gives_none mid left [] refl))
+    let left = after_leading_trivia ts in (
+      (lead ts ++ []) ++ [],
+      mid,
+      gives_then at mid mid ts left left (lead ts ++ []) []
+          (leading_trivia at ts ++ out.Exit ∷ []) []
+          (gives_then at mid mid ts left left (lead ts) [] (leading_trivia at ts) (out.Exit ∷ [])
+          (gives_lead at ts) (gives_none mid left (out.Exit ∷ []) refl))
+          (gives_none mid left [] refl),
+    )
 given_from at ts (Exit ∷ x ∷ xs) h =
-    let rest = given_from at ts (x ∷ xs) h in
-    (rest.0, rest.1, gives_then at at rest.1 ts ts (remaining_from ts (x ∷ xs)) [] rest.0
-    (out.Exit ∷ []) (weave_from at ts (x ∷ xs)) (gives_none at ts (out.Exit ∷ []) refl) rest.2)
+    let rest = given_from at ts (x ∷ xs) h in (
+      rest.0,
+      rest.1,
+      gives_then at at rest.1 ts ts (remaining_from ts (x ∷ xs)) [] rest.0
+          (out.Exit ∷ []) (weave_from at ts (x ∷ xs)) (gives_none at ts (out.Exit ∷ []) refl) rest.2,
+    )
 given_from at ts (Error number ∷ xs) h =
-    let rest = given_from at ts xs h in
-    (rest.0, rest.1, gives_then at at rest.1 ts ts (remaining_from ts xs) [] rest.0
-    (out.Error number at ∷ []) (weave_from at ts xs)
-    (gives_none at ts (out.Error number at ∷ []) refl) rest.2)
+    let rest = given_from at ts xs h in (
+      rest.0,
+      rest.1,
+      gives_then at at rest.1 ts ts (remaining_from ts xs) [] rest.0
+          (out.Error number at ∷ []) (weave_from at ts xs)
+          (gives_none at ts (out.Error number at ∷ []) refl) rest.2,
+    )
 
 -- what is left by balanced steps begins with no trivia
 none_left : (d : ℕ) (ts : List LexedToken) (xs : List Step) → closes (suc d) xs ≡ true
@@ -189,7 +203,7 @@ weave_is ts (Exit ∷ xs) balanced h = absurd (cc)
 weave_is ts (Error number ∷ xs) balanced h = absurd (cc)
 weave_is ts (Enter kind ∷ xs) balanced h =
     let none = prefix_no_trivia (kinds_without_trivia ts) (token_kinds xs) h
-        (has_no_trivia_kept ts) in
+    (has_no_trivia_kept ts) in
     let given = given_from 0 ts xs h in
     record {
       steps_kept = ap (λ ys. Enter kind ∷ ys) (steps_kept_from 0 ts xs none);

@@ -34,7 +34,7 @@ prefix_no_trivia (k ∷ ks) (j ∷ js) h none =
     let a = split (k == j) (begins_with ks js) h in
     let b = split (not (is_trivia_kind k)) (has_no_trivia ks) none in
     let first : not (is_trivia_kind j) ≡ true =
-        ap (λ i. not (is_trivia_kind i)) (sym (eqb-true k j a.0)) ∙ b.0 in
+    ap (λ i. not (is_trivia_kind i)) (sym (eqb-true k j a.0)) ∙ b.0 in
     rw first (prefix_no_trivia ks js a.1 b.1)
 
 -- leading trivia adds no step
@@ -131,6 +131,7 @@ trivia_lead anchored at (t ∷ ts) ys ready takes h =
     anchor : (a : Bool) → (a || false) ≡ true → a ≡ true
     anchor true h = refl
     anchor false h = h
+
     by : (b : Bool) → (anchored || not b) ≡ true
         → TriviaPlaced true (leading_trivia (at + t.len) ts ++ ys)
         → TriviaPlaced anchored (cond b (out.Token t.kind at (at + t.len)
@@ -174,8 +175,10 @@ trivia_placed_from anchored at ts (Token kind ∷ xs) ready none =
     let end = leading_trivia_end at ts + next_len (after_leading_trivia ts) in
     trivia_after_lead anchored at ts (out.Token kind (leading_trivia_end at ts) end)
     (weave_from end (drop 1 (after_leading_trivia ts)) xs) ready refl
-    (λ a. (λ is. clash (is_trivia_kind kind) (not_true (is_trivia_kind kind) s.0) is,
-    trivia_placed_from true end (drop 1 (after_leading_trivia ts)) xs refl s.1))
+    (λ a. (
+      λ is. clash (is_trivia_kind kind) (not_true (is_trivia_kind kind) s.0) is,
+      trivia_placed_from true end (drop 1 (after_leading_trivia ts)) xs refl s.1,
+    ))
 trivia_placed_from anchored at ts (Exit ∷ []) ready none =
     trivia_after_lead anchored at ts out.Exit [] ready refl (λ a. tt)
 trivia_placed_from anchored at ts (Exit ∷ x ∷ xs) ready none =

@@ -1,4 +1,4 @@
--- What the weave of steps and trivia is, in words of its result.
+-- What a weave is, in words of its result.
 use Rattle.std.specs.Prelude.{◌≡◌, ℕ, ◌+◌, Bool, true, false, List, [], ◌∷◌, ◌++◌, if◌then◌else◌}
 use Rattle.squawk_events.specs.Kinds.{is_trivia_kind}
 use Rattle.squawk_events.specs.declared.steps.Step.{Step}
@@ -30,6 +30,7 @@ abbrev pub token_steps : ℕ → List LexedToken → List StrStep
 token_steps at [] = []
 token_steps at (t ∷ ts) = out.Token t.kind at (at + t.len) ∷ token_steps (at + t.len) ts
 
+-- whether the first token is trivia
 abbrev pub begins_with_trivia : List LexedToken → Bool
 begins_with_trivia [] = false
 begins_with_trivia (t ∷ ts) = is_trivia_kind t.kind

@@ -24,7 +24,11 @@ const LEAF_KINDS: &[(&str, &str, u16)] = &[
     ("UnicodeEscStr", "u&'a'", Number::UNICODE_ESC_STRING),
     ("EscStr", "e'a'", Number::ESC_STRING),
     ("PositionalParam", "$1", Number::POSITIONAL_PARAM),
-    ("PsqlCommand, ends the query", "\\g", Number::PSQL_TERMINATOR_TEXT),
+    (
+        "PsqlCommand, ends the query",
+        "\\g",
+        Number::PSQL_TERMINATOR_TEXT,
+    ),
     ("PsqlCommand, does not", "\\d", Number::PSQL_COMMAND_TEXT),
     ("Unknown", "\u{1}", Number::ERROR),
     ("Semi", ";", Number::SEMICOLON),
@@ -108,7 +112,10 @@ fn errors_of_texts(rt: HostRuntime) {
         }
     }
     let lexed = LexedStr::new(rt.alloc(), "0x").expect(&rt, "memory");
-    assert_eq!(rt; lexed.errors()[0].message(), "missing digits after base prefix");
+    assert_eq!(rt;
+        lexed.errors()[0].message(),
+        "missing digits after base prefix"
+    );
 }
 
 #[test]
@@ -177,7 +184,8 @@ fn backslash_in_a_string(rt: HostRuntime) {
     assert_eq!(rt; escaped.errors().len(), 1);
 }
 
-// The steps that were taken.
+// A sink that keeps the steps.
+#[derive(Drop)]
 struct Steps {
     steps: Vec<StrStep>,
 }
@@ -215,7 +223,11 @@ fn trivia_between_steps(rt: HostRuntime) {
     let mut sink = Steps {
         steps: Vec::new(rt.alloc()),
     };
-    assert!(rt; lexed.intersperse_trivia(&output, &mut sink).expect(&rt, "memory"));
+    assert!(rt;
+        lexed
+            .intersperse_trivia(&output, &mut sink)
+            .expect(&rt, "memory")
+    );
     let token = |kind, start, end| StrStep::Token { kind, start, end };
     let wanted = [
         StrStep::Enter {

@@ -2,7 +2,7 @@ use Rattle.std.proofs.Common.{◌≡◌, ◌≤◌, ◌+◌, ◌++◌, drop, len
 use Rattle.std.specs.Prelude.{IsTrue}
 use Rattle.squawk_lexed.specs.Weave.{weave_from, remaining_from, have_tokens_for}
 use Rattle.squawk_lexed.specs.LexedText.{total_len}
-use Rattle.squawk_lexed.proofs.weave.give_rest.Given as goal
+use Rattle.squawk_lexed.proofs.weave.emit_rest.Given as goal
 
 abbrev pub invariant-loop-k : goal.invariant-loop-k
 invariant-loop-k g l = record {
@@ -12,7 +12,7 @@ invariant-loop-k g l = record {
   more : length (g.K.StepSink.steps l.initial.sink) ≤ length (g.K.StepSink.steps l.sink);
   left : remaining_from (drop l.place.index l.lexed.tokens) (drop l.k l.rest)
       ≡ remaining_from l.lexed.tokens l.rest;
-  served : IsTrue (have_tokens_for (drop l.place.index l.lexed.tokens) (drop l.k l.rest));
+  enough : IsTrue (have_tokens_for (drop l.place.index l.lexed.tokens) (drop l.k l.rest));
   same_end : l.place.at + total_len (drop l.place.index l.lexed.tokens) ≡ total_len l.lexed.tokens;
   within : l.place.index ≤ length l.lexed.tokens;
   errors : g.K.StepSink.errors l.sink ≡ g.K.StepSink.errors l.initial.sink;

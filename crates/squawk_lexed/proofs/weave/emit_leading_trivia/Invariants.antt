@@ -1,7 +1,7 @@
 use Rattle.std.proofs.Common.{◌≡◌, ◌≤◌, ◌+◌, ◌-◌, ◌++◌, drop, length}
 use Rattle.squawk_lexed.specs.Weave.{leading_trivia, leading_trivia_end, after_leading_trivia}
 use Rattle.squawk_lexed.specs.LexedText.{total_len}
-use Rattle.squawk_lexed.proofs.weave.give_front.Given as goal
+use Rattle.squawk_lexed.proofs.weave.emit_leading_trivia.Given as goal
 
 abbrev pub invariant-loop-index : goal.invariant-loop-index
 invariant-loop-index g l = record {
