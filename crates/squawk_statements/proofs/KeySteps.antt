@@ -1,4 +1,4 @@
--- One more kind of the key.
+-- The key of a list of kinds, kind by kind.
 use Rattle.std.proofs.Common.{◌≡◌, ℕ, zero, suc, ◌+◌, ◌<◌, ◌≤◌, ◌==◌, Bool, true, false, cond, ◌&&◌, ◌||◌, nat_le, List, [], ◌∷◌, ◌++◌, length, take, drop, set, get_or, drop-cons, add-one, ap, refl, sym, ◌∙◌, append_assoc, arith, le_of_suc-le-suc}
 use Rattle.std.proofs.lemmas.Bool.{and_parts, leb-true}
 use Rattle.std.proofs.lemmas.List.{append-nil, take_all}
@@ -10,7 +10,7 @@ use Rattle.squawk_events.specs.Kinds.{is_trivia_kind}
 use Rattle.squawk_statements.specs.Opening.{Row, rows, other_rows, create_rows, alter_rows, drop_rows, is_prefix, is_modifier, longer, longest}
 use Rattle.squawk_statements.specs.Rows.{kinds_read, key_after, is_skipped_modifier, is_skipped}
 
--- a kind that is read
+-- a kind that is read comes first in what is read
 read_one : (past : Bool) (k : ℕ) (ks : List ℕ) → (past && is_trivia_kind k) ≡ false
     → kinds_read past (k ∷ ks) ≡ k ∷ kinds_read past ks
 read_one false k ks h = refl
@@ -20,7 +20,7 @@ read_none : (past : Bool) → kinds_read past [] ≡ []
 read_none true = refl
 read_none false = refl
 
--- a kind that is not
+-- a kind that is not read changes nothing
 read_past : (past : Bool) (k : ℕ) (ks : List ℕ) → (past && is_trivia_kind k) ≡ true
     → kinds_read past (k ∷ ks) ≡ kinds_read past ks
 read_past false k ks h = cc
@@ -56,7 +56,7 @@ skipped_modifier [] k ks h = cc
 skipped_modifier (c ∷ []) k ks h = left_out c k ks h
 skipped_modifier (c ∷ d ∷ so_far) k ks h = cc
 
--- a kind that is passed over
+-- a kind that the key leaves out
 pub skipped : (past : Bool) (so_far : List ℕ) (k : ℕ) (ks : List ℕ) → is_skipped past so_far k ≡ true
     → key_after so_far (kinds_read past (k ∷ ks)) ≡ key_after so_far (kinds_read past ks)
 skipped past so_far k ks h = by (past && is_trivia_kind k) refl
@@ -77,7 +77,7 @@ kept_on [] k ks h = refl
 kept_on (c ∷ []) k ks h = ap (λ xs. c ∷ xs) (kept_in c k ks h)
 kept_on (c ∷ d ∷ so_far) k ks h = ap (λ xs. c ∷ d ∷ xs) (sym (append_assoc so_far (k ∷ []) ks))
 
--- a kind that is one of the key
+-- a kind that the key keeps
 pub kept : (past : Bool) (so_far : List ℕ) (k : ℕ) (ks : List ℕ) → is_skipped past so_far k ≡ false
     → so_far ++ key_after so_far (kinds_read past (k ∷ ks))
     ≡ (so_far ++ k ∷ []) ++ key_after (so_far ++ k ∷ []) (kinds_read past ks)
@@ -99,7 +99,7 @@ same : (t : Bool) (xs : List ℕ) → cond t xs xs ≡ xs
 same true xs = refl
 same false xs = refl
 
--- behind the last kind
+-- after the last kind the key is whole
 pub none_left : (past : Bool) (so_far : List ℕ)
     → so_far ++ key_after so_far (kinds_read past []) ≡ so_far
 none_left past so_far = ap (λ xs. so_far ++ key_after so_far xs) (read_none past) ∙ by so_far
@@ -133,7 +133,7 @@ pub longest_four : (ks : List ℕ) → longest rows (take 4 ks) ≡ longest rows
 unfolding rows other_rows create_rows alter_rows drop_rows
 longest_four ks = longest_take 4 rows ks refl
 
--- the loop's end, and its early one
+-- the key at the end of the loop, and where it has four kinds
 pub key_end : (past : Bool) (so_far all : List ℕ) (whole : List ℕ) → length so_far ≤ 4 → all ≡ []
     → so_far ++ key_after so_far (kinds_read past all) ≡ whole → so_far ≡ take 4 whole
 key_end past so_far all whole le none h =
@@ -146,7 +146,7 @@ pub key_full : (so_far behind whole : List ℕ) → length so_far ≡ 4 → so_f
 key_full so_far behind whole size h =
     sym (take-append_seam so_far behind) ∙ ap (λ n. take n (so_far ++ behind)) size ∙ ap (take 4) h
 
--- one step of the loop, where the kind is passed over
+-- one step of the loop, where the key leaves out the kind
 pub key_step_skipped : (past : Bool) (kinds : List ℕ) (i k d : ℕ) (so_far whole : List ℕ)
     → i < length kinds → k ≡ get_or kinds i d → is_skipped past so_far k ≡ true
     → so_far ++ key_after so_far (kinds_read past (drop i kinds)) ≡ whole
@@ -157,7 +157,7 @@ key_step_skipped past kinds i k d so_far whole within is pass h =
     ap (λ xs. so_far ++ xs) (sym (skipped past so_far k (drop (i + 1) kinds) pass))
     ∙ ap (λ xs. so_far ++ key_after so_far (kinds_read past xs)) (sym here) ∙ h
 
--- and where it is kept
+-- and where the key keeps it
 pub key_step_kept : (past : Bool) (kinds : List ℕ) (i k d : ℕ) (buffer : List ℕ) (n : ℕ)
     (whole : List ℕ) → i < length kinds → k ≡ get_or kinds i d → n < length buffer
     → is_skipped past (take n buffer) k ≡ false

@@ -1,7 +1,7 @@
 //! The opening table: the kinds that a statement begins with, and its node.
 //!
-//! A row stands before each shorter row that is a prefix of it, so the first row that is a prefix of
-//! a statement's kinds is the longest.
+//! A row stands before each shorter row that is a prefix of it, so the first row that is a prefix
+//! of a statement's kinds is the longest.
 ghost use Rattle.std.specs.Prelude.{map};
 ghost use Rattle.squawk_statements.specs.Rows.{row_of, Decide};
 
