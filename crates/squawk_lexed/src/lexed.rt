@@ -1,22 +1,20 @@
-//! The lexed text, and its errors.
-ghost use Rattle.std.specs.Prelude.{◌≡◌, ◌^◌, ◌<◌, ◌≤◌, ◌+◌, ◌↔◌, [], ◌∷◌, ◌++◌, length, take, drop, slice_range, slice_index, slice_index_or, IfOk, OnOk, IfSome, IsErrOf, IfErr, IsTrue};
+//! The lexed text.
+ghost use Rattle.std.specs.Prelude.{◌≡◌, ◌^◌, ◌<◌, ◌≤◌, ◌+◌, ◌↔◌, [], ◌∷◌, ◌++◌, length, take, drop, slice_range, slice_index, slice_index_or, IfOk, OnOk, IsErrOf, IfErr, IsTrue};
 ghost use Rattle.std.specs.Str.{chars, IsCharBoundary};
 ghost use Rattle.squawk_kinds.specs.declared.numbers.TheConstants.Number.{EOF};
 ghost use Rattle.squawk_events.specs.Refusals.{IsOutOfMemory, MayRefuse};
 ghost use Rattle.squawk_events.specs.Kinds.{is_trivia_kind, has_no_trivia, without_trivia};
 ghost use Rattle.squawk_lexed.specs.Weave.{kinds_without_trivia};
-ghost use Rattle.squawk_events.specs.Message.{message_of};
 ghost use Rattle.squawk_lexer.specs.Flags.{IsCut, AreCut};
 ghost use Rattle.squawk_lexer.specs.declared.token.Strings.TheVariants.{Standard};
 ghost use Rattle.squawk_lexed.specs.Leaf.{leaf_kind};
 ghost use Rattle.squawk_lexed.specs.Faults.{faults};
-ghost use Rattle.squawk_lexed.specs.FaultLists.{list_of, both_faults, IsFaultIn};
 ghost use Rattle.squawk_lexed.specs.LexedText.{lexed_text, lexed_part, EndAtBoundaries, total_len, are_sound};
 ghost use Rattle.squawk_lexed.specs.Stored.{kinds_of, starts_of, errors_of, errors_at, faults_at};
 
-use crate::fault::{Fault, faults_of};
+use crate::error::{LexError, push_faults};
 use crate::kind::kind_of;
-use squawk_events::{FrontError, Input, message};
+use squawk_events::{FrontError, Input};
 use squawk_kinds::SyntaxKind;
 use squawk_lexer::laws::flags_lie_within;
 use squawk_lexer::{Strings, Token, tokenize_in};
@@ -26,94 +24,6 @@ use std::ops::Range;
 
 // The most bytes that a text may have.
 const LIMIT: usize = 4294967295;
-
-/// A lexical error: a fault of a token, with its range in the text.
-#[derive(Drop)]
-pub struct LexError {
-    start: u32,
-    end: u32,
-    number: u8,
-}
-
-impl Model for LexError {
-    ghost use Rattle.std.specs.Prelude.{◌≤◌};
-    ghost use Rattle.squawk_events.specs.declared.steps.ParseError.{ParseError};
-
-    ghost Value = { ParseError };
-
-    ghost view = { λ e. record { start = e.start; end = e.end; number = e.number } };
-
-    ghost invariant = { λ e. (1 ≤ e.number) × (e.number ≤ 9) × (e.start ≤ e.end) };
-}
-
-impl LexError {
-    /// Its range in bytes of the text.
-    pub fn range(&self) -> Range<usize>
-        ensures start { result.start ≡ self.now.start }
-        ensures end { result.end ≡ self.now.end }
-        ensures ordered { result.start ≤ result.end }
-    {
-        self.start as usize..self.end as usize
-    }
-
-    /// The number of its message, from 1 to 9.
-    pub fn number(&self) -> u8
-        ensures number { result ≡ self.now.number }
-        ensures from_one { 1 ≤ result }
-        ensures to_nine { result ≤ 9 }
-    {
-        self.number
-    }
-
-    /// Its message.
-    pub fn message(&self) -> &'static str
-        ensures { result.now ≡ message_of self.now.number }
-    {
-        message(self.number)
-    }
-}
-
-// The faults of a token, each of which lies in it.
-fn fault_pair(token: Token) -> (Option<Fault>, Option<Fault>)
-    requires cut { IsCut token }
-    ensures pair { both_faults result.0 result.1 ≡ faults token }
-    ensures first { IfSome result.0 (IsFaultIn token.len) }
-    ensures second { IfSome result.1 (IsFaultIn token.len) }
-{
-    let faults = faults_of(token);
-    (faults[0], faults[1])
-}
-
-// Appends the fault, if there is one, of a token that begins at byte `at`.
-fn push_fault(errors: &mut Vec<LexError>, at: u32, fault: Option<Fault>) -> Result<(), FrontError>
-    requires lies { IfSome fault (λ f. (1 ≤ f.number) × (f.number ≤ 9) × (f.start ≤ f.end)
-        × (at + f.end < 2 ^ 32)) }
-    ensures errors_at { OnOk result (errors.new.items
-        ≡ errors.old.items ++ errors_at at (list_of fault)) }
-    ensures refusals { IfErr result IsOutOfMemory }
-{
-    if let Some(fault) = fault {
-        errors.push(LexError {
-            start: at + fault.start,
-            end: at + fault.end,
-            number: fault.number,
-        })?;
-    }
-    Ok(())
-}
-
-// Appends the faults of a token that begins at byte `at`.
-fn push_faults(errors: &mut Vec<LexError>, at: u32, token: Token) -> Result<(), FrontError>
-    requires cut { IsCut token }
-    requires fits { at + token.len < 2 ^ 32 }
-    ensures errors_at { OnOk result (errors.new.items
-        ≡ errors.old.items ++ errors_at at (faults token)) }
-    ensures refusals { IfErr result IsOutOfMemory }
-{
-    let (first, second) = fault_pair(token);
-    push_fault(errors, at, first)?;
-    push_fault(errors, at, second)
-}
 
 // The lists of a lexed text while it grows.
 #[derive(Drop)]
@@ -205,7 +115,7 @@ impl<'a> LexedStr<'a> {
         strings: Strings,
     ) -> Result<LexedStr<'a>, FrontError>
         ensures lexed { IfOk result (λ l. l ≡ lexed_text strings text.now) }
-        ensures too_long { IsErrOf result FrontError.TooLong ↔ (LIMIT < length text.now) }
+        ensures too_long { IsErrOf result FrontError.TooLong ↔ (4294967295 < length text.now) }
         ensures refusals { IfErr result (MayRefuse text.now) }
     {
         if text.len() > LIMIT {
@@ -241,7 +151,7 @@ impl<'a> LexedStr<'a> {
     /// PostgreSQL's `standard_conforming_strings = on`.
     pub fn new(alloc: Global, text: &'a str) -> Result<LexedStr<'a>, FrontError>
         ensures lexed { IfOk result (λ l. l ≡ lexed_text Standard text.now) }
-        ensures too_long { IsErrOf result FrontError.TooLong ↔ (LIMIT < length text.now) }
+        ensures too_long { IsErrOf result FrontError.TooLong ↔ (4294967295 < length text.now) }
         ensures refusals { IfErr result (MayRefuse text.now) }
     {
         LexedStr::new_in(alloc, text, Strings::Standard)
@@ -257,7 +167,7 @@ impl<'a> LexedStr<'a> {
         at: usize,
         tokens: &[Token],
     ) -> Result<LexedStr<'a>, FrontError>
-        requires fits { length text.now ≤ LIMIT }
+        requires fits { length text.now ≤ 4294967295 }
         requires boundary { IsCharBoundary text.now at }
         requires cut { AreCut tokens.now }
         requires laid { EndAtBoundaries text.now at tokens.now }

@@ -1,10 +1,8 @@
 //! Leaf kinds, faults and accessors over texts whose tokens are known from outside.
 use super::*;
-use squawk_events::{FrontError, Output, StepSink, StrStep};
 use squawk_kinds::SyntaxKind;
 use squawk_kinds::numbers::Number;
 use squawk_lexer::{Strings, Token, TokenKind};
-use std::alloc::Global;
 
 // Each row: the kind of a token, the token's text, and the kind of its leaf.
 const LEAF_KINDS: &[(&str, &str, u16)] = &[
@@ -182,70 +180,4 @@ fn backslash_in_a_string(rt: HostRuntime) {
     let escaped = LexedStr::new_in(rt.alloc(), "'\\';", Strings::Backslash).expect(&rt, "memory");
     assert_eq!(rt; escaped.len(), 1);
     assert_eq!(rt; escaped.errors().len(), 1);
-}
-
-// A sink that keeps the steps.
-#[derive(Drop)]
-struct Steps {
-    steps: Vec<StrStep>,
-}
-
-impl StepSink for Steps {
-    ghost use Rattle.std.specs.Prelude.{[]};
-
-    ghost steps = { λ s. s.steps.items };
-
-    ghost errors = { λ _. [] };
-
-    fn step(&mut self, step: StrStep) -> Result<(), FrontError> {
-        self.steps.push(step)?;
-        Ok(())
-    }
-}
-
-// The steps of ` a ;`, which is one unknown statement after a space.
-fn unknown_statement(alloc: Global) -> Result<Output, FrontError> {
-    let mut output = Output::new(alloc);
-    output.enter(SyntaxKind::SOURCE_FILE)?;
-    output.enter(SyntaxKind::ERROR)?;
-    output.error(10)?;
-    output.token(SyntaxKind::IDENT)?;
-    output.token(SyntaxKind::SEMICOLON)?;
-    output.exit()?;
-    output.exit()?;
-    Ok(output)
-}
-
-#[test]
-fn trivia_between_steps(rt: HostRuntime) {
-    let lexed = LexedStr::new(rt.alloc(), " a ;").expect(&rt, "memory");
-    let output = unknown_statement(rt.alloc()).expect(&rt, "memory");
-    let mut sink = Steps {
-        steps: Vec::new(rt.alloc()),
-    };
-    assert!(rt;
-        lexed
-            .intersperse_trivia(&output, &mut sink)
-            .expect(&rt, "memory")
-    );
-    let token = |kind, start, end| StrStep::Token { kind, start, end };
-    let wanted = [
-        StrStep::Enter {
-            kind: SyntaxKind::SOURCE_FILE,
-        },
-        token(SyntaxKind::WHITESPACE, 0, 1),
-        StrStep::Enter {
-            kind: SyntaxKind::ERROR,
-        },
-        StrStep::Error { number: 10, at: 1 },
-        token(SyntaxKind::IDENT, 1, 2),
-        token(SyntaxKind::WHITESPACE, 2, 3),
-        token(SyntaxKind::SEMICOLON, 3, 4),
-        StrStep::Exit,
-        StrStep::Exit,
-    ];
-    assert_eq!(rt; sink.steps.len(), wanted.len());
-    for k in 0..wanted.len() {
-        assert_eq!(rt; sink.steps[k], wanted[k], "step {k}");
-    }
 }
