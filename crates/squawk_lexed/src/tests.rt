@@ -109,11 +109,6 @@ fn errors_of_texts(rt: HostRuntime) {
             assert_eq!(rt; lexed.errors()[k].range().end, end, "{name}: {text}");
         }
     }
-    let lexed = LexedStr::new(rt.alloc(), "0x").expect(&rt, "memory");
-    assert_eq!(rt;
-        lexed.errors()[0].message(),
-        "missing digits after base prefix"
-    );
 }
 
 #[test]

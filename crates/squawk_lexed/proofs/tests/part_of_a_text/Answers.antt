@@ -9,6 +9,8 @@ pub from_tokens-requires-clause-cut : goal.from_tokens-requires-clause-cut
 unfolding token_form prefix_of symbol
 from_tokens-requires-clause-cut g c = (
   record { strings = Standard; at_start = false; text = 97 ∷ []; some = omega arith; same = refl },
-  record { strings = Standard; at_start = false; text = 32 ∷ []; some = omega arith; same = refl },
-  tt,
+  (
+    record { strings = Standard; at_start = false; text = 32 ∷ []; some = omega arith; same = refl },
+    tt,
+  ),
 )
