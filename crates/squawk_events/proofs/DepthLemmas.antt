@@ -1,4 +1,5 @@
--- How the counts of Enter and Exit steps grow.
+-- The counts of Enter and Exit steps: over appended steps they add up, and they are at most the
+-- number of steps.
 use Rattle.std.proofs.Common.{◌≡◌, ◌+◌, ◌≤◌, List, [], ◌∷◌, ◌++◌, length, arith}
 use Rattle.squawk_events.specs.Depth.{enters_of, exits_of}
 use Rattle.squawk_events.specs.declared.steps.Step.{Step}

@@ -1,37 +1,44 @@
-//! Grammars, from kinds to steps.
-ghost use Rattle.std.specs.Prelude.{◌≡◌, ℕ, List, [], IsTrue, IfOk, OnOk, IsOkUnless};
+//! Grammars: from the kinds of a text to the steps of its tree.
+ghost use Rattle.std.specs.Prelude.{◌≡◌, ℕ, List, [], IsTrue, IfOk, OnOk, IfErr};
 ghost use Rattle.squawk_events.specs.Kinds.{has_no_trivia};
 ghost use Rattle.squawk_events.specs.Lawful.{IsLawful};
-ghost use Rattle.squawk_events.specs.declared.error.FrontError.TheVariants.{OutOfMemory};
-ghost use Rattle.squawk_events.specs.declared.steps.Step.{Step as Given};
+ghost use Rattle.squawk_events.specs.Refusals.{IsOutOfMemory};
+ghost use Rattle.squawk_events.specs.declared.steps.Step as steps;
 
 use crate::{FrontError, Input, Output};
 use std::alloc::Global;
 
-/// From the kinds of a text, trivia left out, to the steps of its tree.
+/// Turns the kinds of a text, without trivia, into the steps of its tree.
+///
+/// An implementation names the steps that it produces, to contracts alone, and shows that they are
+/// lawful: balanced, with the kinds as their tokens in order, and with error numbers from 1 to 10.
 pub trait Grammar {
-    /// The steps that it gives for a list of kinds.
-    ghost told: { Self → List ℕ → List Given };
+    /// The steps for a list of kinds.
+    ghost told: { Self → List ℕ → List steps.Step };
 
-    /// Gives the steps for the kinds of an input.
+    /// Appends the steps for the kinds of `input` to the empty `output`.
+    ///
+    /// Fails only where memory runs out; the output then holds some steps and is of no use.
     fn run(&self, input: &Input, output: &mut Output) -> Result<(), FrontError>
         requires empty { output.old ≡ [] }
         requires no_trivia { IsTrue (has_no_trivia input.now) }
         ensures ok { OnOk result (output.new ≡ told self.now input.now) }
-        ensures refusal { IsOkUnless result OutOfMemory };
+        ensures refusals { IfErr result IsOutOfMemory };
 
-    /// They are a tree of these kinds.
-    ghost lawful: { (g : Self) (kinds : List ℕ) → IsTrue (has_no_trivia kinds) → IsLawful kinds (told g kinds) };
+    /// These steps are lawful for kinds without trivia.
+    ghost lawful: { (g : Self) (kinds : List ℕ) → IsTrue (has_no_trivia kinds)
+        → IsLawful kinds (told g kinds) };
 }
 
-/// What a text is read as.
+/// The start symbol of a grammar: what a text is parsed as.
 #[derive(Clone, Copy, Debug, PartialEq, Eq)]
 pub enum EntryPoint {
+    /// A whole text.
     SourceFile,
 }
 
 impl EntryPoint {
-    /// The steps that a grammar gives.
+    /// Runs a grammar on an input and returns its lawful output. Fails only where memory runs out.
     pub fn parse<G: Grammar>(
         &self,
         alloc: Global,
@@ -41,7 +48,7 @@ impl EntryPoint {
         requires { IsTrue (has_no_trivia input.now) }
         ensures told { IfOk result (λ output. output ≡ G.told grammar.now input.now) }
         ensures lawful { IfOk result (λ output. IsLawful input.now output) }
-        ensures refusal { IsOkUnless result OutOfMemory }
+        ensures refusals { IfErr result IsOutOfMemory }
     {
         let mut output = Output::new(alloc);
         grammar.run(input, &mut output)?;

@@ -1,6 +1,6 @@
-//! A list of kinds.
-ghost use Rattle.std.specs.Prelude.{◌≡◌, ◌<◌, [], ◌∷◌, ◌++◌, length, OnOk, OnErr, IsOkUnless, slice_index_or};
-ghost use Rattle.squawk_events.specs.declared.error.FrontError.TheVariants.{OutOfMemory};
+//! The input of a grammar.
+ghost use Rattle.std.specs.Prelude.{◌≡◌, ◌<◌, [], ◌∷◌, ◌++◌, length, OnOk, OnErr, IfErr, slice_index_or};
+ghost use Rattle.squawk_events.specs.Refusals.{IsOutOfMemory};
 ghost use Rattle.squawk_kinds.specs.declared.numbers.TheConstants.Number.{EOF};
 
 use crate::FrontError;
@@ -8,7 +8,7 @@ use squawk_kinds::SyntaxKind;
 use std::alloc::Global;
 use std::marker::Model;
 
-/// A list of kinds.
+/// A growing list of kinds: the input of a grammar.
 #[derive(Drop)]
 pub struct Input {
     kinds: Vec<SyntaxKind>,
@@ -23,7 +23,7 @@ impl Model for Input {
 }
 
 impl Input {
-    /// No kinds.
+    /// Returns an empty list. Takes no memory.
     pub fn new(alloc: Global) -> Input
         ensures { result ≡ [] }
     {
@@ -32,17 +32,17 @@ impl Input {
         }
     }
 
-    /// Appends a kind.
+    /// Appends a kind. Where memory runs out, the list stays as it was.
     pub fn push(&mut self, kind: SyntaxKind) -> Result<(), FrontError>
         ensures ok { OnOk result (self.new ≡ self.old ++ kind ∷ []) }
         ensures err { OnErr result (self.new ≡ self.old) }
-        ensures refusal { IsOkUnless result OutOfMemory }
+        ensures refusals { IfErr result IsOutOfMemory }
     {
         self.kinds.push(kind)?;
         Ok(())
     }
 
-    /// The kind at a place; `EOF` from the end on.
+    /// The kind at index `i`; `EOF` where `i` is not below `len`.
     pub fn kind(&self, i: usize) -> SyntaxKind
         ensures { result ≡ slice_index_or self.now i EOF }
     {
@@ -52,14 +52,14 @@ impl Input {
         }
     }
 
-    /// Their number.
+    /// The number of kinds.
     pub fn len(&self) -> usize
         ensures { result ≡ length self.now }
     {
         self.kinds.len()
     }
 
-    /// All of them.
+    /// The kinds, in order.
     pub fn kinds(&self) -> &[SyntaxKind]
         ensures { result.now ≡ self.now }
     {

@@ -2,9 +2,9 @@
 ghost use Rattle.std.specs.Prelude.{◌≡◌, ◌≤◌, length};
 ghost use Rattle.squawk_events.specs.Message.{message_of};
 
-/// The message with this number, at most 40 bytes long.
+/// Returns the message with this number, from 1 to 10. It has at most 40 bytes.
 ///
-/// The numbers 1 to 9 are faults of tokens; 10 is a statement whose opening words are not known.
+/// The numbers 1 to 9 are faults of tokens; 10 is a statement whose opening is unknown.
 pub fn message(number: u8) -> &'static str
     requires from_one { 1 ≤ number }
     requires to_ten { number ≤ 10 }

@@ -1,7 +1,7 @@
-//! A list of steps that grows.
-ghost use Rattle.std.specs.Prelude.{◌≡◌, ◌+◌, ◌<◌, ◌≤◌, [], ◌∷◌, ◌++◌, OnOk, OnErr, IsOkUnless};
+//! The output of a grammar.
+ghost use Rattle.std.specs.Prelude.{◌≡◌, ◌+◌, ◌<◌, ◌≤◌, [], ◌∷◌, ◌++◌, OnOk, OnErr, IfErr};
 ghost use Rattle.squawk_events.specs.Depth.{depth_of};
-ghost use Rattle.squawk_events.specs.declared.error.FrontError.TheVariants.{OutOfMemory};
+ghost use Rattle.squawk_events.specs.Refusals.{IsOutOfMemory};
 ghost use Rattle.squawk_events.specs.declared.steps.Step.TheVariants.{Enter, Token, Exit, Error};
 
 use crate::{FrontError, Step};
@@ -9,7 +9,9 @@ use squawk_kinds::SyntaxKind;
 use std::alloc::Global;
 use std::marker::Model;
 
-/// The steps of a tree, as a grammar gives them.
+/// A growing list of steps: the output of a grammar.
+///
+/// The calls that append a step fail only where memory runs out, and then leave the list as it was.
 #[derive(Drop)]
 pub struct Output {
     steps: Vec<Step>,
@@ -17,20 +19,20 @@ pub struct Output {
 }
 
 impl Model for Output {
-    ghost use Rattle.std.specs.Prelude.{◌≡◌, ◌+◌, List};
+    ghost use Rattle.std.specs.Prelude.{List};
     ghost use Rattle.squawk_events.specs.declared.steps.Step.{Step};
-    ghost use Rattle.squawk_events.specs.Depth.{depth_of, enters_of, exits_of};
+    ghost use Rattle.squawk_events.specs.Depth.{IsDepth};
 
     ghost Value = { List Step };
 
     ghost view = { λ o. o.steps.items };
 
-    ghost invariant = { λ o. (o.depth + exits_of o.steps.items ≡ enters_of o.steps.items) × (o.depth ≡ depth_of o.steps.items) };
+    ghost invariant = { λ o. IsDepth o.depth o.steps.items };
 }
 
 #[tactic(auto, using(crate::proofs::DepthLemmas::enters_of_append, crate::proofs::DepthLemmas::exits_of_append, crate::proofs::DepthLemmas::enters_of_le))]
 impl Output {
-    /// No steps.
+    /// Returns an empty list. Takes no memory.
     pub fn new(alloc: Global) -> Output
         ensures { result ≡ [] }
     {
@@ -40,56 +42,56 @@ impl Output {
         }
     }
 
-    /// Enters a node.
+    /// Appends the start of a node of this kind.
     pub fn enter(&mut self, kind: SyntaxKind) -> Result<(), FrontError>
         ensures ok { OnOk result (self.new ≡ self.old ++ Enter kind ∷ []) }
         ensures depth { OnOk result (depth_of self.new ≡ depth_of self.old + 1) }
         ensures err { OnErr result (self.new ≡ self.old) }
-        ensures refusal { IsOkUnless result OutOfMemory }
+        ensures refusals { IfErr result IsOutOfMemory }
     {
         self.steps.push(Step::Enter { kind })?;
         self.depth += 1;
         Ok(())
     }
 
-    /// Takes a token.
+    /// Appends a token of this kind.
     pub fn token(&mut self, kind: SyntaxKind) -> Result<(), FrontError>
         ensures ok { OnOk result (self.new ≡ self.old ++ Token kind ∷ []) }
         ensures depth { OnOk result (depth_of self.new ≡ depth_of self.old) }
         ensures err { OnErr result (self.new ≡ self.old) }
-        ensures refusal { IsOkUnless result OutOfMemory }
+        ensures refusals { IfErr result IsOutOfMemory }
     {
         self.steps.push(Step::Token { kind })?;
         Ok(())
     }
 
-    /// Leaves the node that was entered last.
+    /// Appends the end of the innermost open node. There has to be one.
     pub fn exit(&mut self) -> Result<(), FrontError>
         requires { 0 < depth_of self.old }
         ensures ok { OnOk result (self.new ≡ self.old ++ Exit ∷ []) }
         ensures depth { OnOk result (depth_of self.new + 1 ≡ depth_of self.old) }
         ensures err { OnErr result (self.new ≡ self.old) }
-        ensures refusal { IsOkUnless result OutOfMemory }
+        ensures refusals { IfErr result IsOutOfMemory }
     {
         self.steps.push(Step::Exit)?;
         self.depth -= 1;
         Ok(())
     }
 
-    /// Notes an error.
+    /// Appends an error by the number of its message, from 1 to 10.
     pub fn error(&mut self, number: u8) -> Result<(), FrontError>
         requires low { 1 ≤ number }
         requires high { number ≤ 10 }
         ensures ok { OnOk result (self.new ≡ self.old ++ Error number ∷ []) }
         ensures depth { OnOk result (depth_of self.new ≡ depth_of self.old) }
         ensures err { OnErr result (self.new ≡ self.old) }
-        ensures refusal { IsOkUnless result OutOfMemory }
+        ensures refusals { IfErr result IsOutOfMemory }
     {
         self.steps.push(Step::Error { number })?;
         Ok(())
     }
 
-    /// How many nodes are open.
+    /// The number of open nodes.
     pub fn depth(&self) -> usize
         ensures { result ≡ depth_of self.now }
     {

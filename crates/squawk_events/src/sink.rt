@@ -1,23 +1,23 @@
-//! What takes the steps of a tree over a text.
-ghost use Rattle.std.specs.Prelude.{◌≡◌, List, [], ◌∷◌, ◌++◌, OnOk, OnErr, IsOkUnless};
-ghost use Rattle.squawk_events.specs.declared.error.FrontError.TheVariants.{OutOfMemory};
-ghost use Rattle.squawk_events.specs.declared.steps.StrStep.{StrStep as Taken};
-ghost use Rattle.squawk_events.specs.declared.steps.ParseError.{ParseError as Pushed};
+//! Receivers of the steps of a tree over a text.
+ghost use Rattle.std.specs.Prelude.{◌≡◌, List, [], ◌∷◌, ◌++◌, OnOk, OnErr, IfErr};
+ghost use Rattle.squawk_events.specs.Refusals.{IsOutOfMemory};
+ghost use Rattle.squawk_events.specs.declared.steps.StrStep as steps;
+ghost use Rattle.squawk_events.specs.declared.steps.ParseError as errors;
 
 use crate::{FrontError, StrStep};
 
-/// What takes the steps of a tree over a text.
+/// A receiver of the steps of a tree over a text, such as a builder of trees.
 pub trait StepSink {
-    /// The steps that it has taken.
-    ghost steps: { Self → List Taken };
+    /// The steps received so far.
+    ghost steps: { Self → List steps.StrStep };
 
-    /// The errors that it holds beside them.
-    ghost errors: { Self → List Pushed };
+    /// The errors that it holds besides; no step changes them.
+    ghost errors: { Self → List errors.ParseError };
 
-    /// Takes a step.
+    /// Receives the next step. Fails only where memory runs out, and then keeps the steps so far.
     fn step(&mut self, step: StrStep) -> Result<(), FrontError>
         ensures ok { OnOk result (steps self.new ≡ steps self.old ++ step ∷ []) }
         ensures err { OnErr result (steps self.new ≡ steps self.old) }
         ensures kept { errors self.new ≡ errors self.old }
-        ensures refusal { IsOkUnless result OutOfMemory };
+        ensures refusals { IfErr result IsOutOfMemory };
 }

@@ -1,4 +1,4 @@
--- What is left without trivia.
+-- Kinds without trivia.
 use Rattle.std.proofs.Common.{◌≡◌, ℕ, Bool, true, false, cond, List, [], ◌∷◌, ◌++◌, refl, ap, ◌∙◌}
 use Rattle.std.specs.Prelude.{Result, Ok, Err, IfOk}
 use Rattle.squawk_events.specs.Kinds.{is_trivia_kind, has_no_trivia, without_trivia as kinds_kept}

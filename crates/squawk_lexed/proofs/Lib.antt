@@ -1,6 +1,8 @@
 pub mod FaultLemmas
 pub mod StoredLemmas
-pub mod FrontLemmas
+pub mod PrefixLemmas
 pub mod KeptLemmas
-pub mod WovenLemmas
+pub mod WeaveLemmas
 pub mod PartLemmas
+mod PlacedLemmas
+mod GivenLemmas

@@ -1,4 +1,4 @@
--- Tokens that cover a part of a text.
+-- Tokens that cover a slice of a text.
 use Rattle.std.proofs.Common.{◌≡◌, ℕ, ◌+◌, ◌-◌, ◌<◌, ◌≤◌, ◌^◌, List, [], ◌∷◌, ◌++◌, length, drop, get_or, refl, ap, sym, subst, ◌∙◌, arith}
 use Rattle.std.proofs.lemmas.List.{append-nil, length-take-le, length-drop, get_or-take, get_or-drop}
 use Rattle.std.specs.List.{slice_range}
@@ -22,16 +22,16 @@ laid_within text at [] here laid = omega (arith, here.0)
 laid_within text at (t ∷ ts) here laid =
     omega (arith, laid_within text (at + t.len) ts laid.0 laid.1)
 
-length-part : (text : List ℕ) (start end : ℕ) → start ≤ end → end ≤ length text
+length_part : (text : List ℕ) (start end : ℕ) → start ≤ end → end ≤ length text
     → length (slice_range text start end) ≡ end - start
-length-part text start end p q =
+length_part text start end p q =
     length-take-le (end - start) (drop start text) (omega (arith, length-drop start text))
 
--- a place between two characters of the text is one of the part
+-- a character boundary of the text is one of the slice
 part_boundary : (text : List ℕ) (start end p : ℕ) → start + p ≤ end → end ≤ length text
     → IsCharBoundary text (start + p) → IsCharBoundary (slice_range text start end) p
 part_boundary text start end p h within here =
-    let len = length-part text start end (omega arith) within in (
+    let len = length_part text start end (omega arith) within in (
       omega (arith, len),
       λ less high.
           let same : get_or (slice_range text start end) p 0 ≡ get_or text (start + p) 0 =
@@ -70,7 +70,7 @@ part_kept law text at ts cut laid here fits from left part kinds starts starts' 
     let end : from ≡ at + tokens_len ts = omega (arith, ap tokens_len none, place) in
     let within : from ≤ length text = omega (arith, end, laid_within text at ts here laid) in
     let len : length part ≡ from - at = ap length is
-    ∙ length-part text at from (omega (arith, end)) within in
+    ∙ length_part text at from (omega (arith, end)) within in
     record {
       kinds_are = sym (append-nil kinds) ∙ rw none at k;
       starts_are = s' ∙ rw none at s;

@@ -1,4 +1,4 @@
--- Tokens are what is read off their kinds, places and errors.
+-- The tokens that are read off the stored lists are those that were stored.
 use Rattle.std.proofs.Common.{◌≡◌, ℕ, zero, suc, ◌+◌, ◌-◌, ◌<◌, ◌≤◌, ◌^◌, true, false, ◌&&◌, List, [], ◌∷◌, ◌++◌, length, take, drop, get_or, nat_lt, refl, ap, sym, subst, ◌∙◌, arith}
 use Rattle.std.proofs.lemmas.Bool.{and_parts}
 use Rattle.std.proofs.lemmas.List.{append-nil}
@@ -24,7 +24,7 @@ is_less a b h = grind (arith, nat_tests)
 taken_off : (at n : ℕ) → (at + n) - at ≡ n
 taken_off at n = omega arith
 
--- ---- errors from a place on are none of a token that ends there
+-- ---- errors from an offset on are none of a token that ends there
 
 none_before : (start end at : ℕ) (ts : List LexedToken) → end ≤ at
     → faults_before start end (errors_of at ts) ≡ []
@@ -37,10 +37,10 @@ none_before start end at (t ∷ ts) h =
     by [] rest = rest
     by (f ∷ fs) rest = rw (not_less (at + f.start) end (omega arith)) refl
 
-all_behind : (end at : ℕ) (ts : List LexedToken) → end ≤ at
+all_after : (end at : ℕ) (ts : List LexedToken) → end ≤ at
     → errors_from end (errors_of at ts) ≡ errors_of at ts
-all_behind end at [] h = refl
-all_behind end at (t ∷ ts) h = by t.faults (all_behind end (at + t.len) ts (omega arith))
+all_after end at [] h = refl
+all_after end at (t ∷ ts) h = by t.faults (all_after end (at + t.len) ts (omega arith))
   where
     by : (fs : List Fault) → errors_from end (errors_of (at + t.len) ts) ≡ errors_of (at + t.len) ts
         → errors_from end (errors_at at fs ++ errors_of (at + t.len) ts)
@@ -67,14 +67,14 @@ own_before at len (f ∷ fs) es h none =
       own_before at len fs es parts.1 none,
     ) refl
 
-own_behind : (at len : ℕ) (fs : List Fault) (es : List ParseError) → faults_within len fs ≡ true
+own_after : (at len : ℕ) (fs : List Fault) (es : List ParseError) → faults_within len fs ≡ true
     → errors_from (at + len) es ≡ es
     → errors_from (at + len) (errors_at at fs ++ es) ≡ es
-own_behind at len [] es h all = all
-own_behind at len (f ∷ fs) es h all =
+own_after at len [] es h all = all
+own_after at len (f ∷ fs) es h all =
     let parts = and_parts (fault_within len f) (faults_within len fs) h in
     let inside = begins_within len f parts.0 in
-    rw (is_less (at + f.start) (at + len) (omega arith)) (own_behind at len fs es parts.1 all)
+    rw (is_less (at + f.start) (at + len) (omega arith)) (own_after at len fs es parts.1 all)
 
 first_start : (at : ℕ) (ts : List LexedToken) → get_or (starts_of at ts) 0 0 ≡ at
 first_start at [] = refl
@@ -91,8 +91,8 @@ read_back at (t ∷ ts) h =
       taken_off at t.len,
       own_before at t.len t.faults (errors_of (at + t.len) ts) more.0
           (none_before at (at + t.len) (at + t.len) ts (omega arith)),
-      own_behind at t.len t.faults (errors_of (at + t.len) ts) more.0
-          (all_behind (at + t.len) (at + t.len) ts (omega arith)),
+      own_after at t.len t.faults (errors_of (at + t.len) ts) more.0
+          (all_after (at + t.len) (at + t.len) ts (omega arith)),
       read_back (at + t.len) ts more.1,
     ) refl
 
@@ -129,15 +129,15 @@ pub stored : (text kinds starts : List ℕ) (errors : List ParseError) (ts : Lis
 stored text kinds starts errors ts is =
     subst (IsStoredAs text kinds starts errors) (sym (kept_as text kinds starts errors ts is)) is
 
--- ---- places
+-- ---- offsets
 
-pub length-kinds : (ts : List LexedToken) → length (kinds_of ts) ≡ length ts
-length-kinds [] = refl
-length-kinds (t ∷ ts) = ap suc (length-kinds ts)
+pub length_kinds : (ts : List LexedToken) → length (kinds_of ts) ≡ length ts
+length_kinds [] = refl
+length_kinds (t ∷ ts) = ap suc (length_kinds ts)
 
-pub length-starts : (at : ℕ) (ts : List LexedToken) → length (starts_of at ts) ≡ suc (length ts)
-length-starts at [] = refl
-length-starts at (t ∷ ts) = ap suc (length-starts (at + t.len) ts)
+pub length_starts : (at : ℕ) (ts : List LexedToken) → length (starts_of at ts) ≡ suc (length ts)
+length_starts at [] = refl
+length_starts at (t ∷ ts) = ap suc (length_starts (at + t.len) ts)
 
 pub start_at : (d at : ℕ) (ts : List LexedToken) (i : ℕ) → i ≤ length ts
     → get_or (starts_of at ts) i d ≡ at + total_len (take i ts)
@@ -192,11 +192,11 @@ seen_as text kinds starts errors l seen is =
 
 pub count : (text kinds starts : List ℕ) (errors : List ParseError) (ts : List LexedToken)
     → IsStoredAs text kinds starts errors ts → length kinds ≡ length ts
-count text kinds starts errors ts is = rw is.kinds_are (length-kinds ts)
+count text kinds starts errors ts is = rw is.kinds_are (length_kinds ts)
 
 pub places : (text kinds starts : List ℕ) (errors : List ParseError) (ts : List LexedToken)
     → IsStoredAs text kinds starts errors ts → length starts ≡ suc (length ts)
-places text kinds starts errors ts is = rw is.starts_are (length-starts 0 ts)
+places text kinds starts errors ts is = rw is.starts_are (length_starts 0 ts)
 
 pub place_at : (text kinds starts : List ℕ) (errors : List ParseError) (ts : List LexedToken)
     → IsStoredAs text kinds starts errors ts
@@ -208,7 +208,7 @@ pub boundary_at : (text kinds starts : List ℕ) (errors : List ParseError) (ts 
     → IsStoredAs text kinds starts errors ts
     → (i : ℕ) → i ≤ length ts → IsCharBoundary text (total_len (take i ts))
 boundary_at text kinds starts errors ts is i h =
-    let len = length-starts 0 ts in
+    let len = length_starts 0 ts in
     subst (IsCharBoundary text) (omega (arith, start_at 0 0 ts i h))
     (bounded_at text (starts_of 0 ts) i is.boundaries (omega arith))
 
@@ -226,7 +226,7 @@ pub next_fits : (text kinds starts : List ℕ) (errors : List ParseError) (ts : 
 next_fits text kinds starts errors ts is i h =
     omega (arith, few_tokens ts is.sound, is.whole, is.fits)
 
--- ---- the token at a place
+-- ---- the token at an index
 
 piece_in : (at : ℕ) (ts : List LexedToken) (i k s e : ℕ) → i < length ts
     → k ≡ get_or (kinds_of ts) i k → s ≡ get_or (starts_of at ts) i s

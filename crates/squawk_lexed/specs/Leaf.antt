@@ -1,4 +1,4 @@
--- The kind of the leaf that a token becomes, and what a token is to the division into statements.
+-- The kind of a token's leaf, and the role of the token in the division into statements.
 use Rattle.std.specs.Prelude.{ℕ, true, false, List, unwrap_or}
 use Rattle.squawk_kinds.specs.declared.numbers.TheConstants.Number as kind
 use Rattle.squawk_kinds.specs.Role.{Role, Trivia, Semicolon, Terminator, Command, Open, Close, Other}
@@ -8,7 +8,7 @@ use Rattle.squawk_lexer.specs.declared.token.LiteralKind.TheVariants.{Int, Numer
 use Rattle.squawk_lexer.specs.declared.token.TokenKind.{TokenKind}
 use Rattle.squawk_lexer.specs.declared.token.TokenKind.TheVariants as token
 
--- the keyword that a word is, or else an identifier
+-- the kind of an unquoted word: a keyword, or else an identifier
 abbrev pub word_kind : List ℕ → ℕ
 word_kind word = unwrap_or (keyword_of word) kind.IDENT
 
@@ -23,7 +23,7 @@ literal_kind (DollarQuotedString terminated) = kind.DOLLAR_QUOTED_STRING
 literal_kind (UnicodeEscStr terminated) = kind.UNICODE_ESC_STRING
 literal_kind (EscStr terminated) = kind.ESC_STRING
 
--- the leaf kind of a token with this text in bytes
+-- the leaf kind of a token of this kind with these bytes
 abbrev pub leaf_kind : TokenKind → List ℕ → ℕ
 leaf_kind token.Whitespace text = kind.WHITESPACE
 leaf_kind token.LineComment text = kind.COMMENT
@@ -65,7 +65,7 @@ leaf_kind token.Backtick text = kind.BACKTICK
 leaf_kind token.Dot text = kind.DOT
 leaf_kind token.DotDot text = kind.DOT_DOT
 
--- the role of a token of the kind
+-- the role of a token of this kind
 abbrev pub token_role : TokenKind → Role
 token_role token.Whitespace = Trivia
 token_role token.LineComment = Trivia

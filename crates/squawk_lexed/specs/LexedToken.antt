@@ -2,7 +2,7 @@
 use Rattle.std.specs.Prelude.{ℕ, List}
 use Rattle.squawk_lexed.specs.declared.fault.Fault.{Fault}
 
--- its leaf kind, its length in bytes, and its faults by places in it
+-- its leaf kind, its length in bytes, and its faults by offsets from its start
 pub record LexedToken : Type 0 where
   pub kind : ℕ
   pub len : ℕ

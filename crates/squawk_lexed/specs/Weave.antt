@@ -1,4 +1,5 @@
--- Steps with the ranges of their tokens, and with the trivia between them.
+-- The weave: the steps of a grammar with the ranges of their tokens, and with trivia between them.
+-- What it is, in words of its result, stands in `WeaveLaws`.
 use Rattle.std.specs.Prelude.{ℕ, ◌+◌, ◌==◌, Bool, true, false, not, ◌&&◌, List, [], ◌∷◌, ◌++◌, drop, if◌then◌else◌}
 use Rattle.squawk_events.specs.Kinds.{is_trivia_kind}
 use Rattle.squawk_events.specs.declared.steps.Step.{Step}
@@ -7,6 +8,7 @@ use Rattle.squawk_events.specs.declared.steps.StrStep.{StrStep}
 use Rattle.squawk_events.specs.declared.steps.StrStep.TheVariants as out
 use Rattle.squawk_lexed.specs.LexedToken.{LexedToken}
 
+-- the kind, unless it is trivia
 abbrev pub non_trivia_kind : ℕ → List ℕ
 non_trivia_kind kind = if is_trivia_kind kind then [] else kind ∷ []
 
@@ -15,24 +17,24 @@ abbrev pub kinds_without_trivia : List LexedToken → List ℕ
 kinds_without_trivia [] = []
 kinds_without_trivia (t ∷ ts) = non_trivia_kind t.kind ++ kinds_without_trivia ts
 
--- the steps of the trivia at the front of tokens that begin at a place
+-- the steps of leading trivia, of tokens that begin at this byte
 abbrev pub leading_trivia : ℕ → List LexedToken → List StrStep
 leading_trivia at [] = []
 leading_trivia at (t ∷ ts) = if is_trivia_kind t.kind
     then out.Token t.kind at (at + t.len) ∷ leading_trivia (at + t.len) ts else []
 
--- where they end
+-- where leading trivia ends
 abbrev pub leading_trivia_end : ℕ → List LexedToken → ℕ
 leading_trivia_end at [] = at
 leading_trivia_end at (t ∷ ts) = if is_trivia_kind t.kind then leading_trivia_end (at + t.len) ts
     else at
 
--- the tokens behind them
+-- the tokens after leading trivia
 abbrev pub after_leading_trivia : List LexedToken → List LexedToken
 after_leading_trivia [] = []
 after_leading_trivia (t ∷ ts) = if is_trivia_kind t.kind then after_leading_trivia ts else t ∷ ts
 
--- the length of the next token
+-- the length of the first token
 abbrev pub next_len : List LexedToken → ℕ
 next_len [] = 0
 next_len (t ∷ ts) = t.len
@@ -41,8 +43,8 @@ abbrev pub is_empty : {A : Type 0} → List A → Bool
 is_empty [] = true
 is_empty (x ∷ xs) = false
 
--- What is given out for a step, by whether it is the last, where the tokens that are not given out
--- yet begin at a place. Trivia wait for the next step that is an Enter, a Token or the last Exit.
+-- a step with the pending trivia before it, by whether it is the last step, where the tokens that
+-- are left begin at this byte; trivia waits for the next Enter, Token or last Exit
 abbrev pub weave_step : Bool → ℕ → List LexedToken → Step → List StrStep
 weave_step last at ts (Enter kind) = leading_trivia at ts ++ out.Enter kind ∷ []
 weave_step last at ts (Token kind) = leading_trivia at ts
@@ -52,7 +54,7 @@ weave_step true at ts Exit = leading_trivia at ts ++ out.Exit ∷ []
 weave_step false at ts Exit = out.Exit ∷ []
 weave_step last at ts (Error number) = out.Error number at ∷ []
 
--- where the tokens that are left behind it begin
+-- where the tokens that are left after a step begin
 abbrev pub offset_after_step : Bool → ℕ → List LexedToken → Step → ℕ
 offset_after_step last at ts (Enter kind) = leading_trivia_end at ts
 offset_after_step last at ts (Token kind) =
@@ -61,7 +63,7 @@ offset_after_step true at ts Exit = leading_trivia_end at ts
 offset_after_step false at ts Exit = at
 offset_after_step last at ts (Error number) = at
 
--- the tokens that are left behind it
+-- the tokens that are left after a step
 abbrev pub tokens_after_step : Bool → List LexedToken → Step → List LexedToken
 tokens_after_step last ts (Enter kind) = after_leading_trivia ts
 tokens_after_step last ts (Token kind) = drop 1 (after_leading_trivia ts)
@@ -69,41 +71,42 @@ tokens_after_step true ts Exit = after_leading_trivia ts
 tokens_after_step false ts Exit = ts
 tokens_after_step last ts (Error number) = ts
 
--- all steps but the first
+-- the weave of all steps but the first
 abbrev pub weave_from : ℕ → List LexedToken → List Step → List StrStep
 weave_from at ts [] = []
 weave_from at ts (x ∷ xs) = weave_step (is_empty xs) at ts x
     ++ weave_from (offset_after_step (is_empty xs) at ts x) (tokens_after_step (is_empty xs) ts x)
     xs
 
--- steps that begin with an Enter, with the ranges of their tokens, and with the trivia
+-- the weave of steps that begin with an Enter
 abbrev pub weave : List LexedToken → List Step → List StrStep
 weave ts (Enter kind ∷ xs) = out.Enter kind ∷ weave_from 0 ts xs
 weave ts xs = []
 
--- the tokens that get no step
+-- the tokens that are left at the end, which get no step
 abbrev pub remaining_from : List LexedToken → List Step → List LexedToken
 remaining_from ts [] = ts
 remaining_from ts (x ∷ xs) = remaining_from (tokens_after_step (is_empty xs) ts x) xs
 
+-- the same of the whole weave
 abbrev pub remaining_tokens : List LexedToken → List Step → List LexedToken
 remaining_tokens ts (Enter kind ∷ xs) = remaining_from ts xs
 remaining_tokens ts xs = ts
 
--- whether a token is there for a step
+-- whether there is a token for a step
 abbrev pub has_token_for : List LexedToken → Step → Bool
 has_token_for ts (Enter kind) = true
 has_token_for ts (Token kind) = not (is_empty (after_leading_trivia ts))
 has_token_for ts Exit = true
 has_token_for ts (Error number) = true
 
--- whether tokens are there for all steps
+-- whether there are tokens for all steps
 abbrev pub have_tokens_for : List LexedToken → List Step → Bool
 have_tokens_for ts [] = true
 have_tokens_for ts (x ∷ xs) = has_token_for ts x
     && have_tokens_for (tokens_after_step (is_empty xs) ts x) xs
 
--- whether a list begins with another
+-- whether the first list begins with the second
 abbrev pub begins_with : List ℕ → List ℕ → Bool
 begins_with xs [] = true
 begins_with [] (y ∷ ys) = false

@@ -1,4 +1,4 @@
-//! What is wrong with a token.
+//! The faults of a token.
 ghost use Rattle.std.specs.Prelude.{◌≡◌, ◌≤◌, [], ◌∷◌, ◌++◌, length, IsTrue, Some, None};
 ghost use Rattle.squawk_lexer.specs.Flags.{IsCut};
 ghost use Rattle.squawk_lexed.specs.Faults.{fault, row, exponent_row, faults, kind_faults, literal_faults, in_two, faults_within};
@@ -7,18 +7,18 @@ ghost use Rattle.squawk_lexed.specs.FaultLists.{both_faults, list_of};
 use squawk_lexer::laws::flags_lie_within;
 use squawk_lexer::{LiteralKind, Token, TokenKind};
 
-/// What is wrong with a token, by places in it.
+/// A fault of a token. Offsets are in bytes from the start of the token.
 #[derive(Clone, Copy, Debug, PartialEq, Eq)]
 pub struct Fault {
-    /// From 1 to 9: the number of its message.
+    /// The number of its message, from 1 to 9.
     pub number: u8,
     /// Its first byte.
     pub start: u32,
-    /// The byte behind it.
+    /// The byte after its last.
     pub end: u32,
 }
 
-/// A fault where the test holds.
+// A fault, if the test holds.
 fn row(test: bool, number: u8, start: u32, end: u32) -> Option<Fault>
     ensures { list_of result ≡ row test (fault number start end) }
 {
@@ -29,7 +29,7 @@ fn row(test: bool, number: u8, start: u32, end: u32) -> Option<Fault>
     }
 }
 
-/// These faults, with those that are there in front.
+// Both faults, so that a `None` is followed by `None`.
 fn in_order(first: Option<Fault>, second: Option<Fault>) -> [Option<Fault>; 2]
     ensures { result ≡ in_two (both_faults first second) }
 {
@@ -40,7 +40,7 @@ fn in_order(first: Option<Fault>, second: Option<Fault>) -> [Option<Fault>; 2]
     }
 }
 
-/// The fault of an exponent without digits.
+// The fault of an exponent without digits.
 fn exponent_row(empty_exponent_start: Option<u32>, trailing_junk_start: u32) -> Option<Fault>
     ensures { list_of result ≡ exponent_row empty_exponent_start trailing_junk_start }
 {
@@ -54,7 +54,7 @@ fn exponent_row(empty_exponent_start: Option<u32>, trailing_junk_start: u32) -> 
     }
 }
 
-/// The faults of a literal of this length.
+// The faults of a literal of this length.
 fn literal_faults(kind: LiteralKind, len: u32) -> [Option<Fault>; 2]
     ensures { result ≡ in_two (literal_faults kind len) }
 {
@@ -84,7 +84,7 @@ fn literal_faults(kind: LiteralKind, len: u32) -> [Option<Fault>; 2]
     }
 }
 
-/// The faults of a token of this kind and length.
+// The faults of a token of this kind and length.
 fn kind_faults(kind: TokenKind, len: u32) -> [Option<Fault>; 2]
     ensures { result ≡ in_two (kind_faults kind len) }
 {
@@ -103,10 +103,9 @@ fn kind_faults(kind: TokenKind, len: u32) -> [Option<Fault>; 2]
     }
 }
 
-/// The faults of a token of a text, in the order of their numbers: none, one or two, and a `None`
-/// is followed by `None`.
-///
-/// Each has a byte of the token at least.
+/// Returns the faults of a token that the lexer cut, in the order of their numbers. A `None` is
+/// followed by `None`: no token has more than two faults. Each fault lies in the token and covers
+/// at least one byte.
 pub fn faults_of(token: Token) -> [Option<Fault>; 2]
     requires cut { IsCut token }
     ensures faults { result ≡ in_two (faults token) }

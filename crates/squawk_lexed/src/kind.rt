@@ -1,4 +1,4 @@
-//! The kinds of leaves.
+//! Leaf kinds.
 ghost use Rattle.std.specs.Prelude.{◌≡◌};
 ghost use Rattle.squawk_kinds.specs.Role.{role, Other};
 ghost use Rattle.squawk_lexed.specs.Leaf.{leaf_kind, literal_kind, token_role, word_kind};
@@ -7,8 +7,7 @@ use squawk_kinds::SyntaxKind;
 use squawk_lexer::{LiteralKind, TokenKind};
 use squawk_words::from_keyword;
 
-/// The kind of a word: the keyword that it is without regard to the case of ASCII letters, else
-/// `IDENT`.
+// The kind of a word: a keyword, which is compared ASCII case-insensitively, else `IDENT`.
 #[tactic(auto, unfolding(squawk_kinds::specs::Role::role))]
 fn word_kind(word: &str) -> SyntaxKind
     ensures kind { result ≡ word_kind word.now }
@@ -20,7 +19,7 @@ fn word_kind(word: &str) -> SyntaxKind
     }
 }
 
-/// The kind of a literal.
+// The kind of a literal.
 #[tactic(auto, unfolding(squawk_kinds::specs::Role::role))]
 fn literal_kind(kind: LiteralKind) -> SyntaxKind
     ensures kind { result ≡ literal_kind kind }
@@ -39,9 +38,10 @@ fn literal_kind(kind: LiteralKind) -> SyntaxKind
     }
 }
 
-/// The kind of the leaf that a token of this kind and text becomes.
+/// Returns the kind of the leaf for a token of this kind with this text.
 ///
-/// It has the role of the token: no word is trivia, a semicolon, a command or a parenthesis.
+/// An unquoted word is a keyword, compared ASCII case-insensitively, or else an `IDENT`; a quoted
+/// word is always an `IDENT`. The leaf has the role of the token in the division into statements.
 #[tactic(auto, unfolding(squawk_kinds::specs::Role::role))]
 pub fn kind_of(kind: TokenKind, text: &str) -> SyntaxKind
     ensures kind { result ≡ leaf_kind kind text.now }

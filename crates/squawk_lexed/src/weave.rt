@@ -1,7 +1,7 @@
-//! Steps with trivia between them.
-ghost use Rattle.std.specs.Prelude.{◌≡◌, ◌^◌, ◌<◌, ◌≤◌, ◌+◌, [], ◌∷◌, ◌++◌, length, OnOk, OnErr, IfOk, IsOkUnless, IsTrue, drop};
+//! Trivia put back between the steps of a grammar.
+ghost use Rattle.std.specs.Prelude.{◌≡◌, ◌^◌, ◌<◌, ◌≤◌, ◌+◌, [], ◌∷◌, ◌++◌, length, OnOk, OnErr, IfOk, IfErr, IsTrue, drop};
 ghost use Rattle.squawk_events.specs.Lawful.{is_balanced, token_kinds};
-ghost use Rattle.squawk_events.specs.declared.error.FrontError.TheVariants.{OutOfMemory};
+ghost use Rattle.squawk_events.specs.Refusals.{IsOutOfMemory};
 ghost use Rattle.squawk_lexed.specs.Weave.{kinds_without_trivia, begins_with, leading_trivia, leading_trivia_end, after_leading_trivia, weave_step, offset_after_step, tokens_after_step, has_token_for, have_tokens_for, weave, weave_from, remaining_from, remaining_tokens, is_empty};
 ghost use Rattle.squawk_lexed.specs.LexedText.{total_len};
 ghost use Rattle.squawk_lexed.specs.Prefixes.{AppendsPrefix};
@@ -11,19 +11,19 @@ use crate::lexed::{LexedStr, is_trivia};
 use squawk_events::{FrontError, Output, Step, StepSink, StrStep};
 use squawk_kinds::SyntaxKind;
 
-/// The next token that is not given out, and where it begins.
+// The index of the next token to emit, and the byte at which it starts.
 #[derive(Clone, Copy)]
-struct Place {
+struct Position {
     index: usize,
     at: u32,
 }
 
-/// Gives out the trivia that come next.
-fn give_front<K: StepSink>(
+// Emits the trivia at the front of the tokens that are left.
+fn emit_leading_trivia<K: StepSink>(
     lexed: &LexedStr<'_>,
-    from: Place,
+    from: Position,
     sink: &mut K,
-) -> Result<Place, FrontError>
+) -> Result<Position, FrontError>
     requires within { from.index ≤ length lexed.now.tokens }
     requires small { from.at + total_len (drop from.index lexed.now.tokens) < 2 ^ 32 }
     ensures ok { OnOk result (K.steps sink.new
@@ -35,10 +35,10 @@ fn give_front<K: StepSink>(
     ensures same_end { IfOk result (λ to. to.at + total_len (drop to.index lexed.now.tokens)
         ≡ from.at + total_len (drop from.index lexed.now.tokens)) }
     ensures within { IfOk result (λ to. to.index ≤ length lexed.now.tokens) }
-    ensures front { OnErr result (AppendsPrefix (K.steps sink.old) (K.steps sink.new)
+    ensures prefix { OnErr result (AppendsPrefix (K.steps sink.old) (K.steps sink.new)
         (leading_trivia from.at (drop from.index lexed.now.tokens))) }
     ensures errors { K.errors sink.new ≡ K.errors sink.old }
-    ensures refusal { IsOkUnless result OutOfMemory }
+    ensures refusals { IfErr result IsOutOfMemory }
 {
     let mut index = from.index;
     let mut at = from.at;
@@ -52,20 +52,20 @@ fn give_front<K: StepSink>(
         at = end;
         index += 1;
     }
-    Ok(Place { index, at })
+    Ok(Position { index, at })
 }
 
-/// Gives out a step, and before it the trivia that wait for it.
-fn give_step<K: StepSink>(
+// Emits a step. Pending trivia goes before an `Enter`, a `Token` and the last `Exit`.
+fn emit_step<K: StepSink>(
     lexed: &LexedStr<'_>,
-    from: Place,
+    from: Position,
     step: Step,
     last: bool,
     sink: &mut K,
-) -> Result<Place, FrontError>
+) -> Result<Position, FrontError>
     requires within { from.index ≤ length lexed.now.tokens }
     requires small { from.at + total_len (drop from.index lexed.now.tokens) < 2 ^ 32 }
-    requires served { IsTrue (has_token_for (drop from.index lexed.now.tokens) step) }
+    requires enough { IsTrue (has_token_for (drop from.index lexed.now.tokens) step) }
     ensures ok { OnOk result (K.steps sink.new
         ≡ K.steps sink.old ++ weave_step last from.at (drop from.index lexed.now.tokens) step) }
     ensures left { IfOk result (λ to. drop to.index lexed.now.tokens
@@ -75,32 +75,32 @@ fn give_step<K: StepSink>(
     ensures same_end { IfOk result (λ to. to.at + total_len (drop to.index lexed.now.tokens)
         ≡ from.at + total_len (drop from.index lexed.now.tokens)) }
     ensures within { IfOk result (λ to. to.index ≤ length lexed.now.tokens) }
-    ensures front { OnErr result (AppendsPrefix (K.steps sink.old) (K.steps sink.new)
+    ensures prefix { OnErr result (AppendsPrefix (K.steps sink.old) (K.steps sink.new)
         (weave_step last from.at (drop from.index lexed.now.tokens) step)) }
     ensures errors { K.errors sink.new ≡ K.errors sink.old }
-    ensures refusal { IsOkUnless result OutOfMemory }
+    ensures refusals { IfErr result IsOutOfMemory }
 {
     match step {
         Step::Enter { kind } => {
-            let to = give_front(lexed, from, sink)?;
+            let to = emit_leading_trivia(lexed, from, sink)?;
             sink.step(StrStep::Enter { kind })?;
             Ok(to)
         }
         Step::Token { kind } => {
-            let to = give_front(lexed, from, sink)?;
+            let to = emit_leading_trivia(lexed, from, sink)?;
             let end = to.at + lexed.piece(to.index).len;
             sink.step(StrStep::Token {
                 kind,
                 start: to.at,
                 end,
             })?;
-            Ok(Place {
+            Ok(Position {
                 index: to.index + 1,
                 at: end,
             })
         }
         Step::Exit if last => {
-            let to = give_front(lexed, from, sink)?;
+            let to = emit_leading_trivia(lexed, from, sink)?;
             sink.step(StrStep::Exit)?;
             Ok(to)
         }
@@ -118,30 +118,30 @@ fn give_step<K: StepSink>(
     }
 }
 
-/// Gives out all steps but the first, and answers whether all tokens were given out.
-fn give_rest<K: StepSink>(
+// Emits all steps but the first. Returns whether all tokens were emitted.
+fn emit_rest<K: StepSink>(
     lexed: &LexedStr<'_>,
     rest: &[Step],
     sink: &mut K,
 ) -> Result<bool, FrontError>
-    requires served { IsTrue (have_tokens_for lexed.now.tokens rest.now) }
+    requires enough { IsTrue (have_tokens_for lexed.now.tokens rest.now) }
     ensures ok { OnOk result (K.steps sink.new
         ≡ K.steps sink.old ++ weave_from 0 lexed.now.tokens rest.now) }
     ensures all { IfOk result (λ all. all ≡ is_empty (remaining_from lexed.now.tokens rest.now)) }
-    ensures front { OnErr result (AppendsPrefix (K.steps sink.old) (K.steps sink.new)
+    ensures prefix { OnErr result (AppendsPrefix (K.steps sink.old) (K.steps sink.new)
         (weave_from 0 lexed.now.tokens rest.now)) }
     ensures errors { K.errors sink.new ≡ K.errors sink.old }
-    ensures refusal { IsOkUnless result OutOfMemory }
+    ensures refusals { IfErr result IsOutOfMemory }
 {
     let count = lexed.len();
-    let mut place = Place { index: 0, at: 0 };
+    let mut place = Position { index: 0, at: 0 };
     for k in 0..rest.len() {
-        place = give_step(lexed, place, rest[k], k + 1 == rest.len(), sink)?;
+        place = emit_step(lexed, place, rest[k], k + 1 == rest.len(), sink)?;
     }
     Ok(place.index == count)
 }
 
-/// The kind of the node that balanced steps begin with.
+// The kind of the root of balanced steps.
 fn root_of(steps: &[Step]) -> SyntaxKind
     requires { IsTrue (is_balanced steps.now) }
     ensures { steps.now ≡ Enter result ∷ drop 1 steps.now }
@@ -153,8 +153,14 @@ fn root_of(steps: &[Step]) -> SyntaxKind
 }
 
 impl<'a> LexedStr<'a> {
-    /// Gives out the steps of an output with the ranges of their tokens and with the trivia, and
-    /// answers whether all tokens were given out.
+    /// Hands the steps of an output to a sink, with the ranges of their tokens, and with the trivia
+    /// between them. Returns whether all tokens were handed over.
+    ///
+    /// A trivia token goes directly before the first `Enter`, `Token` or last `Exit` that follows
+    /// the token before it, so it stands in the innermost node that goes on after it. An `Error` is
+    /// placed at the start of the next token. Trivia after a token without a step is left out.
+    ///
+    /// Fails only where memory runs out; the sink then has a prefix of these steps.
     pub fn intersperse_trivia<K: StepSink>(
         &self,
         output: &Output,
@@ -167,16 +173,16 @@ impl<'a> LexedStr<'a> {
             ≡ K.steps sink.old ++ weave self.now.tokens output.now) }
         ensures all { IfOk result (λ all. all
             ≡ is_empty (remaining_tokens self.now.tokens output.now)) }
-        ensures front { OnErr result (AppendsPrefix (K.steps sink.old) (K.steps sink.new)
+        ensures prefix { OnErr result (AppendsPrefix (K.steps sink.old) (K.steps sink.new)
             (weave self.now.tokens output.now)) }
         ensures errors { K.errors sink.new ≡ K.errors sink.old }
-        ensures refusal { IsOkUnless result OutOfMemory }
+        ensures refusals { IfErr result IsOutOfMemory }
     {
         let steps = output.steps();
         sink.step(StrStep::Enter {
             kind: root_of(steps),
         })?;
-        let all = give_rest(self, &steps[1..], sink)?;
+        let all = emit_rest(self, &steps[1..], sink)?;
         Ok(all)
     }
 }

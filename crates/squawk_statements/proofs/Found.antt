@@ -7,47 +7,47 @@ use Rattle.std.specs.Prelude.{is_some, ◌||◌, nat_lt, false, Option, Some, No
 use Rattle.squawk_statements.specs.Opening.{Row, rows, is_prefix, key, longer, longest, opening_of}
 use Rattle.squawk_statements.specs.Rows.{Decide, row_of}
 use Rattle.squawk_statements.specs.declared.rows.Row as table
-use Rattle.squawk_statements.proofs.Tables.{IsKind, IsKind-rows}
+use Rattle.squawk_statements.proofs.Tables.{IsKind, is_kind_rows}
 
 -- no row is empty
-pub longest-empty : (ks : List ℕ) → length ks ≡ 0
+pub longest_empty : (ks : List ℕ) → length ks ≡ 0
     → None ≡ option_map (λ (row : Row). row.1) (longest rows ks)
 unfolding rows Rattle.squawk_statements.specs.Opening.other_rows
     Rattle.squawk_statements.specs.Opening.create_rows
     Rattle.squawk_statements.specs.Opening.alter_rows
     Rattle.squawk_statements.specs.Opening.drop_rows
-longest-empty [] h = refl
-longest-empty (k ∷ ks) h = absurd (omega arith)
+longest_empty [] h = refl
+longest_empty (k ∷ ks) h = absurd (omega arith)
 
-starts_with-is_prefix : (row ks : List ℕ) → starts_with eqb ks row ≡ is_prefix row ks
-starts_with-is_prefix [] ks = refl
-starts_with-is_prefix (r ∷ rs) [] = refl
-starts_with-is_prefix (r ∷ rs) (k ∷ ks) = ap (λ (t : Bool).
-    r == k && t) (starts_with-is_prefix rs ks)
+starts_with_is_prefix : (row ks : List ℕ) → starts_with eqb ks row ≡ is_prefix row ks
+starts_with_is_prefix [] ks = refl
+starts_with_is_prefix (r ∷ rs) [] = refl
+starts_with_is_prefix (r ∷ rs) (k ∷ ks) = ap (λ (t : Bool).
+    r == k && t) (starts_with_is_prefix rs ks)
 
 -- the test of a row's first kind, and then of the others
-pub fits-both : (first : ℕ) (more ks : List ℕ) (result : Bool) → 0 < length ks
+pub fits_both : (first : ℕ) (more ks : List ℕ) (result : Bool) → 0 < length ks
     → first ≡ get_or ks 0 0 → result ≡ starts_with eqb (take (length ks - 1) (drop 1 ks)) more
     → result ≡ is_prefix (first ∷ more) ks
-fits-both first more [] result some same is = absurd (omega arith)
-fits-both first more (k ∷ ks) result some same is =
+fits_both first more [] result some same is = absurd (omega arith)
+fits_both first more (k ∷ ks) result some same is =
     is ∙ ap (λ rest. starts_with eqb rest more) (take_rest (k ∷ ks) 1)
-    ∙ starts_with-is_prefix more ks
+    ∙ starts_with_is_prefix more ks
     ∙ ap (λ (t : Bool). t && is_prefix more ks) (sym (eq-eqb first k same))
 
-pub found-first : (ks : List ℕ) (table : List Row) → 0 < length ks → Decide (get_or ks 0 0) table
+pub found_first : (ks : List ℕ) (table : List Row) → 0 < length ks → Decide (get_or ks 0 0) table
     → find (λ (row : Row). is_prefix row.0 ks) table ≡ longest rows ks
 unfolding Decide
-found-first [] table some h = absurd (omega arith)
-found-first (k ∷ ks) table some h = h ks
+found_first [] table some h = absurd (omega arith)
+found_first (k ∷ ks) table some h = h ks
 
--- the row at a place, where it fits and none before it does
-pub found-here : (rows_here : List table.Row) (i : ℕ) (d : table.Row) (ks : List ℕ)
+-- the row at an index, where it is a prefix and none before it is
+pub found_here : (rows_here : List table.Row) (i : ℕ) (d : table.Row) (ks : List ℕ)
     → i < length rows_here
     → find (λ (row : Row). is_prefix row.0 ks) (map row_of (drop i rows_here)) ≡ longest rows ks
     → is_prefix (row_of (get_or rows_here i d)).0 ks ≡ true
     → longest rows ks ≡ Some (row_of (get_or rows_here i d))
-found-here rows_here i d ks within so_far fits =
+found_here rows_here i d ks within so_far fits =
     let here : drop i rows_here ≡ get_or rows_here i d ∷ drop (suc i) rows_here =
     drop-cons rows_here i d within in
     sym so_far ∙ ap (λ rs. find (λ (row : Row). is_prefix row.0 ks) (map row_of rs)) here
@@ -63,38 +63,38 @@ named result ks row past number is = by result past number
     ∙ ap (option_map (λ (row : Row). row.1)) (sym is)
   where
     below : row.1 < 2068
-    below = subst IsKind is (IsKind-rows ks)
+    below = subst IsKind is (is_kind_rows ks)
 
     by : (r : Option ℕ) → (IsNone r ↔ (2068 ≤ row.1)) → IfSome r (λ kind. kind ≡ row.1)
         → r ≡ Some row.1
     by None p n = let over : 2068 ≤ row.1 = p.0 refl in absurd (omega (arith, below))
     by (Some k) p n = ap Some n
 
-some-longer : (t : Bool) (row : Row) (found : Option Row)
+some_longer : (t : Bool) (row : Row) (found : Option Row)
     → is_some (longer (cond t (Some row) None) found) ≡ (t || is_some found)
-some-longer false row found = refl
-some-longer true row None = refl
-some-longer true row (Some other) = by (nat_lt (length row.0) (length other.0))
+some_longer false row found = refl
+some_longer true row None = refl
+some_longer true row (Some other) = by (nat_lt (length row.0) (length other.0))
   where
     by : (b : Bool) → is_some (cond b (Some other) (Some row)) ≡ true
     by true = refl
     by false = refl
 
-some-longest : (table : List Row) (ks : List ℕ)
+some_longest : (table : List Row) (ks : List ℕ)
     → is_some (longest table ks) ≡ list_any (λ (row : Row). is_prefix row.0 ks) table
-some-longest [] ks = refl
-some-longest (row ∷ table) ks = some-longer (is_prefix row.0 ks) row (longest table ks)
-    ∙ ap (λ (b : Bool). is_prefix row.0 ks || b) (some-longest table ks)
+some_longest [] ks = refl
+some_longest (row ∷ table) ks = some_longer (is_prefix row.0 ks) row (longest table ks)
+    ∙ ap (λ (b : Bool). is_prefix row.0 ks || b) (some_longest table ks)
 
-some-node : (found : Option Row) → is_some (option_map (λ (row : Row). row.1) found) ≡ is_some found
-some-node None = refl
-some-node (Some row) = refl
+some_node : (found : Option Row) → is_some (option_map (λ (row : Row). row.1) found) ≡ is_some found
+some_node None = refl
+some_node (Some row) = refl
 
 -- there is no node exactly where no row fits
-pub none-opening : (result : Option ℕ) (ks : List ℕ) → result ≡ opening_of ks → IsNone result
+pub none_opening : (result : Option ℕ) (ks : List ℕ) → result ≡ opening_of ks → IsNone result
     ↔ (list_any (λ (row : Row). is_prefix row.0 (key ks)) rows ≡ false)
 unfolding opening_of
-none-opening result ks is =
+none_opening result ks is =
     let e : is_some result ≡ list_any (λ (row : Row). is_prefix row.0 (key ks)) rows = ap is_some is
-    ∙ some-node (longest rows (key ks)) ∙ some-longest rows (key ks) in
+    ∙ some_node (longest rows (key ks)) ∙ some_longest rows (key ks) in
     (λ h. sym e ∙ h, λ h. e ∙ h)

@@ -1,4 +1,4 @@
--- A core as a sequence of parts.
+-- A statement's kinds divide into plain kinds and groups, in exactly one way.
 use Rattle.std.proofs.lemmas.Bool.{eqb-true}
 use Rattle.std.proofs.lemmas.List.{append-nil}
 use Rattle.std.specs.Prelude.{if◌then◌else◌, ◌==◌, ◌||◌, ℕ, zero, suc, ◌≡◌, ◌&&◌, not, Bool, true, false, List, [], ◌∷◌, ◌++◌, refl}
@@ -48,11 +48,11 @@ close_step : (d : Division) (n : ℕ) (ks : List ℕ)
     → body_steps d (suc n) (R_PAREN ∷ ks) ≡ Token R_PAREN ∷ Exit ∷ body_steps d n ks
 close_step d n ks = rw is_close refl
 
--- closed parts give their steps, whatever follows
-pub core_closed : (d : Division) (n : ℕ) (ps : Parts) (ks : List ℕ) → are_parts d n ps ≡ true
+-- the steps of parts whose groups have their `)`, before any kinds
+pub closed_parts_steps : (d : Division) (n : ℕ) (ps : Parts) (ks : List ℕ) → are_parts d n ps ≡ true
     → all_closed ps ≡ true → body_steps d n (kinds_of ps ++ ks) ≡ steps_of ps ++ body_steps d n ks
-core_closed d n Done ks h c = refl
-core_closed d n (Plain kind rest) ks h c =
+closed_parts_steps d n Done ks h c = refl
+closed_parts_steps d n (Plain kind rest) ks h c =
     let a = split (is_plain n (role kind) && not (ends_statement d n (role kind)))
     (are_parts d n rest) h in
     let b = split (is_plain n (role kind)) (not (ends_statement d n (role kind))) a.0 in
@@ -60,29 +60,29 @@ core_closed d n (Plain kind rest) ks h c =
     (not_false (ends_statement d n (role kind)) b.1) in
     ap (λ xs. xs ++ body_steps d (groups_open_after d n (role kind)) (kinds_of rest ++ ks)) s.0
     ∙ ap (λ m. Token kind ∷ body_steps d m (kinds_of rest ++ ks)) s.1
-    ∙ ap (λ xs. Token kind ∷ xs) (core_closed d n rest ks a.1 c)
-core_closed d n (Closed inside rest) ks h c =
+    ∙ ap (λ xs. Token kind ∷ xs) (closed_parts_steps d n rest ks a.1 c)
+closed_parts_steps d n (Closed inside rest) ks h c =
     let a = split (are_parts d (suc n) inside && all_closed inside) (are_parts d n rest) h in
     let b = split (are_parts d (suc n) inside) (all_closed inside) a.0 in
     open_step d n ((kinds_of inside ++ R_PAREN ∷ kinds_of rest) ++ ks)
     ∙ ap (λ zs. Enter PAREN_EXPR ∷ Token L_PAREN
     ∷ body_steps d (suc n) zs) (append_assoc (kinds_of inside) (R_PAREN ∷ kinds_of rest) ks)
     ∙ ap (λ xs. Enter PAREN_EXPR ∷ Token L_PAREN
-    ∷ xs) (core_closed d (suc n) inside (R_PAREN ∷ kinds_of rest ++ ks) b.0 b.1
+    ∷ xs) (closed_parts_steps d (suc n) inside (R_PAREN ∷ kinds_of rest ++ ks) b.0 b.1
     ∙ ap (λ xs. steps_of inside ++ xs) (close_step d n (kinds_of rest ++ ks)
-    ∙ ap (λ xs. Token R_PAREN ∷ Exit ∷ xs) (core_closed d n rest ks a.1 c))
+    ∙ ap (λ xs. Token R_PAREN ∷ Exit ∷ xs) (closed_parts_steps d n rest ks a.1 c))
     ∙ sym (append_assoc (steps_of inside) (Token R_PAREN ∷ Exit
     ∷ steps_of rest) (body_steps d n ks)))
-core_closed d n (Unclosed inside) ks h c = absurd (cc)
+closed_parts_steps d n (Unclosed inside) ks h c = absurd (cc)
 
 exit_last : (n : ℕ) → Exit ∷ exits n ≡ exits (suc n)
 exit_last n = refl
 
--- a core's parts give its steps, and then all open groups end
-pub core_parts : (d : Division) (n : ℕ) (ps : Parts) → are_parts d n ps ≡ true
+-- the steps of parts, after which all open groups end
+pub parts_steps : (d : Division) (n : ℕ) (ps : Parts) → are_parts d n ps ≡ true
     → body_steps d n (kinds_of ps) ≡ steps_of ps ++ exits n
-core_parts d n Done h = refl
-core_parts d n (Plain kind rest) h =
+parts_steps d n Done h = refl
+parts_steps d n (Plain kind rest) h =
     let a = split (is_plain n (role kind) && not (ends_statement d n (role kind)))
     (are_parts d n rest) h in
     let b = split (is_plain n (role kind)) (not (ends_statement d n (role kind))) a.0 in
@@ -90,22 +90,22 @@ core_parts d n (Plain kind rest) h =
     (not_false (ends_statement d n (role kind)) b.1) in
     ap (λ xs. xs ++ body_steps d (groups_open_after d n (role kind)) (kinds_of rest)) s.0
     ∙ ap (λ m. Token kind ∷ body_steps d m (kinds_of rest)) s.1
-    ∙ ap (λ xs. Token kind ∷ xs) (core_parts d n rest a.1)
-core_parts d n (Closed inside rest) h =
+    ∙ ap (λ xs. Token kind ∷ xs) (parts_steps d n rest a.1)
+parts_steps d n (Closed inside rest) h =
     let a = split (are_parts d (suc n) inside && all_closed inside) (are_parts d n rest) h in
     let b = split (are_parts d (suc n) inside) (all_closed inside) a.0 in
     open_step d n (kinds_of inside ++ R_PAREN ∷ kinds_of rest)
     ∙ ap (λ xs. Enter PAREN_EXPR ∷ Token L_PAREN
-    ∷ xs) (core_closed d (suc n) inside (R_PAREN ∷ kinds_of rest) b.0 b.1
+    ∷ xs) (closed_parts_steps d (suc n) inside (R_PAREN ∷ kinds_of rest) b.0 b.1
     ∙ ap (λ xs. steps_of inside ++ xs) (close_step d n (kinds_of rest)
-    ∙ ap (λ xs. Token R_PAREN ∷ Exit ∷ xs) (core_parts d n rest a.1))
+    ∙ ap (λ xs. Token R_PAREN ∷ Exit ∷ xs) (parts_steps d n rest a.1))
     ∙ sym (append_assoc (steps_of inside) (Token R_PAREN ∷ Exit ∷ steps_of rest) (exits n)))
-core_parts d n (Unclosed inside) h =
+parts_steps d n (Unclosed inside) h =
     open_step d n (kinds_of inside)
-    ∙ ap (λ xs. Enter PAREN_EXPR ∷ Token L_PAREN ∷ xs) (core_parts d (suc n) inside h
+    ∙ ap (λ xs. Enter PAREN_EXPR ∷ Token L_PAREN ∷ xs) (parts_steps d (suc n) inside h
     ∙ sym (append_assoc (steps_of inside) (Exit ∷ []) (exits n)))
 
--- ---- every core has such parts
+-- ---- such a division exists
 
 -- the parts of the innermost open group up to its end, and then those of the groups around it
 data Stack : Type 0 where
@@ -283,10 +283,10 @@ divide_stacked d n (k ∷ ks) h =
         push_stacked d n k (divide n ks) (ap (is_plain n) is) goes
         (more n (ap (λ f. stays_open d (open_groups_after n f) ks) (sym is) ∙ rest))
 
-pub core_divides : (d : Division) (ks : List ℕ) → stays_open d 0 ks ≡ true → (ps : Parts)
+pub body_divides : (d : Division) (ks : List ℕ) → stays_open d 0 ks ≡ true → (ps : Parts)
     × (kinds_of ps ≡ ks) × (are_parts d 0 ps ≡ true) × (body_steps d 0 ks ≡ steps_of ps)
 unfolding stack_kinds are_stacked
-core_divides d ks h = by (divide 0 ks) (divide_kinds 0 ks) (divide_stacked d 0 ks h)
+body_divides d ks h = by (divide 0 ks) (divide_kinds 0 ks) (divide_stacked d 0 ks h)
   where
     by : (s : Stack) → stack_kinds s ≡ ks → are_stacked d 0 s ≡ true → (ps : Parts)
         × (kinds_of ps ≡ ks) × (are_parts d 0 ps ≡ true) × (body_steps d 0 ks ≡ steps_of ps)
@@ -295,11 +295,11 @@ core_divides d ks h = by (divide 0 ks) (divide_kinds 0 ks) (divide_stacked d 0 k
       kinds,
       parts,
       ap (body_steps d 0) (sym kinds)
-          ∙ core_parts d 0 p parts ∙ append-nil (steps_of p),
+          ∙ parts_steps d 0 p parts ∙ append-nil (steps_of p),
     )
     by (More p s) kinds parts = absurd (cc)
 
--- ---- and only one such sequence
+-- ---- there is only one
 
 close_in : Parts → Stack → Stack
 close_in p (Last q) = Last (Closed p q)
@@ -393,27 +393,27 @@ first_of_stack : Stack → Parts
 first_of_stack (Last p) = p
 first_of_stack (More p s) = p
 
-pub core_divides_once : (d : Division) (ps qs : Parts) → are_parts d 0 ps ≡ true
+pub division_is_unique : (d : Division) (ps qs : Parts) → are_parts d 0 ps ≡ true
     → are_parts d 0 qs ≡ true → kinds_of ps ≡ kinds_of qs → ps ≡ qs
 unfolding first_of_stack
-core_divides_once d ps qs h k same = ap first_of_stack (sym (divide_last d 0 ps h)
+division_is_unique d ps qs h k same = ap first_of_stack (sym (divide_last d 0 ps h)
     ∙ ap (divide 0) same ∙ divide_last d 0 qs k)
 
 -- ---- the closing token
 
--- the token that ends a statement stands behind all of its groups
-pub core_closing : (d : Division) (n : ℕ) (ks : List ℕ) (k : ℕ) → stays_open d n ks ≡ true
+-- the token that ends a statement stands after all of its groups
+pub ending_token_is_last : (d : Division) (n : ℕ) (ks : List ℕ) (k : ℕ) → stays_open d n ks ≡ true
     → ends_statement d (open_groups_after_all n ks) (role k) ≡ true
     → body_steps d n (ks ++ k ∷ []) ≡ body_steps d n ks ++ Token k ∷ []
-core_closing d n [] k h e = rw e (append-nil (exits n ++ Token k ∷ []))
-core_closing d n (j ∷ ks) k h e =
+ending_token_is_last d n [] k h e = rw e (append-nil (exits n ++ Token k ∷ []))
+ending_token_is_last d n (j ∷ ks) k h e =
     let a = split (not (ends_statement d n (role j)))
     (stays_open d (open_groups_after n (role j)) ks) h in
     let goes : groups_open_after d n (role j) ≡ open_groups_after n (role j) =
     rw (not_false (ends_statement d n (role j)) a.0) refl in
     ap (λ xs. kind_steps d n j ++ xs)
     (ap (λ m. body_steps d m (ks ++ k ∷ [])) goes
-    ∙ core_closing d (open_groups_after n (role j)) ks k a.1 e
+    ∙ ending_token_is_last d (open_groups_after n (role j)) ks k a.1 e
     ∙ ap (λ m. body_steps d m ks ++ Token k ∷ []) (sym goes))
     ∙ sym (append_assoc (kind_steps d n j) (body_steps d (groups_open_after d n (role j)) ks)
     (Token k ∷ []))

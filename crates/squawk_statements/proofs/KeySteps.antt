@@ -1,4 +1,4 @@
--- One more kind of the key.
+-- The key of a list of kinds, kind by kind.
 use Rattle.std.proofs.Common.{◌≡◌, ℕ, zero, suc, ◌+◌, ◌<◌, ◌≤◌, ◌==◌, Bool, true, false, cond, ◌&&◌, ◌||◌, nat_le, List, [], ◌∷◌, ◌++◌, length, take, drop, set, get_or, drop-cons, add-one, ap, refl, sym, ◌∙◌, append_assoc, arith, le_of_suc-le-suc}
 use Rattle.std.proofs.lemmas.Bool.{and_parts, leb-true}
 use Rattle.std.proofs.lemmas.List.{append-nil, take_all}
@@ -10,21 +10,21 @@ use Rattle.squawk_events.specs.Kinds.{is_trivia_kind}
 use Rattle.squawk_statements.specs.Opening.{Row, rows, other_rows, create_rows, alter_rows, drop_rows, is_prefix, is_modifier, longer, longest}
 use Rattle.squawk_statements.specs.Rows.{kinds_read, key_after, is_skipped_modifier, is_skipped}
 
--- a kind that is read
-read-one : (past : Bool) (k : ℕ) (ks : List ℕ) → (past && is_trivia_kind k) ≡ false
+-- a kind that is read comes first in what is read
+read_one : (past : Bool) (k : ℕ) (ks : List ℕ) → (past && is_trivia_kind k) ≡ false
     → kinds_read past (k ∷ ks) ≡ k ∷ kinds_read past ks
-read-one false k ks h = refl
-read-one true k ks h = rw h refl
+read_one false k ks h = refl
+read_one true k ks h = rw h refl
 
-read-none : (past : Bool) → kinds_read past [] ≡ []
-read-none true = refl
-read-none false = refl
+read_none : (past : Bool) → kinds_read past [] ≡ []
+read_none true = refl
+read_none false = refl
 
--- a kind that is not
-read-past : (past : Bool) (k : ℕ) (ks : List ℕ) → (past && is_trivia_kind k) ≡ true
+-- a kind that is not read changes nothing
+read_past : (past : Bool) (k : ℕ) (ks : List ℕ) → (past && is_trivia_kind k) ≡ true
     → kinds_read past (k ∷ ks) ≡ kinds_read past ks
-read-past false k ks h = cc
-read-past true k ks h = rw h refl
+read_past false k ks h = cc
+read_past true k ks h = rw h refl
 
 left_out : (c k : ℕ) (ks : List ℕ) → (c == kind.CREATE_KW && is_modifier k) ≡ true
     → key_after (c ∷ []) (k ∷ ks) ≡ key_after (c ∷ []) ks
@@ -50,41 +50,41 @@ kept_in c k ks h = by (c == kind.CREATE_KW) (is_modifier k) h
     by true false x = refl
     by false b x = refl
 
-passed_modifier : (so_far : List ℕ) (k : ℕ) (ks : List ℕ) → is_skipped_modifier so_far k ≡ true
+skipped_modifier : (so_far : List ℕ) (k : ℕ) (ks : List ℕ) → is_skipped_modifier so_far k ≡ true
     → key_after so_far (k ∷ ks) ≡ key_after so_far ks
-passed_modifier [] k ks h = cc
-passed_modifier (c ∷ []) k ks h = left_out c k ks h
-passed_modifier (c ∷ d ∷ so_far) k ks h = cc
+skipped_modifier [] k ks h = cc
+skipped_modifier (c ∷ []) k ks h = left_out c k ks h
+skipped_modifier (c ∷ d ∷ so_far) k ks h = cc
 
--- a kind that is passed over
-pub passed : (past : Bool) (so_far : List ℕ) (k : ℕ) (ks : List ℕ) → is_skipped past so_far k ≡ true
+-- a kind that the key leaves out
+pub skipped : (past : Bool) (so_far : List ℕ) (k : ℕ) (ks : List ℕ) → is_skipped past so_far k ≡ true
     → key_after so_far (kinds_read past (k ∷ ks)) ≡ key_after so_far (kinds_read past ks)
-passed past so_far k ks h = by (past && is_trivia_kind k) refl
+skipped past so_far k ks h = by (past && is_trivia_kind k) refl
   where
     by : (t : Bool) → (past && is_trivia_kind k) ≡ t
         → key_after so_far (kinds_read past (k ∷ ks)) ≡ key_after so_far (kinds_read past ks)
-    by true is = ap (key_after so_far) (read-past past k ks is)
-    by false is = ap (key_after so_far) (read-one past k ks is)
-        ∙ passed_modifier so_far k (kinds_read past ks)
+    by true is = ap (key_after so_far) (read_past past k ks is)
+    by false is = ap (key_after so_far) (read_one past k ks is)
+        ∙ skipped_modifier so_far k (kinds_read past ks)
         (other (past && is_trivia_kind k) (is_skipped_modifier so_far k) is h)
       where
         other : (a b : Bool) → a ≡ false → (a || b) ≡ true → b ≡ true
         other a b x y = cc
 
-taken_on : (so_far : List ℕ) (k : ℕ) (ks : List ℕ) → is_skipped_modifier so_far k ≡ false
+kept_on : (so_far : List ℕ) (k : ℕ) (ks : List ℕ) → is_skipped_modifier so_far k ≡ false
     → so_far ++ key_after so_far (k ∷ ks) ≡ (so_far ++ k ∷ []) ++ key_after (so_far ++ k ∷ []) ks
-taken_on [] k ks h = refl
-taken_on (c ∷ []) k ks h = ap (λ xs. c ∷ xs) (kept_in c k ks h)
-taken_on (c ∷ d ∷ so_far) k ks h = ap (λ xs. c ∷ d ∷ xs) (sym (append_assoc so_far (k ∷ []) ks))
+kept_on [] k ks h = refl
+kept_on (c ∷ []) k ks h = ap (λ xs. c ∷ xs) (kept_in c k ks h)
+kept_on (c ∷ d ∷ so_far) k ks h = ap (λ xs. c ∷ d ∷ xs) (sym (append_assoc so_far (k ∷ []) ks))
 
--- a kind that is one of the key
-pub taken : (past : Bool) (so_far : List ℕ) (k : ℕ) (ks : List ℕ) → is_skipped past so_far k ≡ false
+-- a kind that the key keeps
+pub kept : (past : Bool) (so_far : List ℕ) (k : ℕ) (ks : List ℕ) → is_skipped past so_far k ≡ false
     → so_far ++ key_after so_far (kinds_read past (k ∷ ks))
     ≡ (so_far ++ k ∷ []) ++ key_after (so_far ++ k ∷ []) (kinds_read past ks)
-taken past so_far k ks h =
-    ap (λ xs. so_far ++ key_after so_far xs) (read-one past k ks
+kept past so_far k ks h =
+    ap (λ xs. so_far ++ key_after so_far xs) (read_one past k ks
     (first (past && is_trivia_kind k) (is_skipped_modifier so_far k) h))
-    ∙ taken_on so_far k (kinds_read past ks) (second (past
+    ∙ kept_on so_far k (kinds_read past ks) (second (past
     && is_trivia_kind k) (is_skipped_modifier so_far k) h)
   where
     first : (a b : Bool) → (a || b) ≡ false → a ≡ false
@@ -99,45 +99,45 @@ same : (t : Bool) (xs : List ℕ) → cond t xs xs ≡ xs
 same true xs = refl
 same false xs = refl
 
--- behind the last kind
-pub nothing_behind : (past : Bool) (so_far : List ℕ)
+-- after the last kind the key is whole
+pub none_left : (past : Bool) (so_far : List ℕ)
     → so_far ++ key_after so_far (kinds_read past []) ≡ so_far
-nothing_behind past so_far = ap (λ xs. so_far ++ key_after so_far xs) (read-none past) ∙ by so_far
+none_left past so_far = ap (λ xs. so_far ++ key_after so_far xs) (read_none past) ∙ by so_far
   where
     by : (xs : List ℕ) → xs ++ key_after xs [] ≡ xs
     by [] = refl
     by (c ∷ []) = ap (λ ys. c ∷ ys) (same (c == kind.CREATE_KW) [])
     by (c ∷ d ∷ xs) = append-nil (c ∷ d ∷ xs)
 
-is_prefix-take : (n : ℕ) (row ks : List ℕ) → length row ≤ n
+is_prefix_take : (n : ℕ) (row ks : List ℕ) → length row ≤ n
     → is_prefix row (take n ks) ≡ is_prefix row ks
-is_prefix-take n [] ks h = refl
-is_prefix-take zero (r ∷ row) ks h = absurd (omega arith)
-is_prefix-take (suc n) (r ∷ row) [] h = refl
-is_prefix-take (suc n) (r ∷ row) (k ∷ ks) h =
-    ap (λ (t : Bool). r == k && t) (is_prefix-take n row ks (le_of_suc-le-suc h))
+is_prefix_take n [] ks h = refl
+is_prefix_take zero (r ∷ row) ks h = absurd (omega arith)
+is_prefix_take (suc n) (r ∷ row) [] h = refl
+is_prefix_take (suc n) (r ∷ row) (k ∷ ks) h =
+    ap (λ (t : Bool). r == k && t) (is_prefix_take n row ks (le_of_suc-le-suc h))
 
-longest-take : (n : ℕ) (table : List Row) (ks : List ℕ)
+longest_take : (n : ℕ) (table : List Row) (ks : List ℕ)
     → list_all (λ (row : Row). nat_le (length row.0) n) table ≡ true
     → longest table (take n ks) ≡ longest table ks
-longest-take n [] ks h = refl
-longest-take n (row ∷ table) ks h =
+longest_take n [] ks h = refl
+longest_take n (row ∷ table) ks h =
     let p = and_parts (nat_le (length row.0) n) (list_all (λ (row : Row).
     nat_le (length row.0) n) table) h in
     ap (λ t. longer (cond t (Some row) None) (longest table (take n ks)))
-    (is_prefix-take n row.0 ks (leb-true (length row.0) n p.0))
-    ∙ ap (longer (cond (is_prefix row.0 ks) (Some row) None)) (longest-take n table ks p.1)
+    (is_prefix_take n row.0 ks (leb-true (length row.0) n p.0))
+    ∙ ap (longer (cond (is_prefix row.0 ks) (Some row) None)) (longest_take n table ks p.1)
 
 -- no row has more than four kinds
-pub longest-four : (ks : List ℕ) → longest rows (take 4 ks) ≡ longest rows ks
+pub longest_four : (ks : List ℕ) → longest rows (take 4 ks) ≡ longest rows ks
 unfolding rows other_rows create_rows alter_rows drop_rows
-longest-four ks = longest-take 4 rows ks refl
+longest_four ks = longest_take 4 rows ks refl
 
--- the loop's end, and its early one
+-- the key at the end of the loop, and where it has four kinds
 pub key_end : (past : Bool) (so_far all : List ℕ) (whole : List ℕ) → length so_far ≤ 4 → all ≡ []
     → so_far ++ key_after so_far (kinds_read past all) ≡ whole → so_far ≡ take 4 whole
 key_end past so_far all whole le none h =
-    let e : so_far ≡ whole = sym (nothing_behind past so_far)
+    let e : so_far ≡ whole = sym (none_left past so_far)
     ∙ ap (λ xs. so_far ++ key_after so_far (kinds_read past xs)) (sym none) ∙ h in
     sym (take_all 4 so_far le) ∙ ap (take 4) e
 
@@ -146,29 +146,29 @@ pub key_full : (so_far behind whole : List ℕ) → length so_far ≡ 4 → so_f
 key_full so_far behind whole size h =
     sym (take-append_seam so_far behind) ∙ ap (λ n. take n (so_far ++ behind)) size ∙ ap (take 4) h
 
--- one step of the loop, where the kind is passed over
-pub more_passed : (past : Bool) (kinds : List ℕ) (i k d : ℕ) (so_far whole : List ℕ)
+-- one step of the loop, where the key leaves out the kind
+pub key_step_skipped : (past : Bool) (kinds : List ℕ) (i k d : ℕ) (so_far whole : List ℕ)
     → i < length kinds → k ≡ get_or kinds i d → is_skipped past so_far k ≡ true
     → so_far ++ key_after so_far (kinds_read past (drop i kinds)) ≡ whole
     → so_far ++ key_after so_far (kinds_read past (drop (i + 1) kinds)) ≡ whole
-more_passed past kinds i k d so_far whole within is pass h =
+key_step_skipped past kinds i k d so_far whole within is pass h =
     let here : drop i kinds ≡ k ∷ drop (i + 1) kinds = rw (is, add-one) (drop-cons kinds i d within)
     in
-    ap (λ xs. so_far ++ xs) (sym (passed past so_far k (drop (i + 1) kinds) pass))
+    ap (λ xs. so_far ++ xs) (sym (skipped past so_far k (drop (i + 1) kinds) pass))
     ∙ ap (λ xs. so_far ++ key_after so_far (kinds_read past xs)) (sym here) ∙ h
 
--- and where it is taken
-pub more_taken : (past : Bool) (kinds : List ℕ) (i k d : ℕ) (buffer : List ℕ) (n : ℕ)
+-- and where the key keeps it
+pub key_step_kept : (past : Bool) (kinds : List ℕ) (i k d : ℕ) (buffer : List ℕ) (n : ℕ)
     (whole : List ℕ) → i < length kinds → k ≡ get_or kinds i d → n < length buffer
     → is_skipped past (take n buffer) k ≡ false
     → take n buffer ++ key_after (take n buffer) (kinds_read past (drop i kinds)) ≡ whole
     → take (n + 1) (set buffer n k)
     ++ key_after (take (n + 1) (set buffer n k)) (kinds_read past (drop (i + 1) kinds)) ≡ whole
-more_taken past kinds i k d buffer n whole within is room pass h =
+key_step_kept past kinds i k d buffer n whole within is room pass h =
     let here : drop i kinds ≡ k ∷ drop (i + 1) kinds = rw (is, add-one) (drop-cons kinds i d within)
     in
     let made : take (n + 1) (set buffer n k) ≡ take n buffer ++ k ∷ [] =
     rw add-one (take-suc-set buffer n k room) in
     ap (λ xs. xs ++ key_after xs (kinds_read past (drop (i + 1) kinds))) made
-    ∙ sym (taken past (take n buffer) k (drop (i + 1) kinds) pass)
+    ∙ sym (kept past (take n buffer) k (drop (i + 1) kinds) pass)
     ∙ ap (λ xs. take n buffer ++ key_after (take n buffer) (kinds_read past xs)) (sym here) ∙ h

@@ -8,3 +8,4 @@ mod PartsLemmas
 mod Groups
 mod WorkedRows
 mod LongestLaw
+mod EndLaws

@@ -7,16 +7,16 @@ use Rattle.std.specs.Prelude.{Option, Some, None}
 use Rattle.squawk_statements.specs.Opening.{Row, is_prefix, longer, longest}
 
 -- of two lists that a third begins with, the longer begins with the shorter
-is_prefix-longer : (a b ks : List ℕ) → is_prefix a ks ≡ true → is_prefix b ks ≡ true
+is_prefix_longer : (a b ks : List ℕ) → is_prefix a ks ≡ true → is_prefix b ks ≡ true
     → length a ≤ length b → is_prefix a b ≡ true
-is_prefix-longer [] b ks h k le = refl
-is_prefix-longer (x ∷ a) [] ks h k le = absurd (omega arith)
-is_prefix-longer (x ∷ a) (y ∷ b) [] h k le = cc
-is_prefix-longer (x ∷ a) (y ∷ b) (c ∷ ks) h k le =
+is_prefix_longer [] b ks h k le = refl
+is_prefix_longer (x ∷ a) [] ks h k le = absurd (omega arith)
+is_prefix_longer (x ∷ a) (y ∷ b) [] h k le = cc
+is_prefix_longer (x ∷ a) (y ∷ b) (c ∷ ks) h k le =
     let p = and_parts (x == c) (is_prefix a ks) h in
     let q = and_parts (y == c) (is_prefix b ks) k in
     and_from (x == y) (is_prefix a b) (eq-eqb x y (eqb-true x c p.0
-    ∙ sym (eqb-true y c q.0))) (is_prefix-longer a b ks p.1 q.1 (le_of_suc-le-suc le))
+    ∙ sym (eqb-true y c q.0))) (is_prefix_longer a b ks p.1 q.1 (le_of_suc-le-suc le))
 
 -- no row of a list is longer than this one and begins with it
 unfoldable pub is_first : Row → List Row → Bool
@@ -34,64 +34,64 @@ IsWithin : ℕ → Option Row → Type 0
 IsWithin n None = Unit {0}
 IsWithin n (Some row) = length row.0 ≤ n
 
-within-longer : (n : ℕ) (a b : Option Row) → IsWithin n a → IsWithin n b → IsWithin n (longer a b)
+within_longer : (n : ℕ) (a b : Option Row) → IsWithin n a → IsWithin n b → IsWithin n (longer a b)
 unfolding IsWithin
-within-longer n None b h k = k
-within-longer n (Some row) None h k = h
-within-longer n (Some row) (Some other) h k = by (nat_lt (length row.0) (length other.0))
+within_longer n None b h k = k
+within_longer n (Some row) None h k = h
+within_longer n (Some row) (Some other) h k = by (nat_lt (length row.0) (length other.0))
   where
     by : (t : Bool) → IsWithin n (cond t (Some other) (Some row))
     by true = k
     by false = h
 
--- a row that fits, and that no longer one behind it begins with
-within-one : (row other : Row) (ks : List ℕ)
+-- a row that is a prefix, where no longer row after it begins with it
+within_one : (row other : Row) (ks : List ℕ)
     → not (is_prefix row.0 other.0 && nat_lt (length row.0) (length other.0)) ≡ true
     → is_prefix row.0 ks ≡ true
     → is_prefix other.0 ks ≡ true → length other.0 ≤ length row.0
-within-one row other ks first h k = by (nat_lt (length row.0) (length other.0)) refl
+within_one row other ks first h k = by (nat_lt (length row.0) (length other.0)) refl
   where
     by : (t : Bool) → nat_lt (length row.0) (length other.0) ≡ t → length other.0 ≤ length row.0
     by false is = ltb-false (length row.0) (length other.0) is
     by true is =
         let less = ltb-true (length row.0) (length other.0) is in
-        let same = is_prefix-longer row.0 other.0 ks h k (omega arith) in
+        let same = is_prefix_longer row.0 other.0 ks h k (omega arith) in
         absurd (no (is_prefix row.0 other.0) (nat_lt (length row.0) (length other.0)) same is first)
       where
         no : (a b : Bool) → a ≡ true → b ≡ true → not (a && b) ≡ true → ⊥
         no a b x y z = cc
 
-within-longest : (row : Row) (rows : List Row) (ks : List ℕ) → is_first row rows ≡ true
+within_longest : (row : Row) (rows : List Row) (ks : List ℕ) → is_first row rows ≡ true
     → is_prefix row.0 ks ≡ true → IsWithin (length row.0) (longest rows ks)
 unfolding IsWithin is_first
-within-longest row [] ks first h = tt
-within-longest row (other ∷ rows) ks first h =
+within_longest row [] ks first h = tt
+within_longest row (other ∷ rows) ks first h =
     let p = and_parts (not (is_prefix row.0 other.0 && nat_lt (length row.0) (length other.0)))
     (is_first row rows) first in
-    within-longer (length row.0) (cond (is_prefix other.0 ks) (Some other) None) (longest rows ks)
-    (by (is_prefix other.0 ks) (within-one row other ks p.0 h))
-    (within-longest row rows ks p.1 h)
+    within_longer (length row.0) (cond (is_prefix other.0 ks) (Some other) None) (longest rows ks)
+    (by (is_prefix other.0 ks) (within_one row other ks p.0 h))
+    (within_longest row rows ks p.1 h)
   where
     by : (t : Bool) → (t ≡ true → length other.0 ≤ length row.0)
         → IsWithin (length row.0) (cond t (Some other) None)
     by true k = k refl
     by false k = tt
 
-longer-first : (row : Row) (found : Option Row) → IsWithin (length row.0) found
+longer_first : (row : Row) (found : Option Row) → IsWithin (length row.0) found
     → longer (Some row) found ≡ Some row
 unfolding IsWithin
-longer-first row None h = refl
-longer-first row (Some other) h = rw (le-ltb (length row.0) (length other.0) h) refl
+longer_first row None h = refl
+longer_first row (Some other) h = rw (le-ltb (length row.0) (length other.0) h) refl
 
-pub find-longest : (rows : List Row) (ks : List ℕ) → are_ordered rows ≡ true
+pub find_longest : (rows : List Row) (ks : List ℕ) → are_ordered rows ≡ true
     → find (λ (row : Row). is_prefix row.0 ks) rows ≡ longest rows ks
 unfolding are_ordered
-find-longest [] ks h = refl
-find-longest (row ∷ rows) ks h =
+find_longest [] ks h = refl
+find_longest (row ∷ rows) ks h =
     let p = and_parts (is_first row rows) (are_ordered rows) h in
     by (is_prefix row.0 ks) (λ fits.
-    sym (longer-first row (longest rows ks) (within-longest row rows ks p.0 fits)))
-    (find-longest rows ks p.1)
+    sym (longer_first row (longest rows ks) (within_longest row rows ks p.0 fits)))
+    (find_longest rows ks p.1)
   where
     by : (t : Bool) → (t ≡ true → Some row ≡ longer (Some row) (longest rows ks))
         → find (λ (row : Row). is_prefix row.0 ks) rows ≡ longest rows ks
@@ -101,12 +101,12 @@ find-longest (row ∷ rows) ks h =
     by false here rest = rest
 
 -- rows that do not fit may be left out
-pub longest-filter : (test : Row → Bool) (ks : List ℕ)
+pub longest_filter : (test : Row → Bool) (ks : List ℕ)
     → ((row : Row) → is_prefix row.0 ks ≡ true → test row ≡ true) → (rows : List Row)
     → longest (filter test rows) ks ≡ longest rows ks
-longest-filter test ks all [] = refl
-longest-filter test ks all (row ∷ rows) =
-    by (is_prefix row.0 ks) refl (test row) refl (longest-filter test ks all rows)
+longest_filter test ks all [] = refl
+longest_filter test ks all (row ∷ rows) =
+    by (is_prefix row.0 ks) refl (test row) refl (longest_filter test ks all rows)
   where
     by : (fits : Bool) → is_prefix row.0 ks ≡ fits → (t : Bool) → test row ≡ t
         → longest (filter test rows) ks ≡ longest rows ks

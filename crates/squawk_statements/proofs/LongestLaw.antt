@@ -16,18 +16,18 @@ Found : List Row → List ℕ → Option Row → Type 0
 Found table ks None = All (Fails ks) table
 Found table ks (Some row) = IsLongest table ks row
 
-contains-later : (r row : Row) (table : List Row) → Contains table row → Contains (r ∷ table) row
-contains-later r row table (k, within, is) = (suc k, omega arith, is)
+contains_later : (r row : Row) (table : List Row) → Contains table row → Contains (r ∷ table) row
+contains_later r row table (k, within, is) = (suc k, omega arith, is)
 
-contains-first : (r : Row) (table : List Row) → Contains (r ∷ table) r
-contains-first r table = (0, omega arith, refl)
+contains_first : (r : Row) (table : List Row) → Contains (r ∷ table) r
+contains_first r table = (0, omega arith, refl)
 
 clash : {P : Type 0} (b : Bool) → b ≡ false → b ≡ true → P
 clash b h k = absurd (let e : true ≡ false = sym k ∙ h in cc)
 
-fails-most : (ks : List ℕ) (n : ℕ) (other : Row) → Fails ks other → AtMost ks n other
+fails_most : (ks : List ℕ) (n : ℕ) (other : Row) → Fails ks other → AtMost ks n other
 unfolding Fails AtMost
-fails-most ks n other h = λ k. clash (is_prefix other.0 ks) h k
+fails_most ks n other h = λ k. clash (is_prefix other.0 ks) h k
 
 step : (r : Row) (table : List Row) (ks : List ℕ) (t : Bool) (rest : Option Row)
     → is_prefix r.0 ks ≡ t → Found table ks rest
@@ -35,16 +35,16 @@ step : (r : Row) (table : List Row) (ks : List ℕ) (t : Bool) (rest : Option Ro
 unfolding Found Fails AtMost
 step r table ks false None is h = All-cons (Fails ks) r table is h
 step r table ks false (Some row) is h = record {
-  listed = contains-later r row table h.listed;
+  listed = contains_later r row table h.listed;
   fits = h.fits;
-  longest = All-cons (AtMost ks (length row.0)) r table (fails-most ks (length row.0) r is)
+  longest = All-cons (AtMost ks (length row.0)) r table (fails_most ks (length row.0) r is)
       h.longest;
 }
 step r table ks true None is h = record {
-  listed = contains-first r table;
+  listed = contains_first r table;
   fits = is;
   longest = All-cons (AtMost ks (length r.0)) r table (λ k.
-      omega arith) (All-weaker (Fails ks) (AtMost ks (length r.0)) (fails-most ks (length r.0))
+      omega arith) (All-weaker (Fails ks) (AtMost ks (length r.0)) (fails_most ks (length r.0))
       table h);
 }
 step r table ks true (Some row) is h = by (nat_lt (length r.0) (length row.0)) refl
@@ -54,14 +54,14 @@ step r table ks true (Some row) is h = by (nat_lt (length r.0) (length row.0)) r
     by true less =
         let smaller = ltb-true (length r.0) (length row.0) less in
         record {
-          listed = contains-later r row table h.listed;
+          listed = contains_later r row table h.listed;
           fits = h.fits;
           longest = All-cons (AtMost ks (length row.0)) r table (λ k. omega arith) h.longest;
         }
     by false less =
         let larger = ltb-false (length r.0) (length row.0) less in
         record {
-          listed = contains-first r table;
+          listed = contains_first r table;
           fits = is;
           longest = All-cons (AtMost ks (length r.0)) r table (λ k. omega arith)
               (All-weaker (AtMost ks (length row.0)) (AtMost ks (length r.0)) (λ other small k.

@@ -1,5 +1,5 @@
 -- The first child of the root, and its node.
-use Rattle.std.specs.Prelude.{ℕ, ◌+◌, List, [], ◌∷◌, map, take, Option, Some, None}
+use Rattle.std.specs.Prelude.{ℕ, List, [], ◌∷◌, map, take, Option, Some, None}
 use Rattle.squawk_kinds.specs.declared.numbers.TheConstants.Number as kind
 use Rattle.squawk_kinds.specs.Role.{Role, Trivia, Semicolon, Terminator, Command, Open, Close, Other}
 use Rattle.squawk_statements.specs.Children.{first_child}
@@ -9,7 +9,7 @@ use Rattle.squawk_statements.specs.Opening.{statement_node}
 use Rattle.squawk_statements.specs.declared.division.Division.{Division}
 use Rattle.squawk_statements.specs.declared.first.ChildShape.{ChildShape}
 
--- the node of a child whose kinds that are no trivia are these, and whose first kind has this role
+-- the node of a child by the role of its first kind and by its kinds without trivia
 abbrev pub node_by : Role → List ℕ → Option ℕ
 node_by Trivia ks = None
 node_by Semicolon ks = Some kind.EMPTY_STMT
@@ -19,15 +19,15 @@ node_by Open ks = Some (statement_node ks)
 node_by Close ks = Some (statement_node ks)
 node_by Other ks = Some (statement_node ks)
 
--- the node of a child of these kinds, trivia among them; none for a leaf
+-- the node of a child of these kinds, trivia included; none for a leaf
 abbrev pub child_node : List ℕ → Option ℕ
 child_node [] = None
 child_node (k ∷ ks) = node_by (role k) (without_trivia (k ∷ ks))
 
--- the first child of a list of kinds, trivia among them
+-- the shape of the first child of a list of kinds, trivia included
 abbrev pub first_shape : Division → List ℕ → ChildShape
 first_shape division kinds = let child = first_child division (map role kinds) in record {
-  tokens = child.more + 1;
-  node = child_node (take (child.more + 1) kinds);
+  tokens = child.tokens;
+  node = child_node (take child.tokens kinds);
   closed = child.closed;
 }

@@ -1,4 +1,4 @@
--- A core as a sequence of parts: a kind by itself, or a group.
+-- The tokens of a statement before the one that ends it, as a sequence of plain kinds and groups.
 use Rattle.std.specs.Prelude.{ℕ, zero, suc, ◌&&◌, not, Bool, true, false, List, [], ◌∷◌, ◌++◌}
 use Rattle.squawk_events.specs.declared.steps.Step.{Step}
 use Rattle.squawk_events.specs.declared.steps.Step.TheVariants.{Enter, Token, Exit}
@@ -8,7 +8,8 @@ use Rattle.squawk_statements.specs.Children.{ends_statement, open_groups_after}
 use Rattle.squawk_kinds.specs.Role.{role}
 use Rattle.squawk_statements.specs.declared.division.Division.{Division}
 
--- no part, or a plain kind or a group and the parts behind it
+-- no part; or a plain kind, or a group with its `)`, and the parts after it; or a group without a
+-- `)`, which extends to the end
 pub data Parts : Type 0 where
   Done : Parts
   Plain : ℕ → Parts → Parts
@@ -28,7 +29,8 @@ steps_of (Closed inside rest) = Enter PAREN_EXPR ∷ Token L_PAREN ∷ steps_of 
     ∷ Exit ∷ steps_of rest
 steps_of (Unclosed inside) = Enter PAREN_EXPR ∷ Token L_PAREN ∷ steps_of inside ++ Exit ∷ []
 
--- a closing parenthesis is a plain kind exactly outside all groups
+-- whether a kind of this role may be a plain kind inside n groups: `)` is one exactly outside all
+-- groups, and `(` never is
 abbrev pub is_plain : ℕ → Role → Bool
 is_plain n Trivia = true
 is_plain n Semicolon = true
@@ -45,8 +47,8 @@ all_closed (Plain kind rest) = all_closed rest
 all_closed (Closed inside rest) = all_closed rest
 all_closed (Unclosed inside) = false
 
--- the parts of a core inside n groups: no kind ends the statement, and a group that is closed holds
--- none that is not
+-- whether these are parts of a statement inside n groups: no kind ends the statement, and a group
+-- with its `)` holds no group without one
 abbrev pub are_parts : Division → ℕ → Parts → Bool
 are_parts d n Done = true
 are_parts d n (Plain kind rest) = (is_plain n (role kind) && not (ends_statement d n (role kind)))
@@ -55,13 +57,13 @@ are_parts d n (Closed inside rest) = (are_parts d (suc n) inside && all_closed i
     && are_parts d n rest
 are_parts d n (Unclosed inside) = are_parts d (suc n) inside
 
--- no kind ends the statement in which n groups are open
+-- whether no kind ends the statement, where n groups are open before these kinds
 abbrev pub stays_open : Division → ℕ → List ℕ → Bool
 stays_open d n [] = true
 stays_open d n (k ∷ ks) = not (ends_statement d n (role k))
     && stays_open d (open_groups_after n (role k)) ks
 
--- how many groups are open behind some kinds
+-- the number of open groups after these kinds, where n are open before them
 abbrev pub open_groups_after_all : ℕ → List ℕ → ℕ
 open_groups_after_all n [] = n
 open_groups_after_all n (k ∷ ks) = open_groups_after_all (open_groups_after n (role k)) ks

@@ -279,7 +279,7 @@ modifiers =
 unfoldable pub is_modifier : ℕ → Bool
 is_modifier k = list_any (λ m. k == m) modifiers
 
--- the kinds without the longest run of modifiers behind a first `CREATE`
+-- the kinds that decide: without the longest run of modifiers after a first `CREATE`
 abbrev pub key : List ℕ → List ℕ
 key [] = []
 key (k ∷ ks) = k ∷ (if k == kind.CREATE_KW then drop (prefix_len is_modifier ks) ks else ks)
@@ -303,10 +303,10 @@ longest [] ks = None
 longest (row ∷ others) ks = longer (if is_prefix row.0 ks then Some row
     else None) (longest others ks)
 
--- the node of a statement of these kinds, trivia left out; none, where no row fits
+-- the node of a statement of these kinds, without trivia; none where no row is a prefix of its key
 unfoldable pub opening_of : List ℕ → Option ℕ
 opening_of ks = option_map (λ (row : Row). row.1) (longest rows (key ks))
 
--- the node of a statement
+-- the same, and `ERROR` where there is none
 abbrev pub statement_node : List ℕ → ℕ
 statement_node ks = unwrap_or (opening_of ks) kind.ERROR

@@ -14,7 +14,7 @@ abbrev pub node_of : List ℕ → ℕ
 node_of [] = ERROR
 node_of (kind ∷ kinds) = unwrap_or (node_by (role kind) (kind ∷ kinds)) ERROR
 
--- before a kind's token in a group
+-- the steps before the token of this role: a group begins with its `(`
 abbrev pub enters_before : Role → List Step
 enters_before Open = Enter PAREN_EXPR ∷ []
 enters_before Trivia = []
@@ -24,7 +24,7 @@ enters_before Command = []
 enters_before Close = []
 enters_before Other = []
 
--- behind a kind's token, where n groups are open before it
+-- the steps after a token of this role, where n groups are open before it: a group ends with its `)`
 abbrev pub exits_after : ℕ → Role → List Step
 exits_after n Trivia = []
 exits_after n Semicolon = []
@@ -35,28 +35,30 @@ exits_after zero Close = []
 exits_after (suc n) Close = Exit ∷ []
 exits_after n Other = []
 
+-- n groups end
 abbrev pub exits : ℕ → List Step
 exits zero = []
 exits (suc n) = Exit ∷ exits n
 
--- the steps of a kind of a child, where n groups are open before it: where the child closes, they
--- end
+-- the steps of a token of a child, where n groups are open before it; the token that ends a
+-- statement stands after all groups
 abbrev pub kind_steps : Division → ℕ → ℕ → List Step
 kind_steps d n kind =
     if ends_statement d n (role kind) then exits n ++ Token kind ∷ []
     else enters_before (role kind) ++ Token kind ∷ exits_after n (role kind)
 
--- how many groups are open behind a role
+-- the number of open groups after a token of this role, where n are open before it
 abbrev pub groups_open_after : Division → ℕ → Role → ℕ
 groups_open_after d n f = if ends_statement d n f then 0 else open_groups_after n f
 
--- The steps of the kinds of a child from here on, where n groups are open. Where its kinds end, all
--- open groups end.
+-- the steps of the tokens of a child, where n groups are open before them; groups that are still
+-- open at the end of the child end there
 abbrev pub body_steps : Division → ℕ → List ℕ → List Step
 body_steps d n [] = exits n
 body_steps d n (kind ∷ kinds) = kind_steps d n kind
     ++ body_steps d (groups_open_after d n (role kind)) kinds
 
+-- an `ERROR` statement begins with the error of an unknown statement
 abbrev pub unknown_statement_error : ℕ → List Step
 unknown_statement_error node = if node == ERROR then Error 10 ∷ [] else []
 

@@ -1,15 +1,16 @@
--- The steps of a list of kinds are a tree of them.
-use Rattle.std.specs.Prelude.{◌≡◌, ℕ, zero, suc, ◌==◌, Bool, true, false, IsTrue, List, [], ◌∷◌, ◌++◌, take, drop, refl, if◌then◌else◌}
-use Rattle.std.proofs.Common.{ap, sym, ◌∙◌, append_assoc}
+-- The steps of a list of kinds are lawful: balanced, with these kinds as their tokens. A law of the
+-- trait `Grammar` may cite definitions alone, so its proof stands here.
+use Rattle.std.specs.Prelude.{◌≡◌, ◌≤◌, ◌-◌, ℕ, zero, suc, ◌==◌, Bool, true, false, IsTrue, List, [], ◌∷◌, ◌++◌, take, drop, map, Option, Some, None, option_map, refl, if◌then◌else◌}
+use Rattle.std.proofs.Common.{ap, sym, ◌∙◌, append_assoc, arith}
 use Rattle.std.proofs.lemmas.List.{take-append-drop, append-nil}
 use Rattle.squawk_events.specs.Kinds.{has_no_trivia}
 use Rattle.squawk_kinds.specs.Role.{role}
 use Rattle.squawk_events.specs.Lawful.{IsLawful, is_balanced, closes, token_kinds, has_lawful_numbers}
-use Rattle.squawk_kinds.specs.Role.{Role, Trivia, Semicolon, Terminator, Command, Open, Close, Other}
+use Rattle.squawk_kinds.specs.Role.{Role, Trivia, Semicolon, Terminator, Command, Open, Close, Other, is_trivia}
 use Rattle.squawk_kinds.specs.declared.numbers.TheConstants.Number.{ERROR}
 use Rattle.squawk_events.specs.declared.steps.Step.{Step}
 use Rattle.squawk_events.specs.declared.steps.Step.TheVariants.{Enter, Token, Exit, Error}
-use Rattle.squawk_statements.specs.Children.{ends_statement, parts, parts_from, more_of}
+use Rattle.squawk_statements.specs.Children.{ends_statement, parts, parts_from, first_child, first_child_len, statement_to, statement_end}
 use Rattle.squawk_statements.specs.Plain.{plain, node_of, body_steps, exits, kind_steps, groups_open_after, enters_before, exits_after, unknown_statement_error, child_steps, children_steps}
 use Rattle.squawk_statements.specs.declared.division.Division.{Division}
 use Rattle.squawk_statements.specs.declared.division.Division.TheVariants.{Flat, Grouped}
@@ -57,20 +58,20 @@ closes_kind d zero m kind Close xs = refl
 closes_kind d (suc n) m kind Close xs = refl
 closes_kind d n m kind Other xs = closes_token n m kind xs
 
-closes_core : (d : Division) (n m : ℕ) (kinds : List ℕ) (xs : List Step)
+closes_body : (d : Division) (n m : ℕ) (kinds : List ℕ) (xs : List Step)
     → closes (raised n (suc m)) (body_steps d n kinds ++ xs) ≡ closes (suc m) xs
-closes_core d n m [] xs = closes_exits n m xs
-closes_core d n m (kind ∷ kinds) xs =
+closes_body d n m [] xs = closes_exits n m xs
+closes_body d n m (kind ∷ kinds) xs =
     ap (closes (raised n (suc m))) (append_assoc (kind_steps d n kind)
     (body_steps d (groups_open_after d n (role kind)) kinds) xs)
     ∙ closes_kind d n m kind (role kind) (body_steps d (groups_open_after d n (role kind)) kinds
     ++ xs)
-    ∙ closes_core d (groups_open_after d n (role kind)) m kinds xs
+    ∙ closes_body d (groups_open_after d n (role kind)) m kinds xs
 
-closes_fault : (b : Bool) (m : ℕ) (xs : List Step)
+closes_unknown : (b : Bool) (m : ℕ) (xs : List Step)
     → closes (suc m) ((if b then Error 10 ∷ [] else []) ++ xs) ≡ closes (suc m) xs
-closes_fault true m xs = refl
-closes_fault false m xs = refl
+closes_unknown true m xs = refl
+closes_unknown false m xs = refl
 
 closes_child : (d : Division) (m : ℕ) (kinds : List ℕ) (xs : List Step)
     → closes (suc m) (child_steps d kinds ++ xs) ≡ closes (suc m) xs
@@ -78,8 +79,8 @@ closes_child d m kinds xs =
     let inner = unknown_statement_error (node_of kinds) in
     ap (closes (suc (suc m))) (append_assoc (inner ++ body_steps d 0 kinds) (Exit ∷ []) xs
     ∙ append_assoc inner (body_steps d 0 kinds) (Exit ∷ xs))
-    ∙ closes_fault (node_of kinds == ERROR) (suc m) (body_steps d 0 kinds ++ Exit ∷ xs)
-    ∙ closes_core d 0 (suc m) kinds (Exit ∷ xs)
+    ∙ closes_unknown (node_of kinds == ERROR) (suc m) (body_steps d 0 kinds ++ Exit ∷ xs)
+    ∙ closes_body d 0 (suc m) kinds (Exit ∷ xs)
 
 closes_children : (d : Division) (m : ℕ) (ps : List (List ℕ)) (xs : List Step)
     → closes (suc m) (children_steps d ps ++ xs) ≡ closes (suc m) xs
@@ -119,20 +120,20 @@ tokens_kind d zero kind Close xs = refl
 tokens_kind d (suc n) kind Close xs = refl
 tokens_kind d n kind Other xs = refl
 
-tokens_core : (d : Division) (n : ℕ) (kinds : List ℕ) (xs : List Step)
+tokens_body : (d : Division) (n : ℕ) (kinds : List ℕ) (xs : List Step)
     → token_kinds (body_steps d n kinds ++ xs) ≡ kinds ++ token_kinds xs
-tokens_core d n [] xs = tokens_exits n xs
-tokens_core d n (kind ∷ kinds) xs =
+tokens_body d n [] xs = tokens_exits n xs
+tokens_body d n (kind ∷ kinds) xs =
     ap token_kinds (append_assoc (kind_steps d n kind)
     (body_steps d (groups_open_after d n (role kind)) kinds) xs)
     ∙ tokens_kind d n kind (role kind) (body_steps d (groups_open_after d n (role kind)) kinds
     ++ xs)
-    ∙ ap (λ ks. kind ∷ ks) (tokens_core d (groups_open_after d n (role kind)) kinds xs)
+    ∙ ap (λ ks. kind ∷ ks) (tokens_body d (groups_open_after d n (role kind)) kinds xs)
 
-tokens_fault : (b : Bool) (xs : List Step) → token_kinds ((if b then Error 10 ∷ [] else []) ++ xs)
+tokens_unknown : (b : Bool) (xs : List Step) → token_kinds ((if b then Error 10 ∷ [] else []) ++ xs)
     ≡ token_kinds xs
-tokens_fault true xs = refl
-tokens_fault false xs = refl
+tokens_unknown true xs = refl
+tokens_unknown false xs = refl
 
 tokens_child : (d : Division) (kinds : List ℕ) (xs : List Step)
     → token_kinds (child_steps d kinds ++ xs) ≡ kinds ++ token_kinds xs
@@ -140,21 +141,50 @@ tokens_child d kinds xs =
     let inner = unknown_statement_error (node_of kinds) in
     ap token_kinds (append_assoc (inner ++ body_steps d 0 kinds) (Exit ∷ []) xs
     ∙ append_assoc inner (body_steps d 0 kinds) (Exit ∷ xs))
-    ∙ tokens_fault (node_of kinds == ERROR) (body_steps d 0 kinds ++ Exit ∷ xs)
-    ∙ tokens_core d 0 kinds (Exit ∷ xs)
+    ∙ tokens_unknown (node_of kinds == ERROR) (body_steps d 0 kinds ++ Exit ∷ xs)
+    ∙ tokens_body d 0 kinds (Exit ∷ xs)
 
 abbrev joined : {A : Type 0} → List (List A) → List A
 joined [] = []
 joined (xs ∷ rest) = xs ++ joined rest
+
+-- a first child has at least one token
+pub first_child_some : (d : Division) (f : Role) (fs : List Role)
+    → 1 ≤ (first_child d (f ∷ fs)).tokens
+first_child_some d f fs = by f
+  where
+    statement_some : (f : Role) (end : Option ℕ) → is_trivia f ≡ false
+        → 1 ≤ (statement_to (option_map suc end) (f ∷ fs)).tokens
+    statement_some f (Some n) solid = omega arith
+    statement_some f None solid = rw solid (omega arith)
+
+    by : (f : Role) → 1 ≤ (first_child d (f ∷ fs)).tokens
+    by Trivia = omega arith
+    by Semicolon = omega arith
+    by Terminator = omega arith
+    by Command = omega arith
+    by Open = statement_some Open (statement_end d 1 fs) refl
+    by Close = statement_some Close (statement_end d 0 fs) refl
+    by Other = statement_some Other (statement_end d 0 fs) refl
+
+pub suc_minus_one : (n : ℕ) → suc n - 1 ≡ n
+suc_minus_one n = omega arith
+
+take_then_drop : {A : Type 0} (n : ℕ) (x : A) (xs : List A) → 1 ≤ n
+    → take n (x ∷ xs) ++ drop (n - 1) xs ≡ x ∷ xs
+take_then_drop zero x xs some = absurd (omega arith)
+take_then_drop (suc n) x xs some =
+    ap (λ m. x ∷ (take n xs ++ drop m xs)) (suc_minus_one n)
+    ∙ ap (λ ys. x ∷ ys) (take-append-drop n xs)
 
 joined_parts : {A : Type 0} (role_of : A → Role) (n : ℕ) (d : Division) (xs : List A)
     → joined (parts_from role_of n d xs) ≡ drop n xs
 joined_parts role_of zero d [] = refl
 joined_parts role_of (suc n) d [] = refl
 joined_parts role_of zero d (x ∷ xs) =
-    let m = more_of role_of d x xs in
-    ap (λ ys. x ∷ (take m xs ++ ys)) (joined_parts role_of m d xs)
-    ∙ ap (λ ys. x ∷ ys) (take-append-drop m xs)
+    let len = first_child_len role_of d (x ∷ xs) in
+    ap (λ ys. take len (x ∷ xs) ++ ys) (joined_parts role_of (len - 1) d xs)
+    ∙ take_then_drop len x xs (first_child_some d (role_of x) (map role_of xs))
 joined_parts role_of (suc n) d (x ∷ xs) = joined_parts role_of n d xs
 
 tokens_children : (d : Division) (ps : List (List ℕ)) (xs : List Step)
@@ -191,20 +221,20 @@ numbers_kind d zero kind Close xs = refl
 numbers_kind d (suc n) kind Close xs = refl
 numbers_kind d n kind Other xs = refl
 
-numbers_core : (d : Division) (n : ℕ) (kinds : List ℕ) (xs : List Step)
+numbers_body : (d : Division) (n : ℕ) (kinds : List ℕ) (xs : List Step)
     → has_lawful_numbers (body_steps d n kinds ++ xs) ≡ has_lawful_numbers xs
-numbers_core d n [] xs = numbers_exits n xs
-numbers_core d n (kind ∷ kinds) xs =
+numbers_body d n [] xs = numbers_exits n xs
+numbers_body d n (kind ∷ kinds) xs =
     ap has_lawful_numbers (append_assoc (kind_steps d n kind)
     (body_steps d (groups_open_after d n (role kind)) kinds) xs)
     ∙ numbers_kind d n kind (role kind) (body_steps d (groups_open_after d n (role kind)) kinds
     ++ xs)
-    ∙ numbers_core d (groups_open_after d n (role kind)) kinds xs
+    ∙ numbers_body d (groups_open_after d n (role kind)) kinds xs
 
-numbers_fault : (b : Bool) (xs : List Step)
+numbers_unknown : (b : Bool) (xs : List Step)
     → has_lawful_numbers ((if b then Error 10 ∷ [] else []) ++ xs) ≡ has_lawful_numbers xs
-numbers_fault true xs = refl
-numbers_fault false xs = refl
+numbers_unknown true xs = refl
+numbers_unknown false xs = refl
 
 numbers_child : (d : Division) (kinds : List ℕ) (xs : List Step)
     → has_lawful_numbers (child_steps d kinds ++ xs) ≡ has_lawful_numbers xs
@@ -212,8 +242,8 @@ numbers_child d kinds xs =
     let inner = unknown_statement_error (node_of kinds) in
     ap has_lawful_numbers (append_assoc (inner ++ body_steps d 0 kinds) (Exit ∷ []) xs
     ∙ append_assoc inner (body_steps d 0 kinds) (Exit ∷ xs))
-    ∙ numbers_fault (node_of kinds == ERROR) (body_steps d 0 kinds ++ Exit ∷ xs)
-    ∙ numbers_core d 0 kinds (Exit ∷ xs)
+    ∙ numbers_unknown (node_of kinds == ERROR) (body_steps d 0 kinds ++ Exit ∷ xs)
+    ∙ numbers_body d 0 kinds (Exit ∷ xs)
 
 numbers_children : (d : Division) (ps : List (List ℕ)) (xs : List Step)
     → has_lawful_numbers (children_steps d ps ++ xs) ≡ has_lawful_numbers xs
@@ -236,8 +266,8 @@ pub child_balanced : (d : Division) (kinds : List ℕ) → is_balanced (child_st
 child_balanced d kinds =
     let inner = unknown_statement_error (node_of kinds) in
     ap (closes 1) (append_assoc inner (body_steps d 0 kinds) (Exit ∷ []))
-    ∙ closes_fault (node_of kinds == ERROR) 0 (body_steps d 0 kinds ++ Exit ∷ [])
-    ∙ closes_core d 0 0 kinds (Exit ∷ [])
+    ∙ closes_unknown (node_of kinds == ERROR) 0 (body_steps d 0 kinds ++ Exit ∷ [])
+    ∙ closes_body d 0 0 kinds (Exit ∷ [])
 
 pub child_tokens : (d : Division) (kinds : List ℕ) → token_kinds (child_steps d kinds) ≡ kinds
 child_tokens d kinds = ap token_kinds (sym (append-nil (child_steps d kinds)))

@@ -1,4 +1,4 @@
--- The rows of the table as lists, and the kinds that decide.
+-- The code's table as a list of rows, and the kinds that its search reads. For private functions.
 use Rattle.std.specs.Prelude.{◌≡◌, ℕ, ◌==◌, ◌&&◌, ◌||◌, Bool, false, List, [], ◌∷◌, drop, if◌then◌else◌}
 use Rattle.std.specs.List.{find, prefix_len}
 use Rattle.squawk_kinds.specs.declared.numbers.TheConstants.Number as kind
@@ -10,30 +10,30 @@ use Rattle.squawk_statements.specs.declared.rows.Row.{Row}
 abbrev pub row_of : Row → opening.Row
 row_of row = (row.first ∷ row.more.now, row.node)
 
--- of these rows the first that fits is the longest of the whole table, where the first kind is this
--- one
+-- for a statement with this first kind, the first of these rows that is a prefix is the longest of
+-- the whole table
 unfoldable pub Decide : ℕ → List opening.Row → Type 0
 Decide first rows = (more : List ℕ)
     → find (λ (row : opening.Row). opening.is_prefix row.0 (first ∷ more)) rows
     ≡ opening.longest opening.rows (first ∷ more)
 
--- the kinds that are read: all, or those that are no trivia
+-- the kinds that are read: all, or those that are not trivia
 abbrev pub kinds_read : Bool → List ℕ → List ℕ
 kinds_read past_trivia ks = if past_trivia then without_trivia ks else ks
 
--- what the key still takes of these kinds, where it has others so far
+-- what these kinds add to the key after the kinds that it has so far
 abbrev pub key_after : List ℕ → List ℕ → List ℕ
 key_after [] ks = opening.key ks
 key_after (k ∷ []) ks = if k == kind.CREATE_KW then drop (prefix_len opening.is_modifier ks) ks
     else ks
 key_after (k ∷ l ∷ so_far) ks = ks
 
--- whether a kind behind these is a modifier that is left out
+-- whether the key, which has these kinds so far, leaves out this kind as a modifier
 abbrev pub is_skipped_modifier : List ℕ → ℕ → Bool
 is_skipped_modifier [] k = false
 is_skipped_modifier (c ∷ []) k = c == kind.CREATE_KW && opening.is_modifier k
 is_skipped_modifier (c ∷ d ∷ so_far) k = false
 
--- whether the key goes on behind a kind without it
+-- whether the key, which has these kinds so far, leaves out this kind
 abbrev pub is_skipped : Bool → List ℕ → ℕ → Bool
 is_skipped past_trivia so_far k = past_trivia && is_trivia_kind k || is_skipped_modifier so_far k

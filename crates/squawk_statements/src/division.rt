@@ -1,4 +1,4 @@
-//! What ends a statement, and what opens and closes a group.
+//! The division of kinds into statements and groups, kind by kind.
 ghost use Rattle.std.specs.Prelude.{◌≡◌, ◌<◌, ◌^◌};
 ghost use Rattle.squawk_kinds.specs.Role.{is_trivia};
 ghost use Rattle.squawk_statements.specs.Children.{ends_statement, open_groups_after, is_single_token};
@@ -6,16 +6,16 @@ ghost use Rattle.squawk_kinds.specs.Role.{role};
 
 use squawk_kinds::SyntaxKind;
 
-/// Where a semicolon ends a statement.
+/// The rule by which a semicolon ends a statement.
 #[derive(Clone, Copy, Debug, PartialEq, Eq)]
 pub enum Division {
-    /// Each semicolon ends one.
+    /// Every semicolon ends the statement that it stands in.
     Flat,
-    /// A semicolon between parentheses ends none.
+    /// A semicolon inside a group, that is between `(` and its `)`, ends no statement.
     Grouped,
 }
 
-/// Whether the kind is trivia: white space or a comment.
+// Whether the kind is trivia: white space or a comment.
 #[tactic(auto, unfolding(squawk_kinds::specs::Role::role))]
 pub(crate) fn is_trivia(kind: SyntaxKind) -> bool
     ensures { result ≡ is_trivia (role kind) }
@@ -23,7 +23,7 @@ pub(crate) fn is_trivia(kind: SyntaxKind) -> bool
     matches!(kind, SyntaxKind::WHITESPACE | SyntaxKind::COMMENT)
 }
 
-/// Whether the kind is a child of the root by itself where no statement is open.
+// Whether the kind is a child of the root by itself where no statement is open.
 #[tactic(auto, unfolding(squawk_kinds::specs::Role::role))]
 pub(crate) fn is_single_token(kind: SyntaxKind) -> bool
     ensures { result ≡ is_single_token (role kind) }
@@ -34,9 +34,9 @@ pub(crate) fn is_single_token(kind: SyntaxKind) -> bool
     )
 }
 
-/// Whether the kind ends the statement in which so many groups are open.
+// Whether the kind ends a statement in which `groups` groups are open.
 #[tactic(auto, unfolding(squawk_kinds::specs::Role::role))]
-pub(crate) fn is_end(division: Division, groups: usize, kind: SyntaxKind) -> bool
+pub(crate) fn ends_statement(division: Division, groups: usize, kind: SyntaxKind) -> bool
     ensures { result ≡ ends_statement division groups (role kind) }
 {
     match kind {
@@ -49,9 +49,9 @@ pub(crate) fn is_end(division: Division, groups: usize, kind: SyntaxKind) -> boo
     }
 }
 
-/// How many groups are open behind a kind that does not end the statement.
+// The number of open groups after a kind that does not end the statement.
 #[tactic(auto, unfolding(squawk_kinds::specs::Role::role))]
-pub(crate) fn next_groups(groups: usize, kind: SyntaxKind) -> usize
+pub(crate) fn open_groups_after(groups: usize, kind: SyntaxKind) -> usize
     requires { groups < 2 ^ 63 }
     ensures { result ≡ open_groups_after groups (role kind) }
 {

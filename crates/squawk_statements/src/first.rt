@@ -1,83 +1,79 @@
 //! The first child of the root.
 ghost use Rattle.std.specs.Prelude.{◌≡◌, ◌≤◌, ◌<◌, ◌+◌, ◌++◌, ℕ, List, IsTrue, length, map, take};
-ghost use Rattle.squawk_statements.specs.Children.{statement, statement_end, first_child};
+ghost use Rattle.squawk_statements.specs.Children.{statement, first_child};
 ghost use Rattle.squawk_statements.specs.First.{first_shape, child_node};
 ghost use Rattle.squawk_kinds.specs.Role.{role};
 ghost use Rattle.squawk_statements.specs.declared.division.Division.TheVariants.{Flat};
 
-use crate::division::{Division, is_end, is_single_token, is_trivia, next_groups};
+use crate::division::{Division, ends_statement, is_single_token, is_trivia, open_groups_after};
 use crate::node::statement_node;
 use squawk_kinds::SyntaxKind;
 
-/// A child of the root: its number of tokens, its node, and whether it is closed.
-///
-/// A child without a node is one trivia token by itself. Only a statement that nothing ends is not
-/// closed.
+/// The shape of a child of the root.
 #[derive(Clone, Copy, Debug, PartialEq, Eq)]
 pub struct ChildShape {
+    /// The number of its tokens, trivia inside it included.
     pub tokens: usize,
+    /// The kind of its node; `None` for a leaf, which is one trivia token.
     pub node: Option<SyntaxKind>,
+    /// `false` for a statement that no token ends, which later tokens may extend.
     pub closed: bool,
 }
 
-/// How many kinds belong to a statement behind its first, and whether one of them ends it.
+// How many tokens a child has, and whether it is closed.
 #[derive(Clone, Copy)]
-pub(crate) struct Rest {
-    pub(crate) more: usize,
+pub(crate) struct Extent {
+    pub(crate) tokens: usize,
     closed: bool,
 }
 
-/// What belongs to a statement behind its first kind, where `groups` groups are open behind that.
-///
-/// These are the kinds up to the one that ends it, or else up to the last that is no trivia.
-fn rest_of(division: Division, groups: usize, kinds: &[SyntaxKind]) -> Rest
-    requires { groups ≤ 1 }
-    ensures more { result.more
-        ≡ (statement (statement_end division groups (map role kinds.now)) (map role kinds.now)).more }
-    ensures closed { result.closed
-        ≡ (statement (statement_end division groups (map role kinds.now))
-        (map role kinds.now)).closed }
-    ensures within { result.more ≤ length kinds.now }
+// The extent of the statement at the start of `kinds`: up to and including the token that ends it,
+// else up to the last token that is not trivia.
+fn statement_extent(division: Division, kinds: &[SyntaxKind]) -> Extent
+    ensures tokens { result.tokens ≡ (statement division (map role kinds.now)).tokens }
+    ensures closed { result.closed ≡ (statement division (map role kinds.now)).closed }
+    ensures within { result.tokens ≤ length kinds.now }
 {
-    let mut opened = groups;
-    let mut solid = 0;
+    let mut groups = 0;
+    let mut trimmed = 0;
     for i in 0..kinds.len() {
         let kind = kinds[i];
-        if is_end(division, opened, kind) {
-            return Rest {
-                more: i + 1,
+        if ends_statement(division, groups, kind) {
+            return Extent {
+                tokens: i + 1,
                 closed: true,
             };
         }
-        opened = next_groups(opened, kind);
+        groups = open_groups_after(groups, kind);
         if !is_trivia(kind) {
-            solid = i + 1;
+            trimmed = i + 1;
         }
     }
-    Rest {
-        more: solid,
+    Extent {
+        tokens: trimmed,
         closed: false,
     }
 }
 
-/// What belongs to the first child behind its first kind.
-pub(crate) fn first_rest(division: Division, kinds: &[SyntaxKind]) -> Rest
+// The extent of the first child.
+pub(crate) fn first_extent(division: Division, kinds: &[SyntaxKind]) -> Extent
     requires { 0 < length kinds.now }
-    ensures more { result.more ≡ (first_child division (map role kinds.now)).more }
+    ensures tokens { result.tokens ≡ (first_child division (map role kinds.now)).tokens }
     ensures closed { result.closed ≡ (first_child division (map role kinds.now)).closed }
-    ensures within { result.more < length kinds.now }
+    ensures some { 0 < result.tokens }
+    ensures within { result.tokens ≤ length kinds.now }
 {
     let kind = kinds[0];
     if is_trivia(kind) || is_single_token(kind) {
-        return Rest {
-            more: 0,
+        return Extent {
+            tokens: 1,
             closed: true,
         };
     }
-    rest_of(division, next_groups(0, kind), &kinds[1..])
+    statement_extent(division, kinds)
 }
 
-/// The node of a child of these kinds; `None` where its one kind is trivia.
+// The node of a child of these kinds; `None` for a trivia token.
 #[tactic(auto, unfolding(squawk_kinds::specs::Role::role))]
 fn child_node(kinds: &[SyntaxKind]) -> Option<SyntaxKind>
     requires { 0 < length kinds.now }
@@ -94,24 +90,25 @@ fn child_node(kinds: &[SyntaxKind]) -> Option<SyntaxKind>
     }
 }
 
-/// The first child.
+// The first child.
 fn shape_of(kinds: &[SyntaxKind], division: Division) -> ChildShape
     requires { 0 < length kinds.now }
     ensures shape { result ≡ first_shape division kinds.now }
+    ensures some { 0 < result.tokens }
     ensures within { result.tokens ≤ length kinds.now }
 {
-    let rest = first_rest(division, kinds);
-    let tokens = rest.more + 1;
+    let extent = first_extent(division, kinds);
     ChildShape {
-        tokens,
-        node: child_node(&kinds[..tokens]),
-        closed: rest.closed,
+        tokens: extent.tokens,
+        node: child_node(&kinds[..extent.tokens]),
+        closed: extent.closed,
     }
 }
 
-/// The first child of the root of a text of exactly these kinds, trivia among them.
+/// Returns the first child of the root of a text whose tokens have exactly these kinds, trivia
+/// included.
 ///
-/// Where it is closed, it is the first child of every longer list too that begins with these kinds.
+/// A closed child is also the first child of every longer list that begins with these kinds.
 pub fn first_child_in(kinds: &[SyntaxKind], division: Division) -> ChildShape
     requires { 0 < length kinds.now }
     ensures shape { result ≡ first_shape division kinds.now }
@@ -123,7 +120,7 @@ pub fn first_child_in(kinds: &[SyntaxKind], division: Division) -> ChildShape
     shape_of(kinds, division)
 }
 
-/// The first child of the root, where each semicolon ends a statement.
+/// `first_child_in` where every semicolon ends a statement.
 pub fn first_child(kinds: &[SyntaxKind]) -> ChildShape
     requires { 0 < length kinds.now }
     ensures shape { result ≡ first_shape Flat kinds.now }

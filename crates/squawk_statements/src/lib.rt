@@ -1,5 +1,5 @@
-//! Statements and groups: how a text's kinds are divided into the children of the root, their
-//! nodes, and the grammar of both.
+//! Statements and groups: the division of a text's kinds into the children of the root, the node of
+//! each, and the grammars that turn both into steps.
 #![tactic(auto)]
 
 mod division;

@@ -1,4 +1,4 @@
-//! The node of a statement, by the kinds that it begins with.
+//! The node of a statement, by its first kinds.
 ghost use Rattle.std.specs.Prelude.{◌↔◌, false, IsNone, ◌≡◌, ◌≤◌, ◌<◌, length, take, option_map};
 ghost use Rattle.squawk_events.specs.Kinds.{is_trivia_kind};
 ghost use Rattle.squawk_statements.specs.Opening.{is_modifier, is_prefix, key, longest, opening_of, statement_node, rows};
@@ -9,14 +9,14 @@ use crate::rows::{Row, rows_from};
 use squawk_kinds::SyntaxKind;
 use squawk_kinds::numbers::Number;
 
-/// The kinds that decide the node of a statement, by their numbers: no row has more than four.
+// The kinds that decide the node of a statement, by number. No row has more than four.
 #[derive(Clone, Copy)]
 struct Start {
     kinds: [u16; 4],
     len: usize,
 }
 
-/// Whether the kind is white space or a comment.
+// Whether the kind is trivia: white space or a comment.
 #[tactic(auto, unfolding(squawk_events::specs::Kinds::is_trivia_kind))]
 pub(crate) fn is_trivia(kind: SyntaxKind) -> bool
     ensures { result ≡ is_trivia_kind kind }
@@ -24,7 +24,7 @@ pub(crate) fn is_trivia(kind: SyntaxKind) -> bool
     matches!(kind, SyntaxKind::WHITESPACE | SyntaxKind::COMMENT)
 }
 
-/// Whether the kind may stand between `CREATE` and what is created.
+// Whether the kind may stand between `CREATE` and the kind of object that is created.
 #[tactic(auto, unfolding(crate::specs::Opening::is_modifier, crate::specs::Opening::modifiers))]
 fn is_modifier(kind: SyntaxKind) -> bool
     ensures { result ≡ is_modifier kind }
@@ -46,7 +46,7 @@ fn is_modifier(kind: SyntaxKind) -> bool
     )
 }
 
-/// Whether a statement that begins with these kinds begins with those of the row.
+// Whether the kinds of the row are a prefix of these kinds.
 fn fits(row: &Row, start: &[u16]) -> bool
     requires { 0 < length start.now }
     ensures { result ≡ is_prefix (row_of row.now).0 start.now }
@@ -54,7 +54,7 @@ fn fits(row: &Row, start: &[u16]) -> bool
     row.first == start[0] && start[1..].starts_with(row.more)
 }
 
-/// The node of the longest row that is a prefix of these kinds.
+// The node of the longest row that is a prefix of these kinds.
 fn look_up(start: &[u16]) -> Option<SyntaxKind>
     ensures { result ≡ option_map (λ row. row.1) (longest rows start.now) }
 {
@@ -70,7 +70,7 @@ fn look_up(start: &[u16]) -> Option<SyntaxKind>
     None
 }
 
-/// The first kinds of the key of these kinds, or of those of them that are no trivia.
+// The first four kinds of the key of these kinds, with trivia left out where `past_trivia` is set.
 fn start_of(kinds: &[SyntaxKind], past_trivia: bool) -> Start
     ensures within { result.len ≤ 4 }
     ensures key { take result.len result.kinds ≡ take 4 (key (kinds_read past_trivia kinds.now)) }
@@ -91,21 +91,21 @@ fn start_of(kinds: &[SyntaxKind], past_trivia: bool) -> Start
     start
 }
 
-/// Whether the kind is a modifier that is left out behind these kinds of the key.
+// Whether the kind is a modifier that the key leaves out after the kinds that it has so far.
 fn is_skipped_modifier(so_far: &[u16], kind: SyntaxKind) -> bool
     ensures { result ≡ is_skipped_modifier so_far.now kind }
 {
     so_far.len() == 1 && so_far[0] == Number::CREATE_KW && is_modifier(kind)
 }
 
-/// Whether the key goes on behind this kind without it.
+// Whether the key leaves out this kind, after the kinds that it has so far.
 fn is_skipped(so_far: &[u16], past_trivia: bool, kind: SyntaxKind) -> bool
     ensures { result ≡ is_skipped past_trivia so_far.now kind }
 {
     past_trivia && is_trivia(kind) || is_skipped_modifier(so_far, kind)
 }
 
-/// The node of a statement of these kinds, or of those of them that are no trivia.
+// The node of a statement of these kinds, with trivia left out where `past_trivia` is set.
 fn opening_in(kinds: &[SyntaxKind], past_trivia: bool) -> Option<SyntaxKind>
     ensures { result ≡ opening_of (kinds_read past_trivia kinds.now) }
 {
@@ -113,11 +113,11 @@ fn opening_in(kinds: &[SyntaxKind], past_trivia: bool) -> Option<SyntaxKind>
     look_up(&start.kinds[..start.len])
 }
 
-/// The node of a statement whose kinds that are no trivia are these.
+/// Returns the node of a statement of these kinds, from which trivia has been left out.
 ///
-/// The longest row of the table decides that is a prefix of the kinds, where modifiers such as `OR
-/// REPLACE` behind a first `CREATE` are left out. `None` exactly where no row is: the node is then
-/// `ERROR`.
+/// The longest row of the opening table that is a prefix of the kinds decides; modifiers such as
+/// `OR REPLACE` after a first `CREATE` do not count. `None` exactly where no row is a prefix: the
+/// node of the statement is then `ERROR`.
 pub fn opening(kinds: &[SyntaxKind]) -> Option<SyntaxKind>
     ensures node { result ≡ opening_of kinds.now }
     ensures none { IsNone result ↔ (list_any (λ row. is_prefix row.0 (key kinds.now)) rows
@@ -126,7 +126,8 @@ pub fn opening(kinds: &[SyntaxKind]) -> Option<SyntaxKind>
     opening_in(kinds, false)
 }
 
-/// The node of a statement of these kinds, or of those of them that are no trivia.
+// The node of a statement of these kinds, with trivia left out where `past_trivia` is set; `ERROR`
+// where no row of the table is a prefix.
 pub(crate) fn statement_node(kinds: &[SyntaxKind], past_trivia: bool) -> SyntaxKind
     ensures { result ≡ statement_node (kinds_read past_trivia kinds.now) }
 {

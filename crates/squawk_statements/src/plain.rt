@@ -1,23 +1,23 @@
-//! The plain grammar.
-ghost use Rattle.std.specs.Prelude.{◌≡◌, ◌≤◌, ◌<◌, ◌+◌, ◌^◌, [], ◌∷◌, ◌++◌, length, OnOk, IfOk, IsOkUnless, IsTrue};
+//! The plain grammars: statements with their nodes, and groups inside them.
+ghost use Rattle.std.specs.Prelude.{◌≡◌, ◌≤◌, ◌<◌, ◌+◌, ◌^◌, [], ◌∷◌, ◌++◌, length, OnOk, IfOk, IfErr, IsTrue};
 ghost use Rattle.squawk_events.specs.Depth.{depth_of};
 ghost use Rattle.squawk_kinds.specs.Role.{role};
-ghost use Rattle.squawk_events.specs.declared.error.FrontError.TheVariants.{OutOfMemory};
+ghost use Rattle.squawk_events.specs.Refusals.{IsOutOfMemory};
 ghost use Rattle.squawk_statements.specs.Plain.{node_of, exits, kind_steps, groups_open_after, body_steps, unknown_statement_error, child_steps, plain};
 ghost use Rattle.squawk_statements.specs.declared.division.Division.TheVariants.{Flat};
 
-use crate::division::{Division, is_end};
-use crate::first::first_rest;
+use crate::division::{Division, ends_statement};
+use crate::first::first_extent;
 use crate::node::statement_node;
 use squawk_events::{FrontError, Grammar, Input, Output};
 use squawk_kinds::SyntaxKind;
 
-/// Ends so many groups.
-fn close_groups(output: &mut Output, groups: usize) -> Result<(), FrontError>
+// Emits an `Exit` for each of `groups` open groups.
+fn emit_exits(output: &mut Output, groups: usize) -> Result<(), FrontError>
     requires { groups ≤ depth_of output.old }
     ensures ok { OnOk result (output.new ≡ output.old ++ exits groups) }
     ensures depth { OnOk result (depth_of output.new + groups ≡ depth_of output.old) }
-    ensures refusal { IsOkUnless result OutOfMemory }
+    ensures refusals { IfErr result IsOutOfMemory }
 {
     let mut left = groups;
     while left > 0 {
@@ -27,9 +27,9 @@ fn close_groups(output: &mut Output, groups: usize) -> Result<(), FrontError>
     Ok(())
 }
 
-/// Gives the steps of a kind of a child, and answers how many groups are open behind it.
+// Emits the steps of a token of a child. Returns the number of open groups after it.
 #[tactic(auto, unfolding(squawk_kinds::specs::Role::role))]
-fn put_kind(
+fn emit_token(
     output: &mut Output,
     division: Division,
     groups: usize,
@@ -41,10 +41,10 @@ fn put_kind(
     ensures groups { IfOk result (λ n. n ≡ groups_open_after division groups (role kind)) }
     ensures depth { IfOk result (λ n. depth_of output.new + groups ≡ depth_of output.old + n) }
     ensures more { IfOk result (λ n. n ≤ groups + 1) }
-    ensures refusal { IsOkUnless result OutOfMemory }
+    ensures refusals { IfErr result IsOutOfMemory }
 {
-    if is_end(division, groups, kind) {
-        close_groups(output, groups)?;
+    if ends_statement(division, groups, kind) {
+        emit_exits(output, groups)?;
         output.token(kind)?;
         return Ok(0);
     }
@@ -66,24 +66,28 @@ fn put_kind(
     }
 }
 
-/// Gives the steps of what a child holds.
-fn put_core(output: &mut Output, division: Division, kinds: &[SyntaxKind]) -> Result<(), FrontError>
+// Emits the steps inside the node of a child.
+fn emit_body(
+    output: &mut Output,
+    division: Division,
+    kinds: &[SyntaxKind],
+) -> Result<(), FrontError>
     ensures ok { OnOk result (output.new ≡ output.old ++ body_steps division 0 kinds.now) }
     ensures depth { OnOk result (depth_of output.new ≡ depth_of output.old) }
-    ensures refusal { IsOkUnless result OutOfMemory }
+    ensures refusals { IfErr result IsOutOfMemory }
 {
     let mut groups = 0;
     for i in 0..kinds.len() {
-        groups = put_kind(output, division, groups, kinds[i])?;
+        groups = emit_token(output, division, groups, kinds[i])?;
     }
-    close_groups(output, groups)
+    emit_exits(output, groups)
 }
 
-/// Notes an unknown statement.
-fn put_fault(output: &mut Output, node: SyntaxKind) -> Result<(), FrontError>
+// Emits the error of an unknown statement, where the node is `ERROR`.
+fn emit_unknown_error(output: &mut Output, node: SyntaxKind) -> Result<(), FrontError>
     ensures ok { OnOk result (output.new ≡ output.old ++ unknown_statement_error node) }
     ensures depth { OnOk result (depth_of output.new ≡ depth_of output.old) }
-    ensures refusal { IsOkUnless result OutOfMemory }
+    ensures refusals { IfErr result IsOutOfMemory }
 {
     if node == SyntaxKind::ERROR {
         output.error(10)?;
@@ -91,7 +95,7 @@ fn put_fault(output: &mut Output, node: SyntaxKind) -> Result<(), FrontError>
     Ok(())
 }
 
-/// The node of a child of these kinds, none of which is trivia.
+// The node of a child of these kinds, none of which is trivia.
 #[tactic(auto, unfolding(squawk_kinds::specs::Role::role))]
 fn node_of(kinds: &[SyntaxKind]) -> SyntaxKind
     requires { 0 < length kinds.now }
@@ -107,8 +111,8 @@ fn node_of(kinds: &[SyntaxKind]) -> SyntaxKind
     }
 }
 
-/// Gives the steps of a child.
-fn put_child(
+// Emits the steps of a child.
+fn emit_child(
     output: &mut Output,
     division: Division,
     kinds: &[SyntaxKind],
@@ -116,36 +120,39 @@ fn put_child(
     requires { 0 < length kinds.now }
     ensures ok { OnOk result (output.new ≡ output.old ++ child_steps division kinds.now) }
     ensures depth { OnOk result (depth_of output.new ≡ depth_of output.old) }
-    ensures refusal { IsOkUnless result OutOfMemory }
+    ensures refusals { IfErr result IsOutOfMemory }
 {
     let node = node_of(kinds);
     output.enter(node)?;
-    put_fault(output, node)?;
-    put_core(output, division, kinds)?;
+    emit_unknown_error(output, node)?;
+    emit_body(output, division, kinds)?;
     output.exit()
 }
 
-/// Gives the steps of a text of these kinds.
-fn put_plain(
+// Emits the steps of a whole text.
+fn emit_plain(
     output: &mut Output,
     division: Division,
     kinds: &[SyntaxKind],
 ) -> Result<(), FrontError>
     requires { output.old ≡ [] }
     ensures ok { OnOk result (output.new ≡ plain division kinds.now) }
-    ensures refusal { IsOkUnless result OutOfMemory }
+    ensures refusals { IfErr result IsOutOfMemory }
 {
     output.enter(SyntaxKind::SOURCE_FILE)?;
     let mut at = 0;
     while at < kinds.len() {
-        let count = first_rest(division, &kinds[at..]).more + 1;
-        put_child(output, division, &kinds[at..at + count])?;
+        let count = first_extent(division, &kinds[at..]).tokens;
+        emit_child(output, division, &kinds[at..at + count])?;
         at += count;
     }
     output.exit()
 }
 
-/// Statements by their semicolons, with groups inside them.
+/// Divides a text into statements, where every semicolon ends one, and parentheses into groups.
+///
+/// The root is a `SOURCE_FILE`. A statement whose opening is unknown is an `ERROR` node, which
+/// begins with the error of an unknown statement.
 #[derive(Clone, Copy, Debug, PartialEq, Eq)]
 pub struct PlainGrammar;
 
@@ -155,13 +162,13 @@ impl Grammar for PlainGrammar {
     ghost told = { λ _ kinds. plain Flat kinds };
 
     fn run(&self, input: &Input, output: &mut Output) -> Result<(), FrontError> {
-        put_plain(output, Division::Flat, input.kinds())
+        emit_plain(output, Division::Flat, input.kinds())
     }
 
     ghost lawful = { λ _ kinds no_trivia. plain_lawful Flat kinds no_trivia };
 }
 
-/// The same, where a semicolon inside a group ends no statement.
+/// `PlainGrammar` with the other division: a semicolon inside a group ends no statement.
 #[derive(Clone, Copy, Debug, PartialEq, Eq)]
 pub struct GroupedGrammar;
 
@@ -172,7 +179,7 @@ impl Grammar for GroupedGrammar {
     ghost told = { λ _ kinds. plain Grouped kinds };
 
     fn run(&self, input: &Input, output: &mut Output) -> Result<(), FrontError> {
-        put_plain(output, Division::Grouped, input.kinds())
+        emit_plain(output, Division::Grouped, input.kinds())
     }
 
     ghost lawful = { λ _ kinds no_trivia. plain_lawful Grouped kinds no_trivia };

@@ -1,21 +1,21 @@
 //! The opening table: the kinds that a statement begins with, and its node.
 //!
-//! Of two rows that begin alike the longer one stands first, so that the first row that fits is the
-//! longest.
+//! A row stands before each shorter row that is a prefix of it, so the first row that is a prefix
+//! of a statement's kinds is the longest.
 ghost use Rattle.std.specs.Prelude.{map};
 ghost use Rattle.squawk_statements.specs.Rows.{row_of, Decide};
 
 use squawk_kinds::numbers::Number;
 
-/// A row: the first kind of a statement, those behind it, and the statement's node, by their
-/// numbers.
+// A row, by the numbers of its kinds: the first kind of a statement, the kinds after it, and the
+// statement's node.
 pub(crate) struct Row {
     pub(crate) first: u16,
     pub(crate) more: &'static [u16],
     pub(crate) node: u16,
 }
 
-/// The rows that begin with this kind, and perhaps others.
+// A table that holds every row with this first kind.
 #[tactic(none)]
 pub(crate) fn rows_from(first: u16) -> &'static [Row]
     ensures { Decide first (map row_of result.now) }
@@ -28,7 +28,7 @@ pub(crate) fn rows_from(first: u16) -> &'static [Row]
     }
 }
 
-/// Rows, each as the names of its kinds and of its node.
+// Rows, written as the names of their kinds and of their node.
 macro_rules! rows {
     ($($first:ident $($more:ident)* => $node:ident;)*) => {
         [$(Row {
@@ -39,7 +39,7 @@ macro_rules! rows {
     };
 }
 
-/// The rows of the other first kinds, the common ones first.
+// The rows with any other first kind, the frequent ones first.
 #[rattlefmt::skip]
 static OTHER: [Row; 60] = rows![
     SELECT_KW => SELECT;
@@ -104,7 +104,7 @@ static OTHER: [Row; 60] = rows![
     IMPORT_KW FOREIGN_KW SCHEMA_KW => IMPORT_FOREIGN_SCHEMA;
 ];
 
-/// The rows of `CREATE`.
+// The rows of `CREATE`.
 #[rattlefmt::skip]
 static CREATE: [Row; 43] = rows![
     CREATE_KW DEFAULT_KW CONVERSION_KW => CREATE_CONVERSION;
@@ -152,7 +152,7 @@ static CREATE: [Row; 43] = rows![
     CREATE_KW TRANSFORM_KW => CREATE_TRANSFORM;
 ];
 
-/// The rows of `ALTER`.
+// The rows of `ALTER`.
 #[rattlefmt::skip]
 static ALTER: [Row; 44] = rows![
     ALTER_KW PROCEDURAL_KW LANGUAGE_KW => ALTER_LANGUAGE;
@@ -201,7 +201,7 @@ static ALTER: [Row; 44] = rows![
     ALTER_KW SYSTEM_KW => ALTER_SYSTEM;
 ];
 
-/// The rows of `DROP`.
+// The rows of `DROP`.
 #[rattlefmt::skip]
 static DROP: [Row; 45] = rows![
     DROP_KW PROCEDURAL_KW LANGUAGE_KW => DROP_LANGUAGE;

@@ -1,14 +1,14 @@
 use Rattle.std.proofs.Common.{arith, ap, sym, ◌∙◌, take, drop, length-set}
 use Rattle.std.proofs.lemmas.List.{drop_all, length-take-le}
 use Rattle.squawk_statements.specs.Rows.{is_skipped}
-use Rattle.squawk_statements.proofs.KeySteps.{key_end, more_passed, more_taken}
+use Rattle.squawk_statements.proofs.KeySteps.{key_end, key_step_skipped, key_step_kept}
 use Rattle.squawk_statements.proofs.node.start_of.Goals as goal
 use Rattle.squawk_statements.proofs.node.start_of.Goals.{then-not-is_skipped, else-not-is_skipped}
 
 pub loop-kind-preserved : goal.loop-kind-preserved
 loop-kind-preserved c = elim c.if-not-is_skipped.branch [
   | then-not-is_skipped w ↦ rw w.start-is (record {
-    key = more_taken c.args.past_trivia c.args.kinds.now c.loop-kind.kind-index w.to_raw.result
+    key = key_step_kept c.args.past_trivia c.args.kinds.now c.loop-kind.kind-index w.to_raw.result
         c.kind-item.result c.loop-kind.start.kinds c.loop-kind.start.len _ c.loop-kind-test.true
         (w.to_raw.ensures.number ∙ c.kind-item.is)
         (omega (arith, c.loop-kind.invariant.size, c.loop-kind.invariant.within))
@@ -19,7 +19,7 @@ loop-kind-preserved c = elim c.if-not-is_skipped.branch [
     size = length-set _ _ _ ∙ c.loop-kind.invariant.size;
   })
   | else-not-is_skipped w ↦ rw w.start-is (record {
-    key = more_passed c.args.past_trivia c.args.kinds.now c.loop-kind.kind-index c.kind-item.result
+    key = key_step_skipped c.args.past_trivia c.args.kinds.now c.loop-kind.kind-index c.kind-item.result
         c.kind-item.result _ _ c.loop-kind-test.true c.kind-item.is (sym c.is_skipped.ensures
         ∙ w.if-not-is_skipped.false) c.loop-kind.invariant.key;
     within = c.loop-kind.invariant.within;

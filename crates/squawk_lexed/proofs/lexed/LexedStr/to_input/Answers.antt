@@ -7,10 +7,10 @@ pub returns-clause-ok : goal.returns-clause-ok
 returns-clause-ok c =
     kept_ok _ _ c.args.self.now.tokens (c.deref.ensures.value
     ∙ (seen_as _ _ _ _ c.args.self.now c.self.view_is c.self.invariant).kinds_are)
-    c.kept_of.ensures.ok
+    c.kinds_kept.ensures.ok
 
 pub returns-clause-no_trivia : goal.returns-clause-no_trivia
 returns-clause-no_trivia c =
     bare_ok _ _ c.args.self.now.tokens (c.deref.ensures.value
     ∙ (seen_as _ _ _ _ c.args.self.now c.self.view_is c.self.invariant).kinds_are)
-    c.kept_of.ensures.ok
+    c.kinds_kept.ensures.ok

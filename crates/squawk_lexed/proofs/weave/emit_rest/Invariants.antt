@@ -1,0 +1,19 @@
+use Rattle.std.proofs.Common.{◌≡◌, ◌≤◌, ◌+◌, ◌++◌, drop, length}
+use Rattle.std.specs.Prelude.{IsTrue}
+use Rattle.squawk_lexed.specs.Weave.{weave_from, remaining_from, have_tokens_for}
+use Rattle.squawk_lexed.specs.LexedText.{total_len}
+use Rattle.squawk_lexed.proofs.weave.emit_rest.Given as goal
+
+abbrev pub invariant-loop-k : goal.invariant-loop-k
+invariant-loop-k g l = record {
+  steps : g.K.StepSink.steps l.sink
+      ++ weave_from l.place.at (drop l.place.index l.lexed.tokens) (drop l.k l.rest)
+      ≡ g.K.StepSink.steps l.initial.sink ++ weave_from 0 l.lexed.tokens l.rest;
+  more : length (g.K.StepSink.steps l.initial.sink) ≤ length (g.K.StepSink.steps l.sink);
+  left : remaining_from (drop l.place.index l.lexed.tokens) (drop l.k l.rest)
+      ≡ remaining_from l.lexed.tokens l.rest;
+  enough : IsTrue (have_tokens_for (drop l.place.index l.lexed.tokens) (drop l.k l.rest));
+  same_end : l.place.at + total_len (drop l.place.index l.lexed.tokens) ≡ total_len l.lexed.tokens;
+  within : l.place.index ≤ length l.lexed.tokens;
+  errors : g.K.StepSink.errors l.sink ≡ g.K.StepSink.errors l.initial.sink;
+}
