@@ -33,6 +33,7 @@ fn kinds_have_numbers_and_texts(rt: HostRuntime) -> Result<(), AllocError> {
 #[test]
 fn kinds_are_ordered_by_number(rt: HostRuntime) {
     kinds_compare_as_numbers();
+    clones_are_equal();
     assert!(rt; SyntaxKind::EOF < SyntaxKind::SELECT_KW);
     assert!(rt; SyntaxKind::SELECT_KW < SyntaxKind::SELECT);
     assert!(rt;

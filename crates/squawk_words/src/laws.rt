@@ -11,6 +11,7 @@ use crate::{
     PLPGSQL_RESERVED_KEYWORDS, PUNCTUATION, RESERVED_KEYWORDS, TYPE_FUNC_NAME_KEYWORDS,
     TYPE_KEYWORDS, UNRESERVED_KEYWORDS,
 };
+use std::alloc::AllocError;
 
 /// Each table of words is sorted by length and then by bytes, and has no word twice.
 pub fn words_are_sorted()
@@ -27,6 +28,13 @@ pub fn keywords_have_categories()
     ensures disjoint { AllPairs (λ a b. (kind : ℕ) → Contains a kind → ¬ Contains b kind)
         categories }
 {}
+
+/// A clone of a set is the set, and cloning does not fail.
+pub fn clones_are_equal(set: KindSet) -> Result<KindSet, AllocError>
+    ensures { result ≡ Ok set }
+{
+    set.clone()
+}
 
 /// Returns the thirteen constants: each is the set of its name.
 pub fn sets_have_members() -> [KindSet; 13]

@@ -1,5 +1,6 @@
 //! Keywords of some texts, and members of the sets.
 use super::*;
+use std::alloc::AllocError;
 
 #[test]
 fn words_and_sets(rt: HostRuntime) {
@@ -94,7 +95,7 @@ fn count_of(set: KindSet) -> usize {
 }
 
 #[test]
-fn sets_have_members(rt: HostRuntime) {
+fn sets_have_members(rt: HostRuntime) -> Result<(), AllocError> {
     // A set, the number of its members, some members, and some kinds that are none.
     let sets = [
         (
@@ -279,6 +280,11 @@ fn sets_have_members(rt: HostRuntime) {
     ];
     for (row, set, count, members, others) in sets {
         assert_eq!(rt; count_of(set), count, "{row}");
+        assert_eq!(rt;
+            count_of(laws::clones_are_equal(set)?),
+            count,
+            "clone of {row}"
+        );
         for kind in members {
             assert!(rt; set.contains(kind), "{row}: {kind}");
         }
@@ -286,6 +292,7 @@ fn sets_have_members(rt: HostRuntime) {
             assert!(rt; !set.contains(kind), "{row}: {kind}");
         }
     }
+    Ok(())
 }
 
 #[test]

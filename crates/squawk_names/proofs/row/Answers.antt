@@ -2,7 +2,8 @@ use Rattle.std.proofs.Common.{◌≡◌, ℕ, zero, suc, refl, inl, inr, slice_i
 use Rattle.std.proofs.lemmas.Bool.{cases_lt}
 use Rattle.std.proofs.lemmas.List.{drop-take, take-take}
 use Rattle.std.proofs.lemmas.Option.{slice_get-get_or}
-use Rattle.squawk_names.specs.Texts.{texts, IsIndexOf}
+use Rattle.squawk_names.specs.Texts.{texts}
+use Rattle.squawk_names.specs.Offsets.{IsOffsets}
 use Rattle.squawk_names.proofs.row.Goals as goal
 
 -- the distance of the two offsets of a short line
@@ -30,7 +31,7 @@ from_fifth bytes text seen start end same low narrow text_is =
     ∙ take-take (end - 1 - start) 60 (drop start bytes) (omega (arith, narrow)) ∙ text_is))
 
 -- k numbers later, the offset is at least k bytes later
-offsets_apart : (starts bytes : List ℕ) (ts : List (List ℕ)) (count : ℕ) → IsIndexOf starts bytes ts count
+offsets_apart : (starts bytes : List ℕ) (ts : List (List ℕ)) (count : ℕ) → IsOffsets starts bytes ts count
     → (n k m : ℕ) → n + k ≡ m → m ≤ count → slice_index starts n + k ≤ slice_index starts m
 offsets_apart starts bytes ts count index n zero m e h =
     let same : slice_index starts n ≡ slice_index starts m =
@@ -45,16 +46,16 @@ offsets_apart starts bytes ts count index n (suc k) m e h =
     omega (arith, before, next, same)
 
 pub bounds-starts-i : goal.bounds-starts-i
-bounds-starts-i c = omega (arith, c.index.ensures.index.each c.args.number c.if-number-ge-COUNT.false)
+bounds-starts-i c = omega (arith, c.tables.ensures.offsets.each c.args.number c.if-number-ge-COUNT.false)
 
 pub bounds-starts-i-2 : goal.bounds-starts-i-2
-bounds-starts-i-2 c = omega (arith, c.index.ensures.index.each c.args.number c.if-number-ge-COUNT.false)
+bounds-starts-i-2 c = omega (arith, c.tables.ensures.offsets.each c.args.number c.if-number-ge-COUNT.false)
 
 pub returns-clause-text : goal.returns-clause-text
 returns-clause-text c =
-    let line = c.index.ensures.index.each c.args.number c.if-number-ge-COUNT.false in
+    let line = c.tables.ensures.offsets.each c.args.number c.if-number-ge-COUNT.false in
     let listed : c.args.number < length texts =
-    omega (arith, c.index.ensures.index.len, c.if-number-ge-COUNT.false) in
+    omega (arith, c.tables.ensures.offsets.len, c.if-number-ge-COUNT.false) in
     let narrow = width _ _ _ _ line.ordered line.within line.text_is line.short in
     slice_get-get_or texts c.args.number [] listed
     ∙ ap Some (from_fifth _ _ _ _ _ c.as_bytes-bytes.ensures.value c.if-start-lt4.false narrow
@@ -62,7 +63,7 @@ returns-clause-text c =
 
 pub returns-clause-short : goal.returns-clause-short
 returns-clause-short c =
-    let line = c.index.ensures.index.each c.args.number c.if-number-ge-COUNT.false in
+    let line = c.tables.ensures.offsets.each c.args.number c.if-number-ge-COUNT.false in
     width _ _ _ _ line.ordered line.within line.text_is line.short
 
 -- the number of a text that begins before the fifth byte
@@ -74,8 +75,8 @@ returns-then-start-lt4-clause-none c = (
         absurd (omega (
           arith,
           c.if-start-lt4.true,
-          c.index.ensures.rows.second,
-          offsets_apart _ _ _ _ c.index.ensures.index 1 (c.args.number - 1) c.args.number
+          c.tables.ensures.rows.second,
+          offsets_apart _ _ _ _ c.tables.ensures.offsets 1 (c.args.number - 1) c.args.number
               (omega (arith, later)) (omega arith),
         ))
   ],
@@ -91,8 +92,8 @@ returns-then-bytes-start-clause-none c = (
           arith,
           c.if-bytes-start.true,
           ap length c.as_bytes-bytes.ensures.value,
-          c.index.ensures.rows.last,
-          offsets_apart _ _ _ _ c.index.ensures.index c.args.number (2064 - c.args.number) 2064
+          c.tables.ensures.rows.last,
+          offsets_apart _ _ _ _ c.tables.ensures.offsets c.args.number (2064 - c.args.number) 2064
               (omega (arith, earlier)) (omega arith),
         ))
     | inr past ↦ inr past
@@ -109,16 +110,16 @@ returns-clause-none c = (
         absurd (omega (
           arith,
           c.if-start-lt4.false,
-          c.index.ensures.rows.first,
-          ap (slice_index c.index.result.0.now) first,
+          c.tables.ensures.rows.first,
+          ap (slice_index c.tables.result.0.now) first,
         ))
     | inr past ↦
         absurd (omega (
           arith,
           c.if-bytes-start.false,
           ap length c.as_bytes-bytes.ensures.value,
-          c.index.ensures.rows.past,
-          offsets_apart _ _ _ _ c.index.ensures.index 2065 (c.args.number - 2065) c.args.number
+          c.tables.ensures.rows.past,
+          offsets_apart _ _ _ _ c.tables.ensures.offsets 2065 (c.args.number - 2065) c.args.number
               (omega (arith, past)) (omega arith),
         ))
   ],

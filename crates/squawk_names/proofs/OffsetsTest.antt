@@ -7,7 +7,7 @@ use Rattle.std.proofs.lemmas.List.{take-take}
 use Rattle.std.proofs.lemmas.Str.Ascii.{IsAscii-from_all}
 use Rattle.std.proofs.lemmas.Slice.Eq.{bytes_eq-Decides}
 use Rattle.std.specs.Str.{bytes_eq}
-use Rattle.squawk_names.specs.Texts.{IsLine, IsIndexOf}
+use Rattle.squawk_names.specs.Offsets.{IsLine, IsOffsets}
 
 -- LF
 abbrev pub line_feed : ℕ
@@ -101,19 +101,19 @@ all_ascii (b ∷ bytes) ok (suc k) d lt =
     (le_of_suc-le-suc lt)
 
 -- the whole test
-unfoldable pub is_index : List ℕ → List ℕ → List (List ℕ) → ℕ → Bool
-is_index [] bytes ts count = false
-is_index (from ∷ ends) bytes ts count =
+unfoldable pub are_offsets : List ℕ → List ℕ → List (List ℕ) → ℕ → Bool
+are_offsets [] bytes ts count = false
+are_offsets (from ∷ ends) bytes ts count =
     (from == 0) && ((length ts == count) && (list_all (λ b. nat_lt b 128) bytes
     && begins_with 0 bytes ends ts))
 
 -- what the whole test says
-pub is_index_true : (starts bytes : List ℕ) (ts : List (List ℕ)) (count : ℕ)
-    → is_index starts bytes ts count ≡ true
-    → IsIndexOf starts bytes ts count
-unfolding is_index
-is_index_true [] bytes ts count ok = cc
-is_index_true (from ∷ ends) bytes ts count ok =
+pub are_offsets_true : (starts bytes : List ℕ) (ts : List (List ℕ)) (count : ℕ)
+    → are_offsets starts bytes ts count ≡ true
+    → IsOffsets starts bytes ts count
+unfolding are_offsets
+are_offsets_true [] bytes ts count ok = cc
+are_offsets_true (from ∷ ends) bytes ts count ok =
     let first = and_parts (from == 0) _ ok in
     let second = and_parts (length ts == count) _ first.1 in
     let third = and_parts (list_all (λ b. nat_lt b 128) bytes) (begins_with 0 bytes ends ts) second.1 in
@@ -128,5 +128,5 @@ is_index_true (from ∷ ends) bytes ts count ok =
 
 -- unfolds the test where it is computed
 unfoldable pub computing : Unit {0}
-unfolding begins_with is_index
+unfolding begins_with are_offsets
 computing = tt
