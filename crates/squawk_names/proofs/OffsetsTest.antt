@@ -26,7 +26,8 @@ begins_with from rest (end ∷ ends) (t ∷ ts) =
 -- what the test of the first text says
 first_line : (from end : ℕ) (ends bytes t : List ℕ) → from ≤ length bytes → length t ≤ 39
     → end ≡ from + length t + 1
-    → take (length t + 1) (drop from bytes) ≡ t ++ line_feed ∷ [] → IsLine (from ∷ end ∷ ends) bytes 0 t
+    → take (length t + 1) (drop from bytes) ≡ t ++ line_feed ∷ []
+    → IsLine (from ∷ end ∷ ends) bytes 0 t
 first_line from end ends bytes t le short at same =
     let size : length (take (length t + 1) (drop from bytes)) ≡ length t + 1 = ap length same
     ∙ length-append t (line_feed ∷ []) in
@@ -56,7 +57,8 @@ later_line from starts bytes k t h =
       ordered = subst (λ n. slice_index starts k < n) (sym next) h.ordered;
       within = subst (λ n. n ≤ length bytes) (sym next) h.within;
       short = h.short;
-      text_is = ap (λ n. take (n - 1 - slice_index starts k) (drop (slice_index starts k) bytes)) next
+      text_is =
+          ap (λ n. take (n - 1 - slice_index starts k) (drop (slice_index starts k) bytes)) next
           ∙ h.text_is;
     }
 
@@ -116,7 +118,8 @@ are_offsets_true [] bytes ts count ok = cc
 are_offsets_true (from ∷ ends) bytes ts count ok =
     let first = and_parts (from == 0) _ ok in
     let second = and_parts (length ts == count) _ first.1 in
-    let third = and_parts (list_all (λ b. nat_lt b 128) bytes) (begins_with 0 bytes ends ts) second.1 in
+    let third = and_parts (list_all (λ b. nat_lt b 128) bytes)
+    (begins_with 0 bytes ends ts) second.1 in
     record {
       ascii = IsAscii-from_all bytes (all_ascii bytes third.0);
       len = eqb-true _ _ second.0;

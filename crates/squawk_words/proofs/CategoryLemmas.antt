@@ -86,7 +86,8 @@ module _ (flags : List ℕ) (has : HasFlags flags) (ok : list_all is_sum flags �
       (omega (arith, flag_of ReservedKeywords kind m)))
 
   -- a keyword is a member of a category
-  category_of : (kind : ℕ) → Contains all_keywords kind → Any (λ category. Contains category kind) categories
+  category_of : (kind : ℕ) → Contains all_keywords kind
+      → Any (λ category. Contains category kind) categories
   category_of kind member =
       let lt = inside AllKeywords kind member in
       let one = flag_of AllKeywords kind member in

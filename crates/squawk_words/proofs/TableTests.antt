@@ -22,7 +22,8 @@ less_if Greater e = cc
 -- the words of the kinds come one after another, the first of them after `word`
 unfoldable pub is_sorted : List ℕ → List ℕ → Bool
 is_sorted word [] = true
-is_sorted word (kind ∷ kinds) = is_lt (word_cmp word (word_of kind)) && is_sorted (word_of kind) kinds
+is_sorted word (kind ∷ kinds) =
+    is_lt (word_cmp word (word_of kind)) && is_sorted (word_of kind) kinds
 
 -- `word` comes before all words of the kinds
 is_sorted_above : (word kinds : List ℕ) → is_sorted word kinds ≡ true
@@ -30,9 +31,11 @@ is_sorted_above : (word kinds : List ℕ) → is_sorted word kinds ≡ true
 unfolding is_sorted
 is_sorted_above word [] ok k d lt = absurd (not-suc-le-zero lt)
 is_sorted_above word (kind ∷ kinds) ok zero d lt =
-    less_if _ (and_parts (is_lt (word_cmp word (word_of kind))) (is_sorted (word_of kind) kinds) ok).0
+    less_if _ (and_parts (is_lt (word_cmp word (word_of kind)))
+    (is_sorted (word_of kind) kinds) ok).0
 is_sorted_above word (kind ∷ kinds) ok (suc k) d lt =
-    let parts = and_parts (is_lt (word_cmp word (word_of kind))) (is_sorted (word_of kind) kinds) ok in
+    let parts = and_parts (is_lt (word_cmp word (word_of kind)))
+    (is_sorted (word_of kind) kinds) ok in
     let next = word_of kind in
     let far = word_of (get_or kinds k d) in
     nat_list_cmp_total.trans (length word ∷ word) (length next ∷ next) (length far
@@ -46,10 +49,12 @@ unfolding is_sorted
 sorted_pairs word [] ok i j d before lt = absurd (not-suc-le-zero lt)
 sorted_pairs word (kind ∷ kinds) ok i zero d before lt = absurd (not-suc-le-zero before)
 sorted_pairs word (kind ∷ kinds) ok zero (suc j) d before lt =
-    let parts = and_parts (is_lt (word_cmp word (word_of kind))) (is_sorted (word_of kind) kinds) ok in
+    let parts = and_parts (is_lt (word_cmp word (word_of kind)))
+    (is_sorted (word_of kind) kinds) ok in
     is_sorted_above (word_of kind) kinds parts.1 j d (le_of_suc-le-suc lt)
 sorted_pairs word (kind ∷ kinds) ok (suc i) (suc j) d before lt =
-    let parts = and_parts (is_lt (word_cmp word (word_of kind))) (is_sorted (word_of kind) kinds) ok in
+    let parts = and_parts (is_lt (word_cmp word (word_of kind)))
+    (is_sorted (word_of kind) kinds) ok in
     sorted_pairs (word_of kind) kinds parts.1 i j d (le_of_suc-le-suc before) (le_of_suc-le-suc lt)
 
 -- no start is below the one before it, nor the first below `low`
@@ -58,7 +63,8 @@ is_non_decreasing low [] = true
 is_non_decreasing low (start ∷ starts) = nat_le low start && is_non_decreasing start starts
 
 -- what the test says of `low`, and of two starts
-is_non_decreasing_above : (low : ℕ) (starts : List ℕ) → is_non_decreasing low starts ≡ true → (j d : ℕ)
+is_non_decreasing_above : (low : ℕ) (starts : List ℕ) → is_non_decreasing low starts ≡ true
+    → (j d : ℕ)
     → j < length starts → low ≤ get_or starts j d
 unfolding is_non_decreasing
 is_non_decreasing_above low [] ok j d lt = absurd (not-suc-le-zero lt)
@@ -73,16 +79,20 @@ is_non_decreasing_above low (start ∷ starts) ok (suc j) d lt =
           (le_of_suc-le-suc lt),
     )
 
-is_non_decreasing_ordered : (low : ℕ) (starts : List ℕ) → is_non_decreasing low starts ≡ true → IsNonDecreasing starts
+is_non_decreasing_ordered : (low : ℕ) (starts : List ℕ) → is_non_decreasing low starts ≡ true
+    → IsNonDecreasing starts
 unfolding is_non_decreasing
 is_non_decreasing_ordered low [] ok i j d before lt = absurd (not-suc-le-zero lt)
 is_non_decreasing_ordered low (start ∷ starts) ok zero zero d before lt = omega arith
-is_non_decreasing_ordered low (start ∷ starts) ok (suc i) zero d before lt = absurd (not-suc-le-zero before)
+is_non_decreasing_ordered low (start ∷ starts) ok (suc i) zero d before lt =
+    absurd (not-suc-le-zero before)
 is_non_decreasing_ordered low (start ∷ starts) ok zero (suc j) d before lt =
-    is_non_decreasing_above start starts (and_parts (nat_le low start) (is_non_decreasing start starts) ok).1 j d
+    is_non_decreasing_above start starts (and_parts (nat_le low start)
+    (is_non_decreasing start starts) ok).1 j d
     (le_of_suc-le-suc lt)
 is_non_decreasing_ordered low (start ∷ starts) ok (suc i) (suc j) d before lt =
-    is_non_decreasing_ordered start starts (and_parts (nat_le low start) (is_non_decreasing start starts) ok).1 i j d
+    is_non_decreasing_ordered start starts (and_parts (nat_le low start)
+    (is_non_decreasing start starts) ok).1 i j d
     (le_of_suc-le-suc before) (le_of_suc-le-suc lt)
 
 -- the index lies in the range of the words of this length
@@ -111,15 +121,16 @@ is_in_range_true starts size index ok =
       high = ltb-true _ _ ends.1;
     }
 
-are_in_ranges_at : (starts : List ℕ) (index : ℕ) (kinds : List ℕ) → are_in_ranges starts index kinds ≡ true
+are_in_ranges_at : (starts : List ℕ) (index : ℕ) (kinds : List ℕ)
+    → are_in_ranges starts index kinds ≡ true
     → (i d : ℕ) → i < length kinds
     → IsInRange starts (length (word_of (get_or kinds i d))) (index + i)
 unfolding are_in_ranges
 are_in_ranges_at starts index [] ok i d lt = absurd (not-suc-le-zero lt)
 are_in_ranges_at starts index (kind ∷ kinds) ok zero d lt =
     let here = is_in_range_true starts _ index
-    (and_parts (is_in_range starts (length (word_of kind)) index) (are_in_ranges starts (suc index) kinds)
-    ok).0 in
+    (and_parts (is_in_range starts (length (word_of kind)) index)
+    (are_in_ranges starts (suc index) kinds) ok).0 in
     subst (IsInRange starts (length (word_of kind))) (let h : index ≡ index + 0 = omega arith in
     h) here
 are_in_ranges_at starts index (kind ∷ kinds) ok (suc i) d lt =
@@ -136,7 +147,8 @@ is_lower kind = bytes_eq (str_to_ascii_lowercase (word_of kind)) (word_of kind)
 -- the tests together prove that it is a table of words
 pub IsWordTable_from : (kinds starts : List ℕ) → list_all (λ kind. nat_lt kind 2068) kinds ≡ true
     → list_all is_lower kinds ≡ true → is_sorted [] kinds ≡ true
-    → is_non_decreasing 0 starts ≡ true → list_all (λ start. nat_le start (length kinds)) starts ≡ true
+    → is_non_decreasing 0 starts ≡ true
+    → list_all (λ start. nat_le start (length kinds)) starts ≡ true
     → are_in_ranges starts 0 kinds ≡ true → IsWordTable kinds starts
 IsWordTable_from kinds starts numbers lower rise climb within index =
     record {
@@ -148,8 +160,9 @@ IsWordTable_from kinds starts numbers lower rise climb within index =
       starts_sorted = is_non_decreasing_ordered 0 starts climb;
       starts_within = λ k d lt. leb-true _ _ (AllPass-from_list_all (λ start.
           nat_le start (length kinds)) starts within k d lt);
-      ranges = λ i d lt. subst (IsInRange starts (length (word_of (get_or kinds i d)))) (let h : 0 + i
-          ≡ i = omega arith in h) (are_in_ranges_at starts 0 kinds index i d lt);
+      ranges = λ i d lt.
+          subst (IsInRange starts (length (word_of (get_or kinds i d))))
+          (let h : 0 + i ≡ i = omega arith in h) (are_in_ranges_at starts 0 kinds index i d lt);
     }
 
 -- kinds that are sorted by their words, as pairs

@@ -36,7 +36,7 @@ pub word_cmp_bytes : (a b : List ℕ) → length a ≡ length b → word_cmp a b
 word_cmp_bytes a b same =
     ap (λ o. ordering_then o (slice_cmp nat_cmp a b)) (cmp_same (length a) (length b) same)
 
--- where one of two words that agree up to p ends at p, their lengths decide the comparison
+-- of two words that agree up to p, where one ends at p, the lengths decide the comparison
 pub cmp_at_end : (p : ℕ) (w t : List ℕ) → p ≤ length w → p ≤ length t → (length w ≤ p) ⊎ (length t ≤ p)
     → nat_cmp (length w) (length t)
     ≡ slice_cmp nat_cmp (drop p w) (str_to_ascii_lowercase (drop p t))

@@ -29,7 +29,7 @@ abbrev pub other_than : Table → Table
 other_than Keywords = ContextualKeywords
 other_than ContextualKeywords = Keywords
 
--- the index lies in the range that `starts` gives to the words of this length
+-- the index lies in the range of the words of this length, which is between two of `starts`
 pub record IsInRange (starts : List ℕ) (size index : ℕ) : Type 0 where
   pub listed : size + 1 < length starts
   pub low : slice_index starts size ≤ index

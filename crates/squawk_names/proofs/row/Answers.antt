@@ -10,7 +10,8 @@ use Rattle.squawk_names.proofs.row.Goals as goal
 width : (bytes text : List ℕ) (start end : ℕ) → start < end → end ≤ length bytes
     → slice_range bytes start (end - 1) ≡ text → length text ≤ 39 → end - 1 - start ≤ 39
 width bytes text start end ordered within text_is short =
-    let size : length (take (end - 1 - start) (drop start bytes)) ≡ length text = ap length text_is in
+    let size : length (take (end - 1 - start) (drop start bytes)) ≡ length text =
+    ap length text_is in
     omega (arith, length-take (end - 1 - start) (drop start bytes), length-drop start bytes)
 
 -- a row of 64 bytes, begun four bytes before the text, has the text from its fifth byte on
@@ -31,7 +32,8 @@ from_fifth bytes text seen start end same low narrow text_is =
     ∙ take-take (end - 1 - start) 60 (drop start bytes) (omega (arith, narrow)) ∙ text_is))
 
 -- k numbers later, the offset is at least k bytes later
-offsets_apart : (starts bytes : List ℕ) (ts : List (List ℕ)) (count : ℕ) → IsOffsets starts bytes ts count
+offsets_apart : (starts bytes : List ℕ) (ts : List (List ℕ)) (count : ℕ)
+    → IsOffsets starts bytes ts count
     → (n k m : ℕ) → n + k ≡ m → m ≤ count → slice_index starts n + k ≤ slice_index starts m
 offsets_apart starts bytes ts count index n zero m e h =
     let same : slice_index starts n ≡ slice_index starts m =
@@ -39,17 +41,20 @@ offsets_apart starts bytes ts count index n zero m e h =
     omega (arith, same)
 offsets_apart starts bytes ts count index n (suc k) m e h =
     let below : n + k < count = omega (arith, e, h) in
-    let before = offsets_apart starts bytes ts count index n k (n + k) refl (omega (arith, below)) in
+    let before = offsets_apart starts bytes ts count index n k (n + k) refl
+    (omega (arith, below)) in
     let next = (index.each (n + k) below).ordered in
     let same : slice_index starts (n + k + 1) ≡ slice_index starts m =
     ap (slice_index starts) (omega (arith, e)) in
     omega (arith, before, next, same)
 
 pub bounds-starts-i : goal.bounds-starts-i
-bounds-starts-i c = omega (arith, c.tables.ensures.offsets.each c.args.number c.if-number-ge-COUNT.false)
+bounds-starts-i c =
+    omega (arith, c.tables.ensures.offsets.each c.args.number c.if-number-ge-COUNT.false)
 
 pub bounds-starts-i-2 : goal.bounds-starts-i-2
-bounds-starts-i-2 c = omega (arith, c.tables.ensures.offsets.each c.args.number c.if-number-ge-COUNT.false)
+bounds-starts-i-2 c =
+    omega (arith, c.tables.ensures.offsets.each c.args.number c.if-number-ge-COUNT.false)
 
 pub returns-clause-text : goal.returns-clause-text
 returns-clause-text c =
