@@ -1,19 +1,24 @@
--- The role of a kind in the division into statements and in groups.
+-- The role of a kind: what it is to the division into statements and to groups.
 use Rattle.std.specs.Prelude.{ℕ, ◌==◌, ◌||◌, Bool, true, false, if◌then◌else◌}
 use Rattle.squawk_kinds.specs.declared.numbers.TheConstants.Number as kind
 
--- white space or a comment; a semicolon; a psql command that ends the query, or one that does not;
--- `(`; `)`; any other kind
 pub data Role : Type 0 where
+  -- white space, a leading byte order mark, a comment
   Trivia : Role
+  -- `;`
   Semicolon : Role
+  -- a psql command that ends the query before it: it sends, finishes or resets the query buffer
   Terminator : Role
+  -- any other psql command
   Command : Role
+  -- `(`, which begins a group
   Open : Role
+  -- `)`, which ends a group
   Close : Role
+  -- any other token
   Other : Role
 
--- the role of the kind with a number
+-- the role of the kind with this number
 unfoldable pub role : ℕ → Role
 role k =
     if k == kind.WHITESPACE || k == kind.COMMENT then Trivia
@@ -24,12 +29,12 @@ role k =
     else if k == kind.R_PAREN then Close
     else Other
 
--- whether the role is that of white space and comments
+-- whether a token of this role is trivia
 abbrev pub is_trivia : Role → Bool
 is_trivia Trivia = true
 is_trivia _ = false
 
--- whether the role neither divides statements nor makes a group
+-- whether a token of this role neither divides statements nor delimits a group, and is not trivia
 abbrev pub is_other : Role → Bool
 is_other Trivia = false
 is_other Semicolon = false

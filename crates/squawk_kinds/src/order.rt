@@ -1,19 +1,18 @@
-//! That each constant holds its own number.
+//! Proves that the kinds are numbered in the order of the list of kinds: `SyntaxKind::X` has the
+//! index of `X`.
 ghost use Rattle.std.specs.Prelude.{◌≡◌};
 ghost use Rattle.squawk_kinds.specs.Kinds.{kinds};
 
 use crate::SyntaxKind;
 
-/// The number that each constant holds, in the order of the kinds.
-///
-/// The clause says that it is the constant's own: its place in the list of kinds.
+// The number that each constant of `SyntaxKind` holds, in the order of the list of kinds.
 pub(crate) fn numbers() -> &'static [u16]
     ensures { result.now ≡ kinds }
 {
     &NUMBERS
 }
 
-/// The numbers that these constants hold.
+// An array of the numbers that these constants of `SyntaxKind` hold.
 macro_rules! numbers_of {
     ($($name:ident)*) => {
         [$(SyntaxKind::$name.number),*]
@@ -25,7 +24,7 @@ static NUMBERS: [u16; 2068] = numbers_of![
     // Neither tokens nor nodes.
     TOMBSTONE EOF
 
-    // Signs.
+    // Punctuation and operators.
     DOLLAR SEMICOLON COMMA L_PAREN R_PAREN L_BRACK R_BRACK L_CURLY R_CURLY L_ANGLE LESS_LESS LTEQ NEQB R_ANGLE
     GREATER_GREATER GTEQ AT POUND TILDE QUESTION AMP PIPE PLUS STAR SLASH CARET PERCENT UNDERSCORE DOT DOT_DOT COLON
     COLON_EQ EQ FAT_ARROW BANG NEQ MINUS BACKTICK
@@ -320,6 +319,6 @@ static NUMBERS: [u16; 2068] = numbers_of![
     XML_PASSING_MECH_BY_VALUE XML_PI_FN XML_PI_TARGET XML_ROOT_FN XML_ROW_PASSING_CLAUSE XML_SERIALIZE_FN XML_TABLE
     XML_TABLE_COLUMN XML_TABLE_COLUMN_LIST XML_TABLE_FROM_ITEM XML_VERSION_EXPR XML_VERSION_NO_VALUE
 
-    // The end of the list.
+    // Marks the end of the list.
     __LAST
 ];

@@ -1,15 +1,17 @@
--- That the flags say the same as the list of each set, by a computation over both.
+-- The tests of the table of flags: one for each set, by computation.
 use Rattle.std.proofs.Common.{◌≡◌, true, refl}
 use Rattle.std.specs.List.{list_all}
-use Rattle.squawk_words.proofs.ClassLemmas.{is_sum}
-use Rattle.squawk_words.proofs.Flagged.{flagged, HasFlags-from}
-use Rattle.squawk_words.specs.Flags.{members_of, bit_of, HasFlags}
+use Rattle.squawk_words.proofs.CategoryLemmas.{is_sum}
+use Rattle.squawk_words.proofs.FlagTests.{flagged, HasFlags_from}
+use Rattle.squawk_words.specs.Flags.{bit_of, HasFlags}
+use Rattle.squawk_words.specs.Members.{members_of}
 use Rattle.squawk_words.specs.KeywordSets.{all_keywords, unreserved_keywords, column_or_table_keywords, type_keywords, bare_label_keywords}
 use Rattle.squawk_words.specs.Sets.{punctuation, operators, contextual_keywords, col_name_keyword_first, type_func_name_keywords, reserved_keywords, plpgsql_reserved_keywords, plpgsql_reserved_contextual_keywords}
 use Rattle.squawk_words.specs.declared.flags.TheConstants.{FLAGS}
 use Rattle.squawk_words.specs.declared.sets.Set.{Set}
 use Rattle.squawk_words.specs.declared.sets.Set.TheVariants.{Punctuation, Operators, ContextualKeywords, ColumnOrTableKeywords, TypeKeywords, ColNameKeywordFirst, TypeFuncNameKeywords, AllKeywords, BareLabelKeywords, UnreservedKeywords, ReservedKeywords, PlpgsqlReservedKeywords, PlpgsqlReservedContextualKeywords}
 
+-- the bit of each set is 1 exactly at the members of its list
 punctuation_flagged : flagged 0 0 FLAGS punctuation ≡ true
 unfolding flagged punctuation
 punctuation_flagged = refl
@@ -78,9 +80,9 @@ each_flagged ReservedKeywords = reserved_keywords_flagged
 each_flagged PlpgsqlReservedKeywords = plpgsql_reserved_keywords_flagged
 each_flagged PlpgsqlReservedContextualKeywords = plpgsql_reserved_contextual_keywords_flagged
 
-pub HasFlags-FLAGS : HasFlags FLAGS
-HasFlags-FLAGS = HasFlags-from FLAGS each_flagged
+pub HasFlags_FLAGS : HasFlags FLAGS
+HasFlags_FLAGS = HasFlags_from FLAGS each_flagged
 
--- the flag of all keywords is the sum of the flags of the four classes
-pub sums-FLAGS : list_all is_sum FLAGS ≡ true
-sums-FLAGS = refl
+-- the bit of all keywords is the sum of the bits of the four categories
+pub sums_FLAGS : list_all is_sum FLAGS ≡ true
+sums_FLAGS = refl

@@ -1,9 +1,9 @@
-pub mod ClassLemmas
-pub mod Flagged
+pub mod CategoryLemmas
+pub mod FlagTests
 pub mod FlagsAgree
 pub mod KindLemmas
-pub mod LookUp
-pub mod Placed
-pub mod Spelled
+pub mod SearchLemmas
+pub mod TableTests
+pub mod Spelling
 pub mod WordOrder
 pub mod WordTables

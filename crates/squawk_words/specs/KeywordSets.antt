@@ -1,9 +1,9 @@
--- The larger sets of kinds, by their members.
+-- The members of the larger sets of kinds, all of keywords.
 use Rattle.std.specs.Prelude.{List, [], ◌∷◌}
 use Rattle.squawk_kinds.specs.declared.SyntaxKind.{SyntaxKind}
 use Rattle.squawk_kinds.specs.declared.numbers.TheConstants.Number as kind
 
--- the kinds of the keywords
+-- all keywords but the contextual ones
 unfoldable pub all_keywords : List SyntaxKind
 all_keywords =
     kind.ABORT_KW ∷ kind.ABSENT_KW ∷ kind.ABSOLUTE_KW ∷ kind.ACCESS_KW ∷ kind.ACTION_KW ∷ kind.ADD_KW ∷
@@ -94,7 +94,7 @@ all_keywords =
     kind.ZONE_KW ∷
     []
 
--- keywords that may name anything
+-- keywords that may name anything: in PostgreSQL's appendix C "non-reserved"
 unfoldable pub unreserved_keywords : List SyntaxKind
 unreserved_keywords =
     kind.ABORT_KW ∷ kind.ABSENT_KW ∷ kind.ABSOLUTE_KW ∷ kind.ACCESS_KW ∷ kind.ACTION_KW ∷ kind.ADD_KW ∷
@@ -156,7 +156,8 @@ unreserved_keywords =
     kind.WORK_KW ∷ kind.WRAPPER_KW ∷ kind.WRITE_KW ∷ kind.XML_KW ∷ kind.YEAR_KW ∷ kind.YES_KW ∷ kind.ZONE_KW ∷
     []
 
--- keywords that may name a column or a table
+-- keywords that may name a column or a table: the unreserved ones, and those that may name a column
+-- or a table but no function or type
 unfoldable pub column_or_table_keywords : List SyntaxKind
 column_or_table_keywords =
     kind.ABORT_KW ∷ kind.ABSENT_KW ∷ kind.ABSOLUTE_KW ∷ kind.ACCESS_KW ∷ kind.ACTION_KW ∷ kind.ADD_KW ∷
@@ -229,7 +230,7 @@ column_or_table_keywords =
     kind.XMLROOT_KW ∷ kind.XMLSERIALIZE_KW ∷ kind.XMLTABLE_KW ∷ kind.YEAR_KW ∷ kind.YES_KW ∷ kind.ZONE_KW ∷
     []
 
--- keywords that may name a type
+-- keywords that a type may begin with: all but the reserved ones
 unfoldable pub type_keywords : List SyntaxKind
 type_keywords =
     kind.ABORT_KW ∷ kind.ABSENT_KW ∷ kind.ABSOLUTE_KW ∷ kind.ACCESS_KW ∷ kind.ACTION_KW ∷ kind.ADD_KW ∷
@@ -306,7 +307,8 @@ type_keywords =
     kind.XMLSERIALIZE_KW ∷ kind.XMLTABLE_KW ∷ kind.YEAR_KW ∷ kind.YES_KW ∷ kind.ZONE_KW ∷
     []
 
--- keywords that may label an output column without AS
+-- keywords that may be a column label without `AS`: all but those that PostgreSQL's appendix C marks
+-- "requires `AS`"
 unfoldable pub bare_label_keywords : List SyntaxKind
 bare_label_keywords =
     kind.ABORT_KW ∷ kind.ABSENT_KW ∷ kind.ABSOLUTE_KW ∷ kind.ACCESS_KW ∷ kind.ACTION_KW ∷ kind.ADD_KW ∷

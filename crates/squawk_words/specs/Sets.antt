@@ -1,16 +1,16 @@
--- The smaller sets of kinds, by their members; the larger ones stand in KeywordSets.
+-- The members of the smaller sets of kinds; the larger sets stand in KeywordSets.
 use Rattle.std.specs.Prelude.{List, [], ◌∷◌}
 use Rattle.squawk_kinds.specs.declared.SyntaxKind.{SyntaxKind}
 use Rattle.squawk_kinds.specs.declared.numbers.TheConstants.Number as kind
 
--- punctuation
+-- punctuation: `;`, `,`, parentheses, brackets, braces, `.` and `..`
 unfoldable pub punctuation : List SyntaxKind
 punctuation =
     kind.SEMICOLON ∷ kind.COMMA ∷ kind.L_PAREN ∷ kind.R_PAREN ∷ kind.L_BRACK ∷ kind.R_BRACK ∷ kind.L_CURLY ∷
     kind.R_CURLY ∷ kind.DOT ∷ kind.DOT_DOT ∷
     []
 
--- operators
+-- all other symbols: operators, and the characters that operators consist of
 unfoldable pub operators : List SyntaxKind
 operators =
     kind.DOLLAR ∷ kind.L_ANGLE ∷ kind.LESS_LESS ∷ kind.LTEQ ∷ kind.NEQB ∷ kind.R_ANGLE ∷ kind.GREATER_GREATER ∷
@@ -19,7 +19,7 @@ operators =
     kind.BANG ∷ kind.NEQ ∷ kind.MINUS ∷ kind.BACKTICK ∷
     []
 
--- the kinds of the contextual keywords
+-- the contextual keywords: keywords in the bodies of PL/pgSQL alone
 unfoldable pub contextual_keywords : List SyntaxKind
 contextual_keywords =
     kind.ALIAS_KW ∷ kind.ASSERT_KW ∷ kind.COLUMN_NAME_KW ∷ kind.CONSTANT_KW ∷ kind.CONSTRAINT_NAME_KW ∷
@@ -34,7 +34,8 @@ contextual_keywords =
     kind.WHILE_KW ∷
     []
 
--- keywords that may name a column, but no function or type
+-- keywords that may name a column or a table, but no function or type: in PostgreSQL's appendix C
+-- "non-reserved (cannot be function or type)"
 unfoldable pub col_name_keyword_first : List SyntaxKind
 col_name_keyword_first =
     kind.BETWEEN_KW ∷ kind.BIGINT_KW ∷ kind.BIT_KW ∷ kind.BOOLEAN_KW ∷ kind.CHAR_KW ∷ kind.CHARACTER_KW ∷
@@ -51,7 +52,8 @@ col_name_keyword_first =
     kind.XMLROOT_KW ∷ kind.XMLSERIALIZE_KW ∷ kind.XMLTABLE_KW ∷
     []
 
--- keywords that may name a function or a type, but no column
+-- keywords that may name a function or a type, but no column or table: in PostgreSQL's appendix C
+-- "reserved (can be function or type)"
 unfoldable pub type_func_name_keywords : List SyntaxKind
 type_func_name_keywords =
     kind.AUTHORIZATION_KW ∷ kind.BINARY_KW ∷ kind.COLLATION_KW ∷ kind.CONCURRENTLY_KW ∷ kind.CROSS_KW ∷
@@ -60,7 +62,8 @@ type_func_name_keywords =
     kind.OVERLAPS_KW ∷ kind.RIGHT_KW ∷ kind.SIMILAR_KW ∷ kind.TABLESAMPLE_KW ∷ kind.VERBOSE_KW ∷
     []
 
--- keywords that name nothing without quotes
+-- keywords that name no table, column, function or type unless they are quoted: in PostgreSQL's
+-- appendix C "reserved"
 unfoldable pub reserved_keywords : List SyntaxKind
 reserved_keywords =
     kind.ALL_KW ∷ kind.ANALYSE_KW ∷ kind.ANALYZE_KW ∷ kind.AND_KW ∷ kind.ANY_KW ∷ kind.ARRAY_KW ∷ kind.AS_KW ∷
@@ -78,7 +81,7 @@ reserved_keywords =
     kind.WHERE_KW ∷ kind.WINDOW_KW ∷ kind.WITH_KW ∷
     []
 
--- keywords that PL/pgSQL reserves
+-- keywords that name no variable in the bodies of PL/pgSQL unless they are quoted
 unfoldable pub plpgsql_reserved_keywords : List SyntaxKind
 plpgsql_reserved_keywords =
     kind.ALL_KW ∷ kind.BEGIN_KW ∷ kind.BY_KW ∷ kind.CASE_KW ∷ kind.DECLARE_KW ∷ kind.ELSE_KW ∷ kind.END_KW ∷
@@ -86,7 +89,7 @@ plpgsql_reserved_keywords =
     kind.THEN_KW ∷ kind.TO_KW ∷ kind.USING_KW ∷ kind.WHEN_KW ∷
     []
 
--- contextual keywords that PL/pgSQL reserves
+-- contextual keywords of which the same holds
 unfoldable pub plpgsql_reserved_contextual_keywords : List SyntaxKind
 plpgsql_reserved_contextual_keywords =
     kind.FOREACH_KW ∷ kind.LOOP_KW ∷ kind.WHILE_KW ∷

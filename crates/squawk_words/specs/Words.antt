@@ -1,9 +1,16 @@
--- The two tables of words: each word with its kind, by length and then by bytes.
-use Rattle.std.specs.Prelude.{ℕ, List, [], ◌∷◌, codes}
+-- The keywords and the contextual keywords: each word with its kind, by length and then by bytes.
+use Rattle.std.specs.Prelude.{ℕ, List, [], ◌∷◌, codes, length}
+use Rattle.std.specs.Cmp.Lexicographic.{slice_cmp}
+use Rattle.std.specs.declared.cmp.Ordering.{Ordering}
+use Rattle.std.specs.Ordering.{nat_cmp, ordering_then}
 use Rattle.squawk_kinds.specs.declared.SyntaxKind.{SyntaxKind}
 use Rattle.squawk_kinds.specs.declared.numbers.TheConstants.Number as kind
 
--- the keywords
+-- the order of the tables: by length, and then by bytes
+abbrev pub word_cmp : List ℕ → List ℕ → Ordering
+word_cmp a b = ordering_then (nat_cmp (length a) (length b)) (slice_cmp nat_cmp a b)
+
+-- the keywords of PostgreSQL, of all categories of appendix C
 unfoldable pub keywords : List (List ℕ × SyntaxKind)
 keywords =
     -- of 2 bytes

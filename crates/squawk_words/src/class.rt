@@ -1,4 +1,4 @@
-//! What kinds are used for.
+//! Classes of kinds: keywords and their categories, operators, punctuation, trivia.
 ghost use Rattle.std.specs.Prelude.{◌↔◌, IsTrue, Contains};
 ghost use Rattle.squawk_words.specs.Sets.{reserved_keywords, col_name_keyword_first, type_func_name_keywords};
 
@@ -8,7 +8,7 @@ use crate::{
 };
 use squawk_kinds::SyntaxKind;
 
-/// What a kind is used for.
+/// The class of a kind. A node, an identifier or a literal is of none of the four.
 pub trait KindClass {
     ghost use Rattle.std.specs.Prelude.{◌↔◌, IsTrue};
 
@@ -24,7 +24,7 @@ pub trait KindClass {
     fn is_keyword(self) -> bool
         ensures { IsTrue result ↔ keyword self };
 
-    /// Whether it is an operator.
+    /// Whether it is an operator, or another symbol that is not punctuation.
     fn is_operator(self) -> bool
         ensures { IsTrue result ↔ operator self };
 
@@ -40,14 +40,14 @@ pub trait KindClass {
 impl KindClass for SyntaxKind {
     ghost use Rattle.std.specs.Prelude.{◌≡◌, ◌⊎◌, Contains};
     ghost use Rattle.squawk_words.specs.KeywordSets.{all_keywords};
-    ghost use Rattle.squawk_words.specs.Sets.{contextual_keywords, operators, punctuation as signs};
+    ghost use Rattle.squawk_words.specs.Sets.{contextual_keywords, operators, punctuation as symbols};
     ghost use Rattle.squawk_kinds.specs.declared.numbers.TheConstants.Number.{WHITESPACE, COMMENT};
 
     ghost keyword = { λ kind. Contains all_keywords kind ⊎ Contains contextual_keywords kind };
 
     ghost operator = { λ kind. Contains operators kind };
 
-    ghost punctuation = { λ kind. Contains signs kind };
+    ghost punctuation = { λ kind. Contains symbols kind };
 
     ghost trivia = { λ kind. (kind ≡ WHITESPACE) ⊎ (kind ≡ COMMENT) };
 
@@ -68,21 +68,25 @@ impl KindClass for SyntaxKind {
     }
 }
 
-/// Whether the kind is a keyword that names nothing without quotes.
+/// Whether the kind is a keyword of the category "reserved" (PostgreSQL, appendix C).
+///
+/// Unless it is quoted, such a word names no table, column, function or type.
 pub fn is_reserved_keyword(kind: SyntaxKind) -> bool
     ensures { IsTrue result ↔ Contains reserved_keywords kind }
 {
     RESERVED_KEYWORDS.contains(kind)
 }
 
-/// Whether the kind is a keyword that may name a column, but no function or type.
+/// Whether the kind is a keyword of the category "non-reserved (cannot be function or type)"
+/// (PostgreSQL, appendix C). Such a word may name a column or a table.
 pub fn is_col_name_keyword(kind: SyntaxKind) -> bool
     ensures { IsTrue result ↔ Contains col_name_keyword_first kind }
 {
     COL_NAME_KEYWORD_FIRST.contains(kind)
 }
 
-/// Whether the kind is a keyword that may name a function or a type, but no column.
+/// Whether the kind is a keyword of the category "reserved (can be function or type)"
+/// (PostgreSQL, appendix C). Such a word names no column or table unless it is quoted.
 pub fn is_type_func_name_keyword(kind: SyntaxKind) -> bool
     ensures { IsTrue result ↔ Contains type_func_name_keywords kind }
 {

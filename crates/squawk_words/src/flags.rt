@@ -1,16 +1,15 @@
-//! The sets of kinds as flags.
+//! Membership in the sets, as one bit of each kind for each set.
 ghost use Rattle.squawk_words.specs.Flags.{HasFlags};
 
-/// The flags of each kind, by its number: bit `n` says that the kind is a member of set `n`.
-///
-/// A kind past the last flags is a member of no set.
+// The flags of each kind, by its number: bit `n` is set where the kind is a member of set `n`.
+// No kind past the end of the table is a member of a set.
 pub(crate) fn flags() -> &'static [u16]
     ensures { HasFlags result.now }
 {
     &FLAGS
 }
 
-/// The flags of the kinds up to the last that is a member of a set.
+// The flags of the kinds up to the last one that is a member of a set.
 #[rattlefmt::skip]
 static FLAGS: [u16; 600] = [
     0x0000, 0x0000, 0x0002, 0x0001, 0x0001, 0x0001, 0x0001, 0x0001, 0x0001, 0x0001, 0x0001, 0x0002,

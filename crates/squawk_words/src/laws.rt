@@ -1,44 +1,58 @@
-//! Laws of the tables: functions that do nothing, each with the law as its contract.
+//! Laws of the words and sets, for proofs: their contracts are what counts.
 ghost use Rattle.std.specs.Prelude.{◌≡◌, ◌≢◌, ◌↔◌, ℕ, AllPairs, Any, Contains};
 ghost use Rattle.std.specs.declared.cmp.Ordering.TheVariants.{Less};
-ghost use Rattle.squawk_words.specs.Classes.{classes};
-ghost use Rattle.squawk_words.specs.Index.{word_cmp};
-ghost use Rattle.squawk_words.specs.Flags.{members};
-ghost use Rattle.squawk_words.specs.KeywordSets.{all_keywords, unreserved_keywords, column_or_table_keywords, type_keywords, bare_label_keywords};
-ghost use Rattle.squawk_words.specs.Sets.{punctuation, operators, contextual_keywords as contextual, col_name_keyword_first, type_func_name_keywords, reserved_keywords, plpgsql_reserved_keywords, plpgsql_reserved_contextual_keywords};
-ghost use Rattle.squawk_words.specs.declared.sets.TheConstants as sets;
-ghost use Rattle.squawk_words.specs.Words.{keywords, contextual_keywords};
+ghost use Rattle.squawk_words.specs.Categories.{categories, kind_sets};
+ghost use Rattle.squawk_words.specs.KeywordSets.{all_keywords};
+ghost use Rattle.squawk_words.specs.Words.{keywords, contextual_keywords, word_cmp};
 
-/// The words of each table rise by their length and then by their bytes, and none stands twice.
-pub fn words_rise()
+use crate::{
+    ALL_KEYWORDS, BARE_LABEL_KEYWORDS, COL_NAME_KEYWORD_FIRST, COLUMN_OR_TABLE_KEYWORDS,
+    CONTEXTUAL_KEYWORDS, KindSet, OPERATORS, PLPGSQL_RESERVED_CONTEXTUAL_KEYWORDS,
+    PLPGSQL_RESERVED_KEYWORDS, PUNCTUATION, RESERVED_KEYWORDS, TYPE_FUNC_NAME_KEYWORDS,
+    TYPE_KEYWORDS, UNRESERVED_KEYWORDS,
+};
+use std::alloc::AllocError;
+
+/// Each table of words is sorted by length and then by bytes, and has no word twice.
+pub fn words_are_sorted()
     ensures keywords { AllPairs (λ a b. word_cmp a.0 b.0 ≡ Less) keywords }
     ensures contextual { AllPairs (λ a b. word_cmp a.0 b.0 ≡ Less) contextual_keywords }
     ensures keywords_once { AllPairs (λ a b. a.0 ≢ b.0) keywords }
     ensures contextual_once { AllPairs (λ a b. a.0 ≢ b.0) contextual_keywords }
 {}
 
-/// The keywords are the members of the four classes of keywords, and no two classes have a member
-/// in common.
-pub fn keywords_have_classes()
+/// Each keyword belongs to exactly one of PostgreSQL's four categories (appendix C).
+pub fn keywords_have_categories()
     ensures union { (kind : ℕ) → Contains all_keywords kind
-        ↔ Any (λ class. Contains class kind) classes }
-    ensures disjoint { AllPairs (λ a b. (kind : ℕ) → Contains a kind → ¬ Contains b kind) classes }
+        ↔ Any (λ category. Contains category kind) categories }
+    ensures disjoint { AllPairs (λ a b. (kind : ℕ) → Contains a kind → ¬ Contains b kind)
+        categories }
 {}
 
-/// Each constant is the set of its name.
-pub fn sets_have_members()
-    ensures punctuation { members sets.PUNCTUATION ≡ punctuation }
-    ensures operators { members sets.OPERATORS ≡ operators }
-    ensures contextual { members sets.CONTEXTUAL_KEYWORDS ≡ contextual }
-    ensures column_or_table { members sets.COLUMN_OR_TABLE_KEYWORDS ≡ column_or_table_keywords }
-    ensures type_keywords { members sets.TYPE_KEYWORDS ≡ type_keywords }
-    ensures col_name_first { members sets.COL_NAME_KEYWORD_FIRST ≡ col_name_keyword_first }
-    ensures type_func_name { members sets.TYPE_FUNC_NAME_KEYWORDS ≡ type_func_name_keywords }
-    ensures all { members sets.ALL_KEYWORDS ≡ all_keywords }
-    ensures bare_label { members sets.BARE_LABEL_KEYWORDS ≡ bare_label_keywords }
-    ensures unreserved { members sets.UNRESERVED_KEYWORDS ≡ unreserved_keywords }
-    ensures reserved { members sets.RESERVED_KEYWORDS ≡ reserved_keywords }
-    ensures plpgsql_reserved { members sets.PLPGSQL_RESERVED_KEYWORDS ≡ plpgsql_reserved_keywords }
-    ensures plpgsql_contextual { members sets.PLPGSQL_RESERVED_CONTEXTUAL_KEYWORDS
-        ≡ plpgsql_reserved_contextual_keywords }
-{}
+/// A clone of a set is the set, and cloning does not fail.
+pub fn clones_are_equal(set: KindSet) -> Result<KindSet, AllocError>
+    ensures { result ≡ Ok set }
+{
+    set.clone()
+}
+
+/// Returns the thirteen constants: each is the set of its name.
+pub fn sets_have_members() -> [KindSet; 13]
+    ensures { result ≡ kind_sets }
+{
+    [
+        PUNCTUATION,
+        OPERATORS,
+        CONTEXTUAL_KEYWORDS,
+        COLUMN_OR_TABLE_KEYWORDS,
+        TYPE_KEYWORDS,
+        COL_NAME_KEYWORD_FIRST,
+        TYPE_FUNC_NAME_KEYWORDS,
+        ALL_KEYWORDS,
+        BARE_LABEL_KEYWORDS,
+        UNRESERVED_KEYWORDS,
+        RESERVED_KEYWORDS,
+        PLPGSQL_RESERVED_KEYWORDS,
+        PLPGSQL_RESERVED_CONTEXTUAL_KEYWORDS,
+    ]
+}

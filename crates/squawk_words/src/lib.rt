@@ -1,7 +1,7 @@
-//! The keywords, found by their text, and the sets of kinds.
+//! The keywords of PostgreSQL and PL/pgSQL by their text, and sets of kinds.
 //!
-//! No call takes memory. A word is found by halving among the words of its length; a set is a flag
-//! of each kind.
+//! No call allocates. A keyword is found by a binary search among the words of its length, and
+//! membership in a set is one bit of a table.
 #![tactic(auto)]
 
 ghost use Rattle.std.specs.Prelude.{◌≡◌, ◌↔◌, IsNone, IfSome, OnSome, Some, slice_get};
@@ -12,8 +12,8 @@ ghost use Rattle.squawk_words.specs.Words.{keywords, contextual_keywords};
 
 mod class;
 mod flags;
-mod halving;
 pub mod laws;
+mod search;
 mod sets;
 mod tables;
 #[cfg(test)]
@@ -27,12 +27,14 @@ pub use sets::{
     TYPE_KEYWORDS, UNRESERVED_KEYWORDS,
 };
 use squawk_kinds::SyntaxKind;
+use tables::Table;
 
-/// The kind of the keyword that `ident` is when ASCII letters are compared without case, and
-/// nothing else folded.
+/// Returns the kind of the keyword that `ident` spells, or `None` where it spells none.
 ///
-/// `None` exactly where no keyword is. A kind that is found prints as its word, in small letters,
-/// between backquotes.
+/// Keywords are those of PostgreSQL (manual, appendix C), of every category. As in PostgreSQL
+/// (4.1.1), they are compared ASCII case-insensitively: `SELECT` and `Select` are the keyword
+/// `select`, but U+212A, the Kelvin sign, is not the letter `k`.
+#[tactic(auto, unfolding(crate::specs::KindOf::keyword_of, crate::specs::KindOf::contextual_keyword_of))]
 pub fn from_keyword(ident: &str) -> Option<SyntaxKind>
     ensures kind { result ≡ keyword_of ident.now }
     ensures none { IsNone result ↔ HasNoWord keywords ident.now }
@@ -41,14 +43,14 @@ pub fn from_keyword(ident: &str) -> Option<SyntaxKind>
     ensures printed { IfSome result (λ kind. slice_get texts kind ≡ Some (backquoted ident.now)) }
     ensures apart { OnSome result (IsNone (contextual_keyword_of ident.now)) }
 {
-    halving::look_up(tables::keywords(), ident)
+    search::look_up(Table::Keywords, ident)
 }
 
-/// The kind of the contextual keyword that `ident` is when ASCII letters are compared without case,
-/// and nothing else folded: of a word that is a keyword in the bodies of PL/pgSQL alone.
+/// Returns the kind of the contextual keyword that `ident` spells, or `None` where it spells none.
 ///
-/// `None` exactly where no contextual keyword is. A kind that is found prints as its word, in small
-/// letters, between backquotes.
+/// A contextual keyword, as `loop`, is a keyword in the bodies of PL/pgSQL alone. The comparison
+/// is that of `from_keyword`.
+#[tactic(auto, unfolding(crate::specs::KindOf::keyword_of, crate::specs::KindOf::contextual_keyword_of))]
 pub fn from_contextual_keyword(ident: &str) -> Option<SyntaxKind>
     ensures kind { result ≡ contextual_keyword_of ident.now }
     ensures none { IsNone result ↔ HasNoWord contextual_keywords ident.now }
@@ -56,5 +58,5 @@ pub fn from_contextual_keyword(ident: &str) -> Option<SyntaxKind>
     ensures printed { IfSome result (λ kind. slice_get texts kind ≡ Some (backquoted ident.now)) }
     ensures apart { OnSome result (IsNone (keyword_of ident.now)) }
 {
-    halving::look_up(tables::contextual_keywords(), ident)
+    search::look_up(Table::ContextualKeywords, ident)
 }

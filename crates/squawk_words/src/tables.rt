@@ -1,59 +1,59 @@
-//! The two tables of words, by the length of the word and then by its bytes.
+//! The tables of keywords and contextual keywords, sorted by length and then by bytes.
 ghost use Rattle.std.specs.Prelude.{◌≡◌};
-ghost use Rattle.squawk_words.specs.Index.{IsIndex, IsSpelled, pairs_of};
-ghost use Rattle.squawk_words.specs.Words.{keywords, contextual_keywords};
+ghost use Rattle.squawk_words.specs.WordTable.{IsWordTable, IsSpelled, pairs_of, pairs_in};
 
 use squawk_kinds::numbers::Number;
 
-/// A table of words. All words of one length stand side by side, in the order of their bytes.
+// The names of the tables.
+#[derive(Clone, Copy)]
+pub(crate) enum Table {
+    Keywords,
+    ContextualKeywords,
+}
+
+// A table of words, sorted by length and then by bytes.
 #[derive(Clone, Copy)]
 pub(crate) struct Words {
-    /// The numbers of the words' kinds.
+    // The numbers of the words' kinds.
     pub(crate) kinds: &'static [u16],
-    /// Where the kinds of the words of each length begin, from length 0 on, and where those of the longest end.
+    // The index of the first word of each length from 0 on, and then the number of words.
     pub(crate) starts: &'static [u16],
-    /// The words, in the same order, each with one byte behind it that parts it from the next.
+    // The words in order, with one byte after each.
     pub(crate) text: &'static [u8],
-    /// Where the words of each length begin in the text, from length 0 on.
+    // The offset in `text` of the first word of each length from 0 on.
     pub(crate) offsets: &'static [u16],
 }
 
-/// The keywords.
-pub(crate) fn keywords() -> Words
-    ensures same { pairs_of result.kinds.now ≡ keywords }
-    ensures index { IsIndex result.kinds.now result.starts.now }
+// The words of a table.
+pub(crate) fn words_in(table: Table) -> Words
+    ensures same { pairs_of result.kinds.now ≡ pairs_in table }
+    ensures table { IsWordTable result.kinds.now result.starts.now }
     ensures spelled { IsSpelled result.kinds.now result.starts.now result.text.now result.offsets.now }
 {
-    Words {
-        kinds: &KEYWORDS,
-        starts: &KEYWORD_STARTS,
-        text: KEYWORD_TEXT.as_bytes(),
-        offsets: &KEYWORD_OFFSETS,
+    match table {
+        Table::Keywords => Words {
+            kinds: &KEYWORDS,
+            starts: &KEYWORD_STARTS,
+            text: KEYWORD_TEXT.as_bytes(),
+            offsets: &KEYWORD_OFFSETS,
+        },
+        Table::ContextualKeywords => Words {
+            kinds: &CONTEXTUAL_KEYWORDS,
+            starts: &CONTEXTUAL_STARTS,
+            text: CONTEXTUAL_TEXT.as_bytes(),
+            offsets: &CONTEXTUAL_OFFSETS,
+        },
     }
 }
 
-/// The contextual keywords.
-pub(crate) fn contextual_keywords() -> Words
-    ensures same { pairs_of result.kinds.now ≡ contextual_keywords }
-    ensures index { IsIndex result.kinds.now result.starts.now }
-    ensures spelled { IsSpelled result.kinds.now result.starts.now result.text.now result.offsets.now }
-{
-    Words {
-        kinds: &CONTEXTUAL_KEYWORDS,
-        starts: &CONTEXTUAL_STARTS,
-        text: CONTEXTUAL_TEXT.as_bytes(),
-        offsets: &CONTEXTUAL_OFFSETS,
-    }
-}
-
-/// The numbers of these kinds.
+// An array of the numbers of these kinds.
 macro_rules! numbers_of {
     ($($name:ident)*) => {
         [$(Number::$name),*]
     };
 }
 
-/// The kinds of the keywords, by the length of the word and then by its bytes; each length begins on a line of its own.
+// The kinds of the keywords in order; each length begins on a line of its own.
 #[rattlefmt::skip]
 static KEYWORDS: [u16; 511] = numbers_of![
     AS_KW AT_KW BY_KW DO_KW IF_KW IN_KW IS_KW NO_KW OF_KW ON_KW OR_KW TO_KW
@@ -114,13 +114,13 @@ static KEYWORDS: [u16; 511] = numbers_of![
     CURRENT_TIMESTAMP_KW
 ];
 
-/// Where the keywords of each length begin, from length 0 on, and where the longest end.
+// The index of the first keyword of each length, and the number of keywords.
 #[rattlefmt::skip]
 static KEYWORD_STARTS: [u16; 19] = [
     0, 0, 0, 12, 39, 109, 180, 262, 340, 395, 439, 470, 486, 498, 504, 508, 510, 510, 511,
 ];
 
-/// The keywords in the order of their kinds, each with one byte behind it.
+// The keywords in order, with one byte after each.
 #[rattlefmt::skip]
 const KEYWORD_TEXT: &str = "\
 as at by do if in is no of on or to
@@ -167,13 +167,13 @@ characteristics current_catalog
 current_timestamp
 ";
 
-/// Where the keywords of each length begin in the text.
+// The offset in `KEYWORD_TEXT` of the first keyword of each length.
 #[rattlefmt::skip]
 static KEYWORD_OFFSETS: [u16; 18] = [
     0, 0, 0, 36, 144, 494, 920, 1494, 2118, 2613, 3053, 3394, 3586, 3742, 3826, 3886, 3918, 3918,
 ];
 
-/// The kinds of the contextual keywords, in the same order.
+// The kinds of the contextual keywords in order.
 #[rattlefmt::skip]
 static CONTEXTUAL_KEYWORDS: [u16; 49] = numbers_of![
     GET_KW LOG_KW
@@ -194,13 +194,13 @@ static CONTEXTUAL_KEYWORDS: [u16; 49] = numbers_of![
     PG_EXCEPTION_CONTEXT_KW
 ];
 
-/// Where the contextual keywords of each length begin, and where the longest end.
+// The index of the first contextual keyword of each length, and their number.
 #[rattlefmt::skip]
 static CONTEXTUAL_STARTS: [u16; 22] = [
     0, 0, 0, 0, 2, 8, 15, 19, 27, 30, 32, 35, 38, 40, 40, 41, 42, 43, 46, 46, 48, 49,
 ];
 
-/// The contextual keywords in the order of their kinds, each with one byte behind it.
+// The contextual keywords in order, with one byte after each.
 #[rattlefmt::skip]
 const CONTEXTUAL_TEXT: &str = "\
 get log
@@ -221,7 +221,7 @@ pg_exception_detail print_strict_params
 pg_exception_context
 ";
 
-/// Where the contextual keywords of each length begin in the text.
+// The offset in `CONTEXTUAL_TEXT` of the first contextual keyword of each length.
 #[rattlefmt::skip]
 static CONTEXTUAL_OFFSETS: [u16; 21] = [
     0, 0, 0, 0, 8, 38, 80, 108, 172, 199, 219, 252, 288, 314, 314, 329, 345, 362, 416, 416, 456,

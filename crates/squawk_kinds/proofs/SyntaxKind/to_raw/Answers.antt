@@ -1,5 +1,5 @@
 use Rattle.std.proofs.Common.{Some, ap, ◌∙◌}
-use Rattle.squawk_kinds.proofs.Places.{kinds_within}
+use Rattle.squawk_kinds.proofs.KindNumbers.{kinds_within}
 use Rattle.squawk_kinds.proofs.SyntaxKind.to_raw.Goals as goal
 
 pub returns-clause-listed : goal.returns-clause-listed
