@@ -14,16 +14,13 @@ ghost use Rattle.squawk_lexed.specs.Stored.{kinds_of, starts_of, errors_of, erro
 
 use crate::error::{LexError, push_faults};
 use crate::kind::kind_of;
-use squawk_events::{FrontError, Input};
+use squawk_events::{FrontError, Input, LIMIT};
 use squawk_kinds::SyntaxKind;
 use squawk_lexer::laws::flags_lie_within;
 use squawk_lexer::{Strings, Token, tokenize_in};
 use std::alloc::Global;
 use std::marker::Model;
 use std::ops::Range;
-
-// The most bytes that a text may have.
-const LIMIT: usize = 4294967295;
 
 // The lists of a lexed text while it grows.
 #[derive(Drop)]
@@ -118,7 +115,7 @@ impl<'a> LexedStr<'a> {
         ensures too_long { IsErrOf result FrontError.TooLong ↔ (4294967295 < length text.now) }
         ensures refusals { IfErr result (MayRefuse text.now) }
     {
-        if text.len() > LIMIT {
+        if text.len() as u64 > LIMIT {
             return Err(FrontError::TooLong);
         }
         flags_lie_within();

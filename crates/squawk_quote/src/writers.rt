@@ -4,11 +4,8 @@ ghost use Rattle.std.specs.Str.{chars, encode_utf8_all};
 ghost use Rattle.std.specs.String.{string_bytes};
 ghost use Rattle.squawk_quote.specs.Values as spec;
 
-use squawk_events::FrontError;
+use squawk_events::{FrontError, LIMIT};
 use std::alloc::{AllocError, Global};
-
-// The length limit of a text, in bytes: the largest `u32`.
-const LIMIT: usize = 4294967295;
 
 // Appends a character, and a quote twice.
 fn push_escaped_char(out: &mut String, quote: char, c: char) -> Result<(), AllocError>
@@ -36,15 +33,15 @@ fn push_escaped(out: &mut String, quote: char, value: &str) -> Result<(), AllocE
 fn quote_with(alloc: Global, quote: char, value: &str) -> Result<String, FrontError>
     ensures text { IfOk result (λ out. string_bytes out
         ≡ encode_utf8_all (spec.quoted_text quote (chars value.now))) }
-    ensures within_limit { IfOk result (λ out. length (string_bytes out) ≤ LIMIT) }
-    ensures refusals { IfErr result (spec.IsRefusal (LIMIT
+    ensures within_limit { IfOk result (λ out. length (string_bytes out) ≤ 4294967295) }
+    ensures refusals { IfErr result (spec.IsRefusal (4294967295
         < length (encode_utf8_all (spec.quoted_text quote (chars value.now))))) }
 {
     let mut out = String::new(alloc);
     out.push(quote)?;
     push_escaped(&mut out, quote, value)?;
     out.push(quote)?;
-    if out.len() > LIMIT {
+    if out.len() as u64 > LIMIT {
         return Err(FrontError::TooLong);
     }
     Ok(out)
@@ -62,8 +59,8 @@ pub fn quote_string(alloc: Global, value: &str) -> Result<String, FrontError>
     ensures text { IfOk result (λ out. string_bytes out ≡ spec.string_constant_bytes value.now) }
     ensures token { IfOk result (λ out. spec.IsStringConstant (string_bytes out)) }
     ensures value { IfOk result (λ out. spec.HasValue value.now (string_bytes out)) }
-    ensures within_limit { IfOk result (λ out. length (string_bytes out) ≤ LIMIT) }
-    ensures refusals { IfErr result (spec.IsRefusal (LIMIT
+    ensures within_limit { IfOk result (λ out. length (string_bytes out) ≤ 4294967295) }
+    ensures refusals { IfErr result (spec.IsRefusal (4294967295
         < length (spec.string_constant_bytes value.now))) }
 {
     quote_with(alloc, '\'', value)
@@ -84,8 +81,8 @@ pub fn quote_ident(alloc: Global, value: &str) -> Result<String, FrontError>
     ensures text { IfOk result (λ out. string_bytes out ≡ spec.quoted_identifier_bytes value.now) }
     ensures token { IfOk result (λ out. spec.IsQuotedIdentifier (string_bytes out)) }
     ensures value { IfOk result (λ out. spec.HasValue value.now (string_bytes out)) }
-    ensures within_limit { IfOk result (λ out. length (string_bytes out) ≤ LIMIT) }
-    ensures refusals { IfErr result (spec.IsRefusal (LIMIT
+    ensures within_limit { IfOk result (λ out. length (string_bytes out) ≤ 4294967295) }
+    ensures refusals { IfErr result (spec.IsRefusal (4294967295
         < length (spec.quoted_identifier_bytes value.now))) }
 {
     quote_with(alloc, '"', value)

@@ -7,13 +7,10 @@ ghost use Rattle.squawk_lexer.specs.Classes.{is_line_end};
 ghost use Rattle.squawk_lexer.specs.Cut.{is_trivia};
 ghost use Rattle.squawk_squeeze.specs.Squeezed as spec;
 
-use squawk_events::FrontError;
+use squawk_events::{FrontError, LIMIT};
 use squawk_lexer::laws::{tokens_look_ahead, tokens_progress, tokens_stay};
 use squawk_lexer::{Strings, TokenKind, cut_at_in};
 use std::alloc::{AllocError, Global};
-
-// The length limit of a text, in bytes: the largest `u32`.
-const LIMIT: usize = 4294967295;
 
 // Whether a token is white space or a comment.
 fn is_trivia(kind: TokenKind) -> bool
@@ -86,10 +83,10 @@ pub fn squeeze(alloc: Global, text: &str, strings: Strings) -> Result<String, Fr
     ensures idempotent { IfOk result (λ out.
         spec.IsUnchangedBySqueezing strings (string_bytes out)) }
     ensures no_longer { IfOk result (λ out. length (string_bytes out) ≤ length text.now) }
-    ensures too_long { IsErrOf result FrontError.TooLong ↔ (LIMIT < length text.now) }
-    ensures refusals { IfErr result (spec.IsRefusal (LIMIT < length text.now)) }
+    ensures too_long { IsErrOf result FrontError.TooLong ↔ (4294967295 < length text.now) }
+    ensures refusals { IfErr result (spec.IsRefusal (4294967295 < length text.now)) }
 {
-    if text.len() > LIMIT {
+    if text.len() as u64 > LIMIT {
         return Err(FrontError::TooLong);
     }
     tokens_progress();
