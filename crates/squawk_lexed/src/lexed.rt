@@ -4,7 +4,7 @@ ghost use Rattle.std.specs.Str.{chars, IsCharBoundary};
 ghost use Rattle.squawk_kinds.specs.declared.numbers.TheConstants.Number.{EOF};
 ghost use Rattle.squawk_events.specs.declared.error.FrontError.TheVariants.{OutOfMemory};
 ghost use Rattle.squawk_events.specs.Kinds.{is_trivia_kind, has_no_trivia, without_trivia as kinds_kept};
-ghost use Rattle.squawk_lexed.specs.Weave.{without_trivia};
+ghost use Rattle.squawk_lexed.specs.Weave.{kinds_without_trivia};
 ghost use Rattle.squawk_events.specs.Message.{message_of};
 ghost use Rattle.squawk_lexer.specs.Flags.{IsCut, AreCut};
 ghost use Rattle.squawk_lexer.specs.declared.token.Strings.TheVariants.{Standard};
@@ -368,7 +368,7 @@ impl<'a> LexedStr<'a> {
 
     /// The kinds that are not trivia.
     pub fn to_input(&self, alloc: Global) -> Result<Input, FrontError>
-        ensures ok { IfOk result (λ input. input ≡ without_trivia self.now.tokens) }
+        ensures ok { IfOk result (λ input. input ≡ kinds_without_trivia self.now.tokens) }
         ensures no_trivia { IfOk result (λ input. IsTrue (has_no_trivia input)) }
         ensures refusal { IsOkUnless result OutOfMemory }
     {
