@@ -4,8 +4,8 @@ use Rattle.std.proofs.lemmas.List.{length-take-le, take_all, drop_all, take-map}
 use Rattle.std.specs.Prelude.{Option, Some, None, option_map}
 use Rattle.squawk_join.specs.Join.{lexed_role}
 use Rattle.squawk_join.specs.ParseOf.{parse_of, child_of, join}
-use Rattle.squawk_woven.specs.Weave.{are_sound}
-use Rattle.squawk_woven.specs.declared.lex.LexedToken.{LexedToken}
+use Rattle.squawk_lexed.specs.LexedText.{are_sound}
+use Rattle.squawk_lexed.specs.LexedToken.{LexedToken}
 use Rattle.squawk_kinds.specs.Role.{Role, is_trivia, Trivia, Semicolon, Terminator, Command, Open, Close, Other}
 use Rattle.squawk_statements.specs.Children.{ends_statement, open_groups_after, statement_end, trimmed_len, statement, child_from, more_of, parts, parts_from}
 use Rattle.squawk_kinds.specs.Role.{role}

@@ -8,8 +8,8 @@ use Rattle.squawk_events.specs.declared.steps.StrStep.{StrStep}
 use Rattle.squawk_events.specs.declared.steps.StrStep.TheVariants as out
 use Rattle.squawk_join.specs.Steps.{closes, is_balanced, has_no_errors}
 use Rattle.squawk_join.specs.Tree.{without_errors}
-use Rattle.squawk_woven.specs.Weave.{leading_trivia, leading_trivia_end, after_leading_trivia, next_len, weave_from, weave}
-use Rattle.squawk_woven.specs.declared.lex.LexedToken.{LexedToken}
+use Rattle.squawk_lexed.specs.Weave.{leading_trivia, leading_trivia_end, after_leading_trivia, next_len, weave_from, weave}
+use Rattle.squawk_lexed.specs.LexedToken.{LexedToken}
 use Rattle.squawk_join.proofs.LeavesLemmas.{never_closed}
 
 -- trivia in a node

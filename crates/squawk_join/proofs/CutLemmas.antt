@@ -7,8 +7,8 @@ use Rattle.squawk_events.specs.Kinds.{is_trivia_kind}
 use Rattle.squawk_kinds.specs.Role.{role}
 use Rattle.squawk_statements.specs.Kinds.{role_trivia}
 use Rattle.squawk_kinds.specs.Role.{Role, is_trivia, Trivia, Semicolon, Terminator, Command, Open, Close, Other}
-use Rattle.squawk_woven.specs.Weave.{kinds_without_trivia}
-use Rattle.squawk_woven.specs.declared.lex.LexedToken.{LexedToken}
+use Rattle.squawk_lexed.specs.Weave.{kinds_without_trivia}
+use Rattle.squawk_lexed.specs.LexedToken.{LexedToken}
 use Rattle.squawk_statements.specs.Children.{ends_statement, open_groups_after, statement_end, trimmed_len, statement, child_from}
 use Rattle.squawk_statements.specs.declared.division.Division.{Division}
 use Rattle.squawk_join.specs.Join.{lexed_role}

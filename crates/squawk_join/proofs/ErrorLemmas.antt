@@ -7,12 +7,16 @@ use Rattle.squawk_events.specs.declared.steps.Step.{Step}
 use Rattle.squawk_events.specs.declared.steps.Step.TheVariants.{Enter, Token, Exit, Error}
 use Rattle.squawk_events.specs.declared.steps.StrStep.{StrStep}
 use Rattle.squawk_events.specs.declared.steps.StrStep.TheVariants as out
-use Rattle.squawk_woven.specs.Weave.{kinds_without_trivia, leading_trivia, leading_trivia_end, after_leading_trivia, next_len, is_empty, weave_from, weave, are_sound, faults_within}
-use Rattle.squawk_woven.specs.declared.lex.LexedToken.{LexedToken}
+use Rattle.squawk_lexed.specs.Weave.{kinds_without_trivia, leading_trivia, leading_trivia_end, after_leading_trivia, next_len, is_empty, weave_from, weave}
+use Rattle.squawk_lexed.specs.LexedText.{are_sound}
+use Rattle.squawk_lexed.specs.Faults.{faults_within}
+use Rattle.squawk_lexed.specs.LexedToken.{LexedToken}
 use Rattle.squawk_events.specs.Lawful.{IsLawful}
 use Rattle.std.specs.Prelude.{Result, Ok, Err, IfOk}
 use Rattle.squawk_join.specs.Tree.{Tree, without_errors}
-use Rattle.squawk_join.specs.Errors.{error, errors_at, numbers_at, errors_from, errors, walked}
+use Rattle.squawk_join.specs.Errors.{error, numbers_at, errors_by_token, errors}
+use Rattle.squawk_join.specs.Walk.{errors_by_step}
+use Rattle.squawk_lexed.specs.Stored.{errors_at}
 use Rattle.squawk_join.proofs.LeavesLemmas.{next_of, none_behind, kept_behind, never_closed}
 
 -- whether steps give out all of the tokens from a place on, each Error at the start of the next
@@ -120,31 +124,31 @@ none_before q at (t ∷ ts) (out.Token kind start end ∷ xs) h r =
 -- the errors from a place on are those of any list with the same numbers from there on
 same_errors : (p : ℕ) (ts : List LexedToken) (xs ys : List StrStep)
     → ((q : ℕ) → p ≤ q → numbers_at q xs ≡ numbers_at q ys)
-    → errors_from p ts xs ≡ errors_from p ts ys
+    → errors_by_token p ts xs ≡ errors_by_token p ts ys
 same_errors p [] xs ys h = ap (map (error p p)) (h p (omega arith))
 same_errors p (t ∷ ts) xs ys h =
     ap (λ ns. map (error p (p + t.len)) ns ++ errors_at p t.faults
-    ++ errors_from (p + t.len) ts xs) (h p (omega arith))
+    ++ errors_by_token (p + t.len) ts xs) (h p (omega arith))
     ∙ ap (λ es. map (error p (p + t.len)) (numbers_at p ys) ++ errors_at p t.faults
     ++ es) (same_errors (p + t.len) ts xs ys (λ q le. h q (omega arith)))
 
 at_place : (at : ℕ) → (at == at) ≡ true
 at_place at = grind (arith, nat_tests)
 
-pub errors_walked : (at : ℕ) (ts : List LexedToken) (xs : List StrStep) → runs at ts xs ≡ true
-    → are_sound ts ≡ true → errors_from at ts xs ≡ walked at ts xs
-errors_walked at [] [] r s = refl
-errors_walked at (t ∷ ts) [] r s = absurd (cc)
-errors_walked at ts (out.Enter kind ∷ xs) r s =
-    same_errors at ts (out.Enter kind ∷ xs) xs (λ q le. refl) ∙ errors_walked at ts xs r s
-errors_walked at ts (out.Exit ∷ xs) r s = same_errors at ts (out.Exit ∷ xs) xs (λ q le. refl)
-    ∙ errors_walked at ts xs r s
-errors_walked at [] (out.Error number place ∷ xs) r s =
+pub by_token_is_by_step : (at : ℕ) (ts : List LexedToken) (xs : List StrStep) → runs at ts xs ≡ true
+    → are_sound ts ≡ true → errors_by_token at ts xs ≡ errors_by_step at ts xs
+by_token_is_by_step at [] [] r s = refl
+by_token_is_by_step at (t ∷ ts) [] r s = absurd (cc)
+by_token_is_by_step at ts (out.Enter kind ∷ xs) r s =
+    same_errors at ts (out.Enter kind ∷ xs) xs (λ q le. refl) ∙ by_token_is_by_step at ts xs r s
+by_token_is_by_step at ts (out.Exit ∷ xs) r s = same_errors at ts (out.Exit ∷ xs) xs (λ q le. refl)
+    ∙ by_token_is_by_step at ts xs r s
+by_token_is_by_step at [] (out.Error number place ∷ xs) r s =
     let p = split (place == at) (runs at [] xs) r in
     let end : at ≡ at + 0 = omega arith in
     rw p.0 (ap (λ m. error at m number ∷ map (error at at) (numbers_at at xs)) end
-    ∙ ap (λ es. error at (at + 0) number ∷ es) (errors_walked at [] xs p.1 s))
-errors_walked at (t ∷ ts) (out.Error number place ∷ xs) r s =
+    ∙ ap (λ es. error at (at + 0) number ∷ es) (by_token_is_by_step at [] xs p.1 s))
+by_token_is_by_step at (t ∷ ts) (out.Error number place ∷ xs) r s =
     let p = split (place == at) (runs at (t ∷ ts) xs) r in
     let is = is_place place at p.0 in
     let some = some_len t.len (split (nat_lt 0 t.len) (faults_within t.len t.faults
@@ -152,23 +156,23 @@ errors_walked at (t ∷ ts) (out.Error number place ∷ xs) r s =
     let rest = same_errors (at + t.len) ts (out.Error number place ∷ xs) xs (λ q le. let e =
     not_place place q (omega arith) in rw e refl) in
     rw (p.0, rest) (ap (λ es. error at (at + t.len) number
-    ∷ es) (errors_walked at (t ∷ ts) xs p.1 s))
-errors_walked at [] (out.Token kind start end ∷ xs) r s = absurd (cc)
-errors_walked at (t ∷ ts) (out.Token kind start end ∷ xs) r s =
+    ∷ es) (by_token_is_by_step at (t ∷ ts) xs p.1 s))
+by_token_is_by_step at [] (out.Token kind start end ∷ xs) r s = absurd (cc)
+by_token_is_by_step at (t ∷ ts) (out.Token kind start end ∷ xs) r s =
     let s1 = split (nat_lt 0 t.len) (faults_within t.len t.faults && are_sound ts) s in
     let s2 = split (faults_within t.len t.faults) (are_sound ts) s1.1 in
     let some = some_len t.len s1.0 in
     let none = none_before at (at + t.len) ts xs (omega arith) r in
     let rest = same_errors (at + t.len) ts (out.Token kind start end ∷ xs) xs (λ q le. refl) in
     rw (none, rest) (ap (λ es. errors_at at t.faults
-    ++ es) (errors_walked (at + t.len) ts xs r s2.1))
+    ++ es) (by_token_is_by_step (at + t.len) ts xs r s2.1))
 
 pub errors_whole : (ts : List LexedToken) (xs : List Step) → is_balanced xs ≡ true
     → token_kinds xs ≡ kinds_without_trivia ts → are_sound ts ≡ true
-    → errors ts (weave ts xs) ≡ walked 0 ts (weave ts xs)
+    → errors ts (weave ts xs) ≡ errors_by_step 0 ts (weave ts xs)
 errors_whole ts [] h e s = absurd (cc)
 errors_whole ts (Enter kind ∷ xs) h e s =
-    errors_walked 0 ts (weave ts (Enter kind ∷ xs)) (runs_woven 0 0 ts xs h (sym e)) s
+    by_token_is_by_step 0 ts (weave ts (Enter kind ∷ xs)) (runs_woven 0 0 ts xs h (sym e)) s
 errors_whole ts (Token kind ∷ xs) h e s = absurd (cc)
 errors_whole ts (Exit ∷ xs) h e s = absurd (cc)
 errors_whole ts (Error number ∷ xs) h e s = absurd (cc)
@@ -179,7 +183,7 @@ pub errors_of_parse : {E : Type 0} (r : Result Tree E) (ts us : List LexedToken)
     → kinds ≡ kinds_without_trivia ts → xs ≡ told kinds → IsLawful kinds xs
     → fresh ≡ record { steps = []; errors = [] } → taken.steps ≡ fresh.steps ++ weave ts xs
     → taken.errors ≡ fresh.errors
-    → last ≡ record { steps = taken.steps; errors = taken.errors ++ walked 0 us taken.steps }
+    → last ≡ record { steps = taken.steps; errors = taken.errors ++ errors_by_step 0 us taken.steps }
     → IfOk r (λ parse. parse ≡ record { steps = without_errors last.steps; errors = last.errors })
     → IfOk r (λ parse. parse.errors ≡ errors ts (weave ts (told (kinds_without_trivia ts))))
 errors_of_parse (Err e) ts us kinds told xs fresh taken last same sound kinds_are xs_are lawful none
@@ -191,7 +195,7 @@ errors_of_parse (Ok parse) ts us kinds told xs fresh taken last same sound kinds
     let clean : taken.errors ≡ [] = no_errors ∙ ap (λ (t : Tree). t.errors) none in
     let given : xs ≡ told (kinds_without_trivia ts) = xs_are ∙ ap told kinds_are in
     ap (λ (t : Tree). t.errors) is ∙ ap (λ (t : Tree). t.errors) last_is
-    ∙ ap (λ es. es ++ walked 0 us taken.steps) clean ∙ ap (λ zs. walked 0 us zs) whole
-    ∙ ap (λ vs. walked 0 vs (weave ts xs)) same
+    ∙ ap (λ es. es ++ errors_by_step 0 us taken.steps) clean ∙ ap (λ zs. errors_by_step 0 us zs) whole
+    ∙ ap (λ vs. errors_by_step 0 vs (weave ts xs)) same
     ∙ sym (errors_whole ts xs lawful.balanced (lawful.tokens ∙ kinds_are) sound)
     ∙ ap (λ zs. errors ts (weave ts zs)) given

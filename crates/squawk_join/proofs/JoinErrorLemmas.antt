@@ -9,21 +9,24 @@ use Rattle.squawk_events.specs.declared.steps.Step.{Step}
 use Rattle.squawk_events.specs.declared.steps.Step.TheVariants.{Enter, Token, Exit, Error}
 use Rattle.squawk_events.specs.declared.steps.StrStep.{StrStep}
 use Rattle.squawk_events.specs.declared.steps.StrStep.TheVariants as out
-use Rattle.squawk_woven.specs.Weave.{kinds_without_trivia, total_len, leading_trivia, leading_trivia_end, after_leading_trivia, next_len, is_empty, weave_from, weave, are_sound, faults_within}
-use Rattle.squawk_woven.specs.declared.lex.LexedToken.{LexedToken}
-use Rattle.squawk_woven.specs.declared.lex.Fault.{Fault}
+use Rattle.squawk_lexed.specs.Weave.{kinds_without_trivia, leading_trivia, leading_trivia_end, after_leading_trivia, next_len, is_empty, weave_from, weave}
+use Rattle.squawk_lexed.specs.LexedText.{total_len, are_sound}
+use Rattle.squawk_lexed.specs.Faults.{faults_within}
+use Rattle.squawk_lexed.specs.LexedToken.{LexedToken}
+use Rattle.squawk_lexed.specs.declared.fault.Fault.{Fault}
 use Rattle.squawk_statements.specs.Children.{child_from, more_of, parts}
 use Rattle.squawk_statements.specs.Plain.{child_steps}
 use Rattle.squawk_statements.specs.declared.division.Division.{Division}
-use Rattle.std.specs.Prelude.{Option, Some, None}
-use Rattle.squawk_join.specs.Errors.{error, errors_at, walked}
+use Rattle.squawk_join.specs.Errors.{error}
+use Rattle.squawk_join.specs.Walk.{errors_by_step}
+use Rattle.squawk_lexed.specs.Stored.{errors_at}
 use Rattle.squawk_join.specs.Join.{lexed_role, child_woven, shifted, moved}
 use Rattle.squawk_join.proofs.CutLemmas.{trivia_form, first_cut}
 use Rattle.squawk_join.specs.Errors.{errors}
 use Rattle.squawk_join.specs.Join.{joined_errors}
 use Rattle.squawk_statements.specs.Plain.{plain}
-use Rattle.squawk_join.proofs.ErrorLemmas.{runs, split, same_place, errors_walked}
-use Rattle.squawk_join.proofs.JoinLemmas.{errors_at as placed_law, fits, both, skip, placed_from, fits_child, leaf_woven, node_woven, shift_child, further}
+use Rattle.squawk_join.proofs.ErrorLemmas.{runs, split, same_place, by_token_is_by_step}
+use Rattle.squawk_join.proofs.JoinLemmas.{placed as placed_law, fits, both, skip, placed_from, fits_child, leaf_woven, node_woven, shift_child, further}
 
 -- whether steps give out all of the tokens, each Error at the start of one of them
 abbrev inner : ℕ → List LexedToken → List StrStep → Bool
@@ -93,28 +96,28 @@ inner_woven at ts (Error number ∷ xs) h =
     let hs = both (is_empty ts) (fits xs ts) h in
     some_error at ts number (weave_from at ts xs) hs.0 ∙ inner_woven at ts xs hs.1
 
-walked_append : (at : ℕ) (p r : List LexedToken) (xs ys : List StrStep) → inner at p xs ≡ true
-    → walked at (p ++ r) (xs ++ ys) ≡ walked at p xs ++ walked (at + total_len p) r ys
-walked_append at [] r [] ys h = ap (λ n. walked n r ys) (omega arith)
-walked_append at (t ∷ p) r [] ys h = absurd (cc)
-walked_append at p r (out.Enter kind ∷ xs) ys h = walked_append at p r xs ys h
-walked_append at p r (out.Exit ∷ xs) ys h = walked_append at p r xs ys h
-walked_append at [] r (out.Error number place ∷ xs) ys h = absurd (cc)
-walked_append at (t ∷ p) r (out.Error number place ∷ xs) ys h =
+by_step_append : (at : ℕ) (p r : List LexedToken) (xs ys : List StrStep) → inner at p xs ≡ true
+    → errors_by_step at (p ++ r) (xs ++ ys) ≡ errors_by_step at p xs ++ errors_by_step (at + total_len p) r ys
+by_step_append at [] r [] ys h = ap (λ n. errors_by_step n r ys) (omega arith)
+by_step_append at (t ∷ p) r [] ys h = absurd (cc)
+by_step_append at p r (out.Enter kind ∷ xs) ys h = by_step_append at p r xs ys h
+by_step_append at p r (out.Exit ∷ xs) ys h = by_step_append at p r xs ys h
+by_step_append at [] r (out.Error number place ∷ xs) ys h = absurd (cc)
+by_step_append at (t ∷ p) r (out.Error number place ∷ xs) ys h =
     ap (λ es. error at (at + t.len) number ∷ es)
-    (walked_append at (t ∷ p) r xs ys (split (place == at) (inner at (t ∷ p) xs) h).1)
-walked_append at [] r (out.Token kind start end ∷ xs) ys h = absurd (cc)
-walked_append at (t ∷ p) r (out.Token kind start end ∷ xs) ys h =
+    (by_step_append at (t ∷ p) r xs ys (split (place == at) (inner at (t ∷ p) xs) h).1)
+by_step_append at [] r (out.Token kind start end ∷ xs) ys h = absurd (cc)
+by_step_append at (t ∷ p) r (out.Token kind start end ∷ xs) ys h =
     let e : at + t.len + total_len p ≡ at + (t.len + total_len p) = omega arith in
-    ap (λ es. errors_at at t.faults ++ es) (walked_append (at + t.len) p r xs ys h
-    ∙ ap (λ n. walked (at + t.len) p xs ++ walked n r ys) e)
-    ∙ sym (append_assoc (errors_at at t.faults) (walked (at + t.len) p xs)
-    (walked (at + (t.len + total_len p)) r ys))
+    ap (λ es. errors_at at t.faults ++ es) (by_step_append (at + t.len) p r xs ys h
+    ∙ ap (λ n. errors_by_step (at + t.len) p xs ++ errors_by_step n r ys) e)
+    ∙ sym (append_assoc (errors_at at t.faults) (errors_by_step (at + t.len) p xs)
+    (errors_by_step (at + (t.len + total_len p)) r ys))
 
-abbrev pub walked_parts : Division → ℕ → List (List LexedToken) → List ParseError
-walked_parts d at [] = []
-walked_parts d at (part ∷ rest) = walked at part (child_woven d at part)
-    ++ walked_parts d (at + total_len part) rest
+abbrev pub errors_of_parts : Division → ℕ → List (List LexedToken) → List ParseError
+errors_of_parts d at [] = []
+errors_of_parts d at (part ∷ rest) = errors_by_step at part (child_woven d at part)
+    ++ errors_of_parts d (at + total_len part) rest
 
 inner_leaf : (d : Division) (at : ℕ) (t : LexedToken) → is_trivia_kind t.kind ≡ true
     → inner at (t ∷ []) (child_woven d at (t ∷ [])) ≡ true
@@ -129,19 +132,19 @@ inner_node d at t ts is h = ap (inner at (t ∷ ts)) (node_woven d at t ts is)
 -- one child's errors, and those of the others
 one_part : (d : Division) (at : ℕ) (p r : List LexedToken) (ps : List (List LexedToken))
     → inner at p (child_woven d at p) ≡ true
-    → walked (at + total_len p) r (placed_from d (at + total_len p) ps ++ out.Exit ∷ [])
-    ≡ walked_parts d (at + total_len p) ps
-    → walked at (p ++ r) (placed_from d at (p ∷ ps) ++ out.Exit ∷ []) ≡ walked_parts d at (p ∷ ps)
+    → errors_by_step (at + total_len p) r (placed_from d (at + total_len p) ps ++ out.Exit ∷ [])
+    ≡ errors_of_parts d (at + total_len p) ps
+    → errors_by_step at (p ++ r) (placed_from d at (p ∷ ps) ++ out.Exit ∷ []) ≡ errors_of_parts d at (p ∷ ps)
 one_part d at p r ps h rest =
-    ap (walked at (p ++ r)) (append_assoc (child_woven d at p) (placed_from d (at + total_len p) ps)
+    ap (errors_by_step at (p ++ r)) (append_assoc (child_woven d at p) (placed_from d (at + total_len p) ps)
     (out.Exit ∷ []))
-    ∙ walked_append at p r (child_woven d at p) (placed_from d (at + total_len p) ps ++ out.Exit
+    ∙ by_step_append at p r (child_woven d at p) (placed_from d (at + total_len p) ps ++ out.Exit
     ∷ []) h
-    ∙ ap (λ es. walked at p (child_woven d at p) ++ es) rest
+    ∙ ap (λ es. errors_by_step at p (child_woven d at p) ++ es) rest
 
 pub errors_placed : (n : ℕ) (d : Division) (at : ℕ) (ts : List LexedToken) → length ts ≤ n
-    → walked at ts (placed_from d at (parts lexed_role d ts) ++ out.Exit ∷ [])
-    ≡ walked_parts d at (parts lexed_role d ts)
+    → errors_by_step at ts (placed_from d at (parts lexed_role d ts) ++ out.Exit ∷ [])
+    ≡ errors_of_parts d at (parts lexed_role d ts)
 errors_placed n d at [] h = refl
 errors_placed zero d at (t ∷ ts) h = absurd (omega arith)
 errors_placed (suc n) d at (t ∷ ts) h =
@@ -163,14 +166,14 @@ errors_placed (suc n) d at (t ∷ ts) h =
         (fits_child d t (take (more_of lexed_role d t ts) ts) is
         (first_cut d (role t.kind) ts).solid)
 
-    by : walked (at + total_len (t ∷ take (more_of lexed_role d t ts) ts))
+    by : errors_by_step (at + total_len (t ∷ take (more_of lexed_role d t ts) ts))
         (drop (more_of lexed_role d t ts) ts)
         (placed_from d (at + total_len (t ∷ take (more_of lexed_role d t ts) ts))
         (parts lexed_role d (drop (more_of lexed_role d t ts) ts)) ++ out.Exit ∷ [])
-        ≡ walked_parts d (at + total_len (t ∷ take (more_of lexed_role d t ts) ts))
+        ≡ errors_of_parts d (at + total_len (t ∷ take (more_of lexed_role d t ts) ts))
         (parts lexed_role d (drop (more_of lexed_role d t ts) ts))
-        → walked at (t ∷ ts) (placed_from d at (parts lexed_role d (t ∷ ts)) ++ out.Exit ∷ [])
-        ≡ walked_parts d at (parts lexed_role d (t ∷ ts))
+        → errors_by_step at (t ∷ ts) (placed_from d at (parts lexed_role d (t ∷ ts)) ++ out.Exit ∷ [])
+        ≡ errors_of_parts d at (parts lexed_role d (t ∷ ts))
     by rest =
         let m = more_of lexed_role d t ts in
         let tokens : parts lexed_role d (t ∷ ts)
@@ -178,46 +181,45 @@ errors_placed (suc n) d at (t ∷ ts) h =
         ap (λ rest. (t ∷ take m ts) ∷ rest) (skip lexed_role m d ts) in
         let all : t ∷ ts ≡ (t ∷ take m ts) ++ drop m ts =
         ap (λ us. t ∷ us) (sym (take-append-drop m ts)) in
-        ap (λ ps. walked at (t ∷ ts) (placed_from d at ps ++ out.Exit ∷ [])) tokens
-        ∙ ap (λ us. walked at us (placed_from d at ((t ∷ take m ts)
+        ap (λ ps. errors_by_step at (t ∷ ts) (placed_from d at ps ++ out.Exit ∷ [])) tokens
+        ∙ ap (λ us. errors_by_step at us (placed_from d at ((t ∷ take m ts)
         ∷ parts lexed_role d (drop m ts)) ++ out.Exit ∷ [])) all
         ∙ one_part d at (t ∷ take m ts) (drop m ts) (parts lexed_role d (drop m ts))
         (whole (is_trivia_kind t.kind) refl) rest
-        ∙ ap (walked_parts d at) (sym tokens)
+        ∙ ap (errors_of_parts d at) (sym tokens)
 
 -- ---- shifts
 
-moved_placed : (n at : ℕ) (fs : List (Option Fault))
+moved_placed : (n at : ℕ) (fs : List Fault)
     → errors_at (at + n) fs ≡ map (moved n) (errors_at at fs)
 moved_placed n at [] = refl
-moved_placed n at (None ∷ fs) = moved_placed n at fs
-moved_placed n at (Some f ∷ fs) =
+moved_placed n at (f ∷ fs) =
     ap (λ a. error a (at + n + f.end) f.number ∷ errors_at (at + n) fs) (further at n f.start)
     ∙ ap (λ b. error (at + f.start + n) b f.number ∷ errors_at (at + n) fs) (further at n f.end)
     ∙ ap (λ es. error (at + f.start + n) (at + f.end + n) f.number ∷ es) (moved_placed n at fs)
 
-moved_walked : (n at : ℕ) (ts : List LexedToken) (xs : List StrStep)
-    → walked (at + n) ts (map (shifted n) xs) ≡ map (moved n) (walked at ts xs)
-moved_walked n at ts [] = refl
-moved_walked n at ts (out.Enter kind ∷ xs) = moved_walked n at ts xs
-moved_walked n at ts (out.Exit ∷ xs) = moved_walked n at ts xs
-moved_walked n at ts (out.Error number place ∷ xs) =
-    ap (λ e. error (at + n) e number ∷ walked (at + n) ts (map (shifted n) xs))
+moved_by_step : (n at : ℕ) (ts : List LexedToken) (xs : List StrStep)
+    → errors_by_step (at + n) ts (map (shifted n) xs) ≡ map (moved n) (errors_by_step at ts xs)
+moved_by_step n at ts [] = refl
+moved_by_step n at ts (out.Enter kind ∷ xs) = moved_by_step n at ts xs
+moved_by_step n at ts (out.Exit ∷ xs) = moved_by_step n at ts xs
+moved_by_step n at ts (out.Error number place ∷ xs) =
+    ap (λ e. error (at + n) e number ∷ errors_by_step (at + n) ts (map (shifted n) xs))
     (further at n (next_len ts)) ∙ ap (λ es.
-    error (at + n) (at + next_len ts + n) number ∷ es) (moved_walked n at ts xs)
-moved_walked n at [] (out.Token kind start end ∷ xs) =
-    ap (λ m. walked m [] (map (shifted n) xs)) (further at n 0) ∙ moved_walked n (at + 0) [] xs
-moved_walked n at (t ∷ ts) (out.Token kind start end ∷ xs) =
-    ap (λ m. errors_at (at + n) t.faults ++ walked m ts (map (shifted n) xs)) (further at n t.len)
-    ∙ ap (λ es. errors_at (at + n) t.faults ++ es) (moved_walked n (at + t.len) ts xs)
-    ∙ ap (λ es. es ++ map (moved n) (walked (at + t.len) ts xs)) (moved_placed n at t.faults)
-    ∙ sym (map-append (moved n) (errors_at at t.faults) (walked (at + t.len) ts xs))
+    error (at + n) (at + next_len ts + n) number ∷ es) (moved_by_step n at ts xs)
+moved_by_step n at [] (out.Token kind start end ∷ xs) =
+    ap (λ m. errors_by_step m [] (map (shifted n) xs)) (further at n 0) ∙ moved_by_step n (at + 0) [] xs
+moved_by_step n at (t ∷ ts) (out.Token kind start end ∷ xs) =
+    ap (λ m. errors_at (at + n) t.faults ++ errors_by_step m ts (map (shifted n) xs)) (further at n t.len)
+    ∙ ap (λ es. errors_at (at + n) t.faults ++ es) (moved_by_step n (at + t.len) ts xs)
+    ∙ ap (λ es. es ++ map (moved n) (errors_by_step (at + t.len) ts xs)) (moved_placed n at t.faults)
+    ∙ sym (map-append (moved n) (errors_at at t.faults) (errors_by_step (at + t.len) ts xs))
 
 pub moved_part : (d : Division) (n : ℕ) (p : List LexedToken)
-    → walked n p (child_woven d n p) ≡ map (moved n) (walked 0 p (child_woven d 0 p))
-moved_part d n p = let e : n ≡ 0 + n = omega arith in ap (walked n p) (shift_child d n p)
-    ∙ ap (λ m. walked m p (map (shifted n) (child_woven d 0 p))) e
-    ∙ moved_walked n 0 p (child_woven d 0 p)
+    → errors_by_step n p (child_woven d n p) ≡ map (moved n) (errors_by_step 0 p (child_woven d 0 p))
+moved_part d n p = let e : n ≡ 0 + n = omega arith in ap (errors_by_step n p) (shift_child d n p)
+    ∙ ap (λ m. errors_by_step m p (map (shifted n) (child_woven d 0 p))) e
+    ∙ moved_by_step n 0 p (child_woven d 0 p)
 
 inner_runs : (at : ℕ) (ts : List LexedToken) (xs : List StrStep) → inner at ts xs ≡ true
     → runs at ts xs ≡ true
@@ -271,14 +273,14 @@ child_inner d at t ts = by (is_trivia_kind t.kind) refl
         (first_cut d (role t.kind) ts).solid)
 
 own_errors : (d : Division) (at : ℕ) (p : List LexedToken) → inner 0 p (child_woven d 0 p) ≡ true
-    → are_sound p ≡ true → walked at p (child_woven d at p)
+    → are_sound p ≡ true → errors_by_step at p (child_woven d at p)
     ≡ map (moved at) (errors p (child_woven d 0 p))
 own_errors d at p h s = moved_part d at p
-    ∙ ap (map (moved at)) (sym (errors_walked 0 p (child_woven d 0 p)
+    ∙ ap (map (moved at)) (sym (by_token_is_by_step 0 p (child_woven d 0 p)
     (inner_runs 0 p (child_woven d 0 p) h) s))
 
 parts_errors : (n : ℕ) (d : Division) (at : ℕ) (ts : List LexedToken) → length ts ≤ n
-    → are_sound ts ≡ true → walked_parts d at (parts lexed_role d ts)
+    → are_sound ts ≡ true → errors_of_parts d at (parts lexed_role d ts)
     ≡ joined_errors d at (parts lexed_role d ts)
 parts_errors n d at [] h s = refl
 parts_errors zero d at (t ∷ ts) h s = absurd (omega arith)
@@ -291,8 +293,8 @@ parts_errors (suc n) d at (t ∷ ts) h s =
     length-drop m ts in omega arith) (sound_drop m ts (tail_sound t ts s)) in
     let own = own_errors d at (t ∷ take m ts) (child_inner d 0 t ts) (sound_take (suc m) (t ∷ ts) s)
     in
-    ap (walked_parts d at) tokens
-    ∙ ap (λ es. es ++ walked_parts d (at + total_len (t ∷ take m ts))
+    ap (errors_of_parts d at) tokens
+    ∙ ap (λ es. es ++ errors_of_parts d (at + total_len (t ∷ take m ts))
     (parts lexed_role d (drop m ts))) own
     ∙ ap (λ es. map (moved at) (errors (t ∷ take m ts) (child_woven d 0 (t ∷ take m ts)))
     ++ es) rest
@@ -301,11 +303,11 @@ parts_errors (suc n) d at (t ∷ ts) h s =
 -- the errors of a text are its children's, joined
 pub join_errors_law : (d : Division) (ts : List LexedToken) → are_sound ts ≡ true
     → errors ts (weave ts (plain d (kinds_without_trivia ts)))
-    ≡ walked 0 ts (weave ts (plain d (kinds_without_trivia ts)))
+    ≡ errors_by_step 0 ts (weave ts (plain d (kinds_without_trivia ts)))
     → errors ts (weave ts (plain d (kinds_without_trivia ts)))
     ≡ joined_errors d 0 (parts lexed_role d ts)
 join_errors_law d ts sound walks =
-    walks ∙ ap (walked 0 ts) (placed_law (length ts) d 0 ts (omega arith))
+    walks ∙ ap (errors_by_step 0 ts) (placed_law (length ts) d 0 ts (omega arith))
     ∙ errors_placed (length ts) d 0 ts (omega arith)
     ∙ parts_errors (length ts) d 0 ts (omega arith) sound
 

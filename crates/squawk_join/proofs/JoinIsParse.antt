@@ -3,8 +3,9 @@ use Rattle.std.proofs.Common.{◌≡◌, ℕ, ◌+◌, true, List, [], ◌∷◌
 use Rattle.squawk_events.specs.declared.steps.StrStep.{StrStep}
 use Rattle.squawk_events.specs.declared.steps.StrStep.TheVariants.{Enter, Token, Exit, Error}
 use Rattle.squawk_kinds.specs.declared.numbers.TheConstants.Number.{SOURCE_FILE}
-use Rattle.squawk_woven.specs.Weave.{are_sound, total_len, kinds_without_trivia, weave}
-use Rattle.squawk_woven.specs.declared.lex.LexedToken.{LexedToken}
+use Rattle.squawk_lexed.specs.LexedText.{are_sound, total_len}
+use Rattle.squawk_lexed.specs.Weave.{kinds_without_trivia, weave}
+use Rattle.squawk_lexed.specs.LexedToken.{LexedToken}
 use Rattle.squawk_statements.specs.Children.{parts}
 use Rattle.squawk_statements.specs.Plain.{plain}
 use Rattle.squawk_statements.specs.PlainIsLawful.{plain_lawful}

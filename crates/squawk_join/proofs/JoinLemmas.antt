@@ -10,8 +10,9 @@ use Rattle.squawk_events.specs.declared.steps.Step.TheVariants.{Enter, Token, Ex
 use Rattle.squawk_events.specs.declared.steps.StrStep.{StrStep}
 use Rattle.squawk_events.specs.declared.steps.StrStep.TheVariants as out
 use Rattle.squawk_kinds.specs.declared.numbers.TheConstants.Number.{SOURCE_FILE, ERROR}
-use Rattle.squawk_woven.specs.Weave.{kinds_without_trivia, total_len, leading_trivia, leading_trivia_end, after_leading_trivia, next_len, weave_step, offset_after_step, tokens_after_step, is_empty, weave_from, weave}
-use Rattle.squawk_woven.specs.declared.lex.LexedToken.{LexedToken}
+use Rattle.squawk_lexed.specs.Weave.{kinds_without_trivia, leading_trivia, leading_trivia_end, after_leading_trivia, next_len, weave_step, offset_after_step, tokens_after_step, is_empty, weave_from, weave}
+use Rattle.squawk_lexed.specs.LexedText.{total_len}
+use Rattle.squawk_lexed.specs.LexedToken.{LexedToken}
 use Rattle.squawk_statements.specs.Children.{ends_statement, child_from, more_of, parts, parts_from}
 use Rattle.squawk_statements.specs.Plain.{node_of}
 use Rattle.squawk_statements.specs.Plain.{body_steps, exits, kind_steps, groups_open_after, enters_before, exits_after, unknown_statement_error, child_steps, children_steps, plain}

@@ -6,5 +6,6 @@ mod JoinErrorLemmas
 mod JoinIsParse
 mod Balanced
 mod RootLemmas
+mod WalkLemmas
 mod TreeLaws
 mod Alone

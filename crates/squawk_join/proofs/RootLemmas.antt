@@ -10,8 +10,9 @@ use Rattle.squawk_events.specs.declared.steps.StrStep.TheVariants as out
 use Rattle.squawk_join.specs.Join.{lexed_role, child_woven}
 use Rattle.squawk_join.specs.Steps.{Node, closes, root_children_from, root_children, root_child}
 use Rattle.squawk_join.specs.Tree.{leaves, laid, without_errors}
-use Rattle.squawk_woven.specs.Weave.{kinds_without_trivia, total_len, weave_from, weave}
-use Rattle.squawk_woven.specs.declared.lex.LexedToken.{LexedToken}
+use Rattle.squawk_lexed.specs.Weave.{kinds_without_trivia, weave_from, weave}
+use Rattle.squawk_lexed.specs.LexedText.{total_len}
+use Rattle.squawk_lexed.specs.LexedToken.{LexedToken}
 use Rattle.squawk_kinds.specs.Role.{Role, is_trivia, Trivia, Semicolon, Terminator, Command, Open, Close, Other}
 use Rattle.squawk_statements.specs.Children.{Child, ends_statement, open_groups_after, statement_end, trimmed_len, statement, child_from, more_of, parts, parts_from, children, children_from}
 use Rattle.squawk_kinds.specs.Role.{role}

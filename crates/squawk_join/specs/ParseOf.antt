@@ -7,8 +7,9 @@ use Rattle.squawk_join.specs.Errors.{errors}
 use Rattle.squawk_join.specs.Join.{child_woven, shifted, moved}
 use Rattle.squawk_join.specs.Tree.{Tree, without_errors}
 use Rattle.squawk_kinds.specs.declared.numbers.TheConstants.Number.{SOURCE_FILE}
-use Rattle.squawk_woven.specs.Weave.{kinds_without_trivia, total_len, weave}
-use Rattle.squawk_woven.specs.declared.lex.LexedToken.{LexedToken}
+use Rattle.squawk_lexed.specs.Weave.{kinds_without_trivia, weave}
+use Rattle.squawk_lexed.specs.LexedText.{total_len}
+use Rattle.squawk_lexed.specs.LexedToken.{LexedToken}
 use Rattle.squawk_statements.specs.Plain.{plain}
 use Rattle.squawk_statements.specs.declared.division.Division.{Division}
 

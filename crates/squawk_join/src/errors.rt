@@ -1,132 +1,132 @@
 //! The errors of a parse.
-ghost use Rattle.std.specs.Prelude.{[], ◌∷◌, ◌≡◌, ◌≤◌, ◌<◌, ◌+◌, ◌^◌, ◌++◌, drop, length, OnOk, IfOk, IsOkUnless, IsTrue};
+ghost use Rattle.std.specs.Prelude.{[], ◌≡◌, ◌≤◌, ◌<◌, ◌+◌, ◌^◌, ◌++◌, All, drop, take, length, OnOk, IfOk, IsOkUnless, IsTrue};
 ghost use Rattle.squawk_events.specs.declared.error.FrontError.TheVariants.{OutOfMemory};
-ghost use Rattle.squawk_woven.specs.Weave.{total_len, are_sound, next_len, faults_within};
-ghost use Rattle.squawk_join.specs.Errors.{errors_at, step_errors, offset_after_step, tokens_after_step, walked};
+ghost use Rattle.squawk_lexed.specs.LexedText.{total_len};
+ghost use Rattle.squawk_lexed.specs.Stored.{errors_of};
+ghost use Rattle.squawk_lexed.specs.Weave.{next_len};
+ghost use Rattle.squawk_join.specs.Errors.{error};
+ghost use Rattle.squawk_join.specs.Walk.{step_error, step_errors, errors_by_step, errors_before, errors_from, EndsBelow, IsWalk, IsWalkAfter};
 
 use squawk_events::{FrontError, ParseError, StrStep};
-use squawk_woven::{Fault, LexedToken};
+use squawk_lexed::{LexError, LexedStr};
+use std::alloc::Global;
 
-/// The token that comes next, and where it begins.
+// How far a walk over the steps has come: the next token, and the next lexical error.
 #[derive(Clone, Copy)]
-struct Place {
-    index: usize,
-    at: u32,
+struct Walk {
+    token: usize,
+    error: usize,
 }
 
-/// Where the token that comes ends, or the place itself where none comes.
-fn next_end(tokens: &[LexedToken], from: Place) -> u32
-    requires within { from.index ≤ length tokens.now }
-    requires small { from.at + total_len (drop from.index tokens.now) < 2 ^ 32 }
-    ensures { result ≡ from.at + next_len (drop from.index tokens.now) }
+// Appends the lexical errors from the index `from` on that begin before `end`. Returns the index of
+// the next one.
+fn push_lexical_errors(
+    errors: &mut Vec<ParseError>,
+    lexical: &[LexError],
+    from: usize,
+    end: usize,
+) -> Result<usize, FrontError>
+    requires within { from ≤ length lexical.now }
+    requires small { All (EndsBelow (2 ^ 32)) lexical.now }
+    ensures ok { OnOk result (errors.new.items
+        ≡ errors.old.items ++ errors_before end (drop from lexical.now)) }
+    ensures rest { IfOk result (λ next. drop next lexical.now
+        ≡ errors_from end (drop from lexical.now)) }
+    ensures within { IfOk result (λ next. next ≤ length lexical.now) }
+    ensures refusal { IsOkUnless result OutOfMemory }
 {
-    if from.index < tokens.len() {
-        from.at + tokens[from.index].len
+    let mut next = from;
+    while next < lexical.len() && lexical[next].range().start < end {
+        let range = lexical[next].range();
+        errors.push(ParseError {
+            start: range.start as u32,
+            end: range.end as u32,
+            number: lexical[next].number(),
+        })?;
+        next += 1;
+    }
+    Ok(next)
+}
+
+// The end of the token at an index, or the end of the text where there is none.
+fn next_end(lexed: &LexedStr<'_>, token: usize) -> u32
+    requires { token ≤ length lexed.now.tokens }
+    ensures { result ≡ total_len (take token lexed.now.tokens)
+        + next_len (drop token lexed.now.tokens) }
+{
+    if token < lexed.len() {
+        lexed.text_range(token).end as u32
     } else {
-        from.at
+        lexed.text_start(token) as u32
     }
 }
 
-/// Appends a fault of a token of this length, if there is one.
-fn push_fault(
+// Appends the error of an `Error` step. Its range is that of the next token, and empty at the end of
+// the text.
+fn push_step_error(
     errors: &mut Vec<ParseError>,
-    fault: Option<Fault>,
-    at: u32,
-    len: u32,
+    lexed: &LexedStr<'_>,
+    token: usize,
+    number: u8,
 ) -> Result<(), FrontError>
-    requires small { at + len < 2 ^ 32 }
-    requires sound { IsTrue (faults_within len (fault ∷ [])) }
-    ensures ok { OnOk result (errors.new.items ≡ errors.old.items ++ errors_at at (fault ∷ [])) }
+    requires { token ≤ length lexed.now.tokens }
+    ensures ok { OnOk result (errors.new.items ≡ errors.old.items
+        ++ step_error (total_len (take token lexed.now.tokens)) (drop token lexed.now.tokens) number) }
     ensures refusal { IsOkUnless result OutOfMemory }
 {
-    let Some(fault) = fault else {
-        return Ok(());
-    };
-    errors.push(ParseError {
-        start: at + fault.start,
-        end: at + fault.end,
-        number: fault.number,
-    })?;
+    let end = next_end(lexed, token);
+    let start = lexed.text_start(token) as u32;
+    errors.push(ParseError { start, end, number })?;
     Ok(())
 }
 
-/// Appends the faults of a token.
-fn push_faults(errors: &mut Vec<ParseError>, token: &LexedToken, at: u32) -> Result<(), FrontError>
-    requires small { at + token.now.len < 2 ^ 32 }
-    requires sound { IsTrue (faults_within token.now.len token.now.faults) }
-    ensures ok { OnOk result (errors.new.items
-        ≡ errors.old.items ++ errors_at at token.now.faults) }
-    ensures refusal { IsOkUnless result OutOfMemory }
-{
-    let faults = &token.faults[..];
-    for i in 0..faults.len() {
-        push_fault(errors, faults[i], at, token.len)?;
-    }
-    Ok(())
-}
-
-/// Appends the errors of a step.
-fn push_of_step(
+// Appends the errors of a step. Returns how far the walk has come after it.
+fn push_errors_of_step(
     errors: &mut Vec<ParseError>,
-    tokens: &[LexedToken],
-    from: Place,
+    lexed: &LexedStr<'_>,
+    from: Walk,
     step: StrStep,
-) -> Result<Place, FrontError>
-    requires within { from.index ≤ length tokens.now }
-    requires small { from.at + total_len (drop from.index tokens.now) < 2 ^ 32 }
-    requires sound { IsTrue (are_sound (drop from.index tokens.now)) }
-    ensures ok { OnOk result (errors.new.items
-        ≡ errors.old.items ++ step_errors from.at (drop from.index tokens.now) step) }
-    ensures at { IfOk result (λ to.
-        to.at ≡ offset_after_step from.at (drop from.index tokens.now) step) }
-    ensures left { IfOk result (λ to. drop to.index tokens.now
-        ≡ tokens_after_step (drop from.index tokens.now) step) }
-    ensures same_end { IfOk result (λ to. to.at + total_len (drop to.index tokens.now)
-        ≡ from.at + total_len (drop from.index tokens.now)) }
-    ensures within { IfOk result (λ to. to.index ≤ length tokens.now) }
-    ensures sound { IfOk result (λ to. IsTrue (are_sound (drop to.index tokens.now))) }
+) -> Result<Walk, FrontError>
+    requires { IsWalk lexed.now.tokens from.token from.error }
+    ensures ok { OnOk result (errors.new.items ≡ errors.old.items
+        ++ step_errors (total_len (take from.token lexed.now.tokens))
+        (drop from.token lexed.now.tokens) step) }
+    ensures walk { IfOk result (λ to. IsWalkAfter lexed.now.tokens from.token step to.token to.error) }
     ensures refusal { IsOkUnless result OutOfMemory }
 {
     match step {
         StrStep::Error { number, .. } => {
-            let end = next_end(tokens, from);
-            errors.push(ParseError {
-                start: from.at,
-                end,
-                number,
-            })?;
+            push_step_error(errors, lexed, from.token, number)?;
             Ok(from)
         }
         StrStep::Token { .. } => {
-            if from.index == tokens.len() {
+            if from.token == lexed.len() {
                 return Ok(from);
             }
-            let token = &tokens[from.index];
-            push_faults(errors, token, from.at)?;
-            Ok(Place {
-                index: from.index + 1,
-                at: from.at + token.len,
+            let end = lexed.text_range(from.token).end;
+            let error = push_lexical_errors(errors, lexed.errors(), from.error, end)?;
+            Ok(Walk {
+                token: from.token + 1,
+                error,
             })
         }
         _ => Ok(from),
     }
 }
 
-/// Appends the errors of steps over tokens.
-pub(crate) fn push_errors(
-    errors: &mut Vec<ParseError>,
-    tokens: &[LexedToken],
+// The errors of a parse: the faults of tokens and the `Error` steps, token by token.
+pub(crate) fn errors_of_steps(
+    alloc: Global,
+    lexed: &LexedStr<'_>,
     steps: &[StrStep],
-) -> Result<(), FrontError>
-    requires small { total_len tokens.now < 2 ^ 32 }
-    requires sound { IsTrue (are_sound tokens.now) }
-    ensures ok { OnOk result (errors.new.items
-        ≡ errors.old.items ++ walked 0 tokens.now steps.now) }
+) -> Result<Vec<ParseError>, FrontError>
+    ensures ok { IfOk result (λ errors. errors.items ≡ errors_by_step 0 lexed.now.tokens steps.now) }
     ensures refusal { IsOkUnless result OutOfMemory }
 {
-    let mut place = Place { index: 0, at: 0 };
-    for k in 0..steps.len() {
-        place = push_of_step(errors, tokens, place, steps[k])?;
+    let mut errors = Vec::new(alloc);
+    let mut walk = Walk { token: 0, error: 0 };
+    for step in steps {
+        walk = push_errors_of_step(&mut errors, lexed, walk, *step)?;
     }
-    Ok(())
+    Ok(errors)
 }

@@ -8,17 +8,13 @@ ghost use Rattle.squawk_join.specs.Join.{lexed_role};
 ghost use Rattle.squawk_join.specs.Steps.{root_children, root_child};
 ghost use Rattle.squawk_join.specs.IsTree.{IsTree};
 ghost use Rattle.squawk_join.specs.ParseOf.{parse_of, tree_of, child_of, join};
-ghost use Rattle.squawk_woven.specs.Weave.{are_sound, total_len, kinds_without_trivia, weave};
-ghost use Rattle.squawk_woven.specs.declared.lex.LexedToken.{LexedToken};
+ghost use Rattle.squawk_lexed.specs.LexedText.{are_sound, total_len};
+ghost use Rattle.squawk_lexed.specs.Weave.{kinds_without_trivia, weave};
+ghost use Rattle.squawk_lexed.specs.LexedToken.{LexedToken};
 ghost use Rattle.squawk_statements.specs.Children.{parts, children, more_of};
 ghost use Rattle.squawk_statements.specs.declared.division.Division.{Division};
 
 mod errors;
-mod parse;
-mod sink;
-
-pub use parse::{Parse, parse_lexed, parse_plain};
-pub use sink::TreeSink;
 
 /// The parse of a list of tokens is the join of its children's, each made of its own tokens.
 pub fn children_join()
