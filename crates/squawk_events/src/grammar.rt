@@ -1,8 +1,8 @@
 //! Grammars, from kinds to steps.
-ghost use Rattle.std.specs.Prelude.{◌≡◌, ℕ, List, [], IsTrue, IfOk, OnOk, IsOkUnless};
+ghost use Rattle.std.specs.Prelude.{◌≡◌, ℕ, List, [], IsTrue, IfOk, OnOk, IfErr};
 ghost use Rattle.squawk_events.specs.Kinds.{has_no_trivia};
 ghost use Rattle.squawk_events.specs.Lawful.{IsLawful};
-ghost use Rattle.squawk_events.specs.declared.error.FrontError.TheVariants.{OutOfMemory};
+ghost use Rattle.squawk_events.specs.Refusals.{IsOutOfMemory};
 ghost use Rattle.squawk_events.specs.declared.steps.Step.{Step as Given};
 
 use crate::{FrontError, Input, Output};
@@ -18,7 +18,7 @@ pub trait Grammar {
         requires empty { output.old ≡ [] }
         requires no_trivia { IsTrue (has_no_trivia input.now) }
         ensures ok { OnOk result (output.new ≡ told self.now input.now) }
-        ensures refusal { IsOkUnless result OutOfMemory };
+        ensures refusals { IfErr result IsOutOfMemory };
 
     /// They are a tree of these kinds.
     ghost lawful: { (g : Self) (kinds : List ℕ) → IsTrue (has_no_trivia kinds) → IsLawful kinds (told g kinds) };
@@ -41,7 +41,7 @@ impl EntryPoint {
         requires { IsTrue (has_no_trivia input.now) }
         ensures told { IfOk result (λ output. output ≡ G.told grammar.now input.now) }
         ensures lawful { IfOk result (λ output. IsLawful input.now output) }
-        ensures refusal { IsOkUnless result OutOfMemory }
+        ensures refusals { IfErr result IsOutOfMemory }
     {
         let mut output = Output::new(alloc);
         grammar.run(input, &mut output)?;

@@ -1,6 +1,6 @@
 //! A list of kinds.
-ghost use Rattle.std.specs.Prelude.{◌≡◌, ◌<◌, [], ◌∷◌, ◌++◌, length, OnOk, OnErr, IsOkUnless, slice_index_or};
-ghost use Rattle.squawk_events.specs.declared.error.FrontError.TheVariants.{OutOfMemory};
+ghost use Rattle.std.specs.Prelude.{◌≡◌, ◌<◌, [], ◌∷◌, ◌++◌, length, OnOk, OnErr, IfErr, slice_index_or};
+ghost use Rattle.squawk_events.specs.Refusals.{IsOutOfMemory};
 ghost use Rattle.squawk_kinds.specs.declared.numbers.TheConstants.Number.{EOF};
 
 use crate::FrontError;
@@ -36,7 +36,7 @@ impl Input {
     pub fn push(&mut self, kind: SyntaxKind) -> Result<(), FrontError>
         ensures ok { OnOk result (self.new ≡ self.old ++ kind ∷ []) }
         ensures err { OnErr result (self.new ≡ self.old) }
-        ensures refusal { IsOkUnless result OutOfMemory }
+        ensures refusals { IfErr result IsOutOfMemory }
     {
         self.kinds.push(kind)?;
         Ok(())

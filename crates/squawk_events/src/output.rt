@@ -1,7 +1,7 @@
 //! A list of steps that grows.
-ghost use Rattle.std.specs.Prelude.{◌≡◌, ◌+◌, ◌<◌, ◌≤◌, [], ◌∷◌, ◌++◌, OnOk, OnErr, IsOkUnless};
+ghost use Rattle.std.specs.Prelude.{◌≡◌, ◌+◌, ◌<◌, ◌≤◌, [], ◌∷◌, ◌++◌, OnOk, OnErr, IfErr};
 ghost use Rattle.squawk_events.specs.Depth.{depth_of};
-ghost use Rattle.squawk_events.specs.declared.error.FrontError.TheVariants.{OutOfMemory};
+ghost use Rattle.squawk_events.specs.Refusals.{IsOutOfMemory};
 ghost use Rattle.squawk_events.specs.declared.steps.Step.TheVariants.{Enter, Token, Exit, Error};
 
 use crate::{FrontError, Step};
@@ -45,7 +45,7 @@ impl Output {
         ensures ok { OnOk result (self.new ≡ self.old ++ Enter kind ∷ []) }
         ensures depth { OnOk result (depth_of self.new ≡ depth_of self.old + 1) }
         ensures err { OnErr result (self.new ≡ self.old) }
-        ensures refusal { IsOkUnless result OutOfMemory }
+        ensures refusals { IfErr result IsOutOfMemory }
     {
         self.steps.push(Step::Enter { kind })?;
         self.depth += 1;
@@ -57,7 +57,7 @@ impl Output {
         ensures ok { OnOk result (self.new ≡ self.old ++ Token kind ∷ []) }
         ensures depth { OnOk result (depth_of self.new ≡ depth_of self.old) }
         ensures err { OnErr result (self.new ≡ self.old) }
-        ensures refusal { IsOkUnless result OutOfMemory }
+        ensures refusals { IfErr result IsOutOfMemory }
     {
         self.steps.push(Step::Token { kind })?;
         Ok(())
@@ -69,7 +69,7 @@ impl Output {
         ensures ok { OnOk result (self.new ≡ self.old ++ Exit ∷ []) }
         ensures depth { OnOk result (depth_of self.new + 1 ≡ depth_of self.old) }
         ensures err { OnErr result (self.new ≡ self.old) }
-        ensures refusal { IsOkUnless result OutOfMemory }
+        ensures refusals { IfErr result IsOutOfMemory }
     {
         self.steps.push(Step::Exit)?;
         self.depth -= 1;
@@ -83,7 +83,7 @@ impl Output {
         ensures ok { OnOk result (self.new ≡ self.old ++ Error number ∷ []) }
         ensures depth { OnOk result (depth_of self.new ≡ depth_of self.old) }
         ensures err { OnErr result (self.new ≡ self.old) }
-        ensures refusal { IsOkUnless result OutOfMemory }
+        ensures refusals { IfErr result IsOutOfMemory }
     {
         self.steps.push(Step::Error { number })?;
         Ok(())

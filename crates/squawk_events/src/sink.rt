@@ -1,6 +1,6 @@
 //! What takes the steps of a tree over a text.
-ghost use Rattle.std.specs.Prelude.{◌≡◌, List, [], ◌∷◌, ◌++◌, OnOk, OnErr, IsOkUnless};
-ghost use Rattle.squawk_events.specs.declared.error.FrontError.TheVariants.{OutOfMemory};
+ghost use Rattle.std.specs.Prelude.{◌≡◌, List, [], ◌∷◌, ◌++◌, OnOk, OnErr, IfErr};
+ghost use Rattle.squawk_events.specs.Refusals.{IsOutOfMemory};
 ghost use Rattle.squawk_events.specs.declared.steps.StrStep.{StrStep as Taken};
 ghost use Rattle.squawk_events.specs.declared.steps.ParseError.{ParseError as Pushed};
 
@@ -19,5 +19,5 @@ pub trait StepSink {
         ensures ok { OnOk result (steps self.new ≡ steps self.old ++ step ∷ []) }
         ensures err { OnErr result (steps self.new ≡ steps self.old) }
         ensures kept { errors self.new ≡ errors self.old }
-        ensures refusal { IsOkUnless result OutOfMemory };
+        ensures refusals { IfErr result IsOutOfMemory };
 }

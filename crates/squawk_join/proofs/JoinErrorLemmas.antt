@@ -25,7 +25,7 @@ use Rattle.squawk_join.proofs.CutLemmas.{trivia_form, first_cut}
 use Rattle.squawk_join.specs.Errors.{errors}
 use Rattle.squawk_join.specs.Join.{joined_errors}
 use Rattle.squawk_statements.specs.Plain.{plain}
-use Rattle.squawk_join.proofs.ErrorLemmas.{runs, split, same_place, by_token_is_by_step}
+use Rattle.squawk_join.proofs.ErrorLemmas.{runs, split, same_place, errors_walked}
 use Rattle.squawk_join.proofs.JoinLemmas.{placed as placed_law, fits, both, skip, placed_from, fits_child, leaf_woven, node_woven, shift_child, further}
 
 -- whether steps give out all of the tokens, each Error at the start of one of them

@@ -1,8 +1,8 @@
 //! The tokens of a text, as they are kept.
-ghost use Rattle.std.specs.Prelude.{◌≡◌, ◌^◌, ◌<◌, ◌≤◌, ◌+◌, ◌↔◌, [], ◌∷◌, ◌++◌, length, take, drop, slice_range, slice_index, slice_index_or, IfOk, OnOk, IfSome, IsErrOf, IsOkUnless, IsTrue};
+ghost use Rattle.std.specs.Prelude.{◌≡◌, ◌^◌, ◌<◌, ◌≤◌, ◌+◌, ◌↔◌, [], ◌∷◌, ◌++◌, length, take, drop, slice_range, slice_index, slice_index_or, IfOk, OnOk, IfSome, IsErrOf, IfErr, IsTrue};
 ghost use Rattle.std.specs.Str.{chars, IsCharBoundary};
 ghost use Rattle.squawk_kinds.specs.declared.numbers.TheConstants.Number.{EOF};
-ghost use Rattle.squawk_events.specs.declared.error.FrontError.TheVariants.{OutOfMemory};
+ghost use Rattle.squawk_events.specs.Refusals.{IsOutOfMemory, MayRefuse};
 ghost use Rattle.squawk_events.specs.Kinds.{is_trivia_kind, has_no_trivia, without_trivia as kinds_kept};
 ghost use Rattle.squawk_lexed.specs.Weave.{kinds_without_trivia};
 ghost use Rattle.squawk_events.specs.Message.{message_of};
@@ -90,7 +90,7 @@ fn push_fault(errors: &mut Vec<LexError>, at: u32, fault: Option<Fault>) -> Resu
         × (at + f.end < 2 ^ 32)) }
     ensures errors_at { OnOk result (errors.new.items
         ≡ errors.old.items ++ errors_at at (list_of fault)) }
-    ensures refusal { IsOkUnless result OutOfMemory }
+    ensures refusals { IfErr result IsOutOfMemory }
 {
     if let Some(fault) = fault {
         errors.push(LexError {
@@ -108,7 +108,7 @@ fn push_faults(errors: &mut Vec<LexError>, at: u32, token: Token) -> Result<(), 
     requires fits { at + token.len < 2 ^ 32 }
     ensures errors_at { OnOk result (errors.new.items
         ≡ errors.old.items ++ errors_at at (faults token)) }
-    ensures refusal { IsOkUnless result OutOfMemory }
+    ensures refusals { IfErr result IsOutOfMemory }
 {
     let (first, second) = fault_pair(token);
     push_fault(errors, at, first)?;
@@ -132,7 +132,7 @@ fn push_token(lists: &mut Lists, at: u32, token: Token, text: &str) -> Result<()
     ensures starts { OnOk result (lists.new.starts.items ≡ lists.old.starts.items ++ at ∷ []) }
     ensures errors { OnOk result (lists.new.errors.items
         ≡ lists.old.errors.items ++ errors_at at (faults token)) }
-    ensures refusal { IsOkUnless result OutOfMemory }
+    ensures refusals { IfErr result IsOutOfMemory }
 {
     lists.kinds.push(kind_of(token.kind, text))?;
     lists.starts.push(at)?;
@@ -178,7 +178,7 @@ pub(crate) fn is_trivia(kind: SyntaxKind) -> bool
 /// The kinds that are not trivia.
 fn kept_of(alloc: Global, kinds: &[SyntaxKind]) -> Result<Input, FrontError>
     ensures ok { IfOk result (λ input. input ≡ kinds_kept kinds.now) }
-    ensures refusal { IsOkUnless result OutOfMemory }
+    ensures refusals { IfErr result IsOutOfMemory }
 {
     let mut input = Input::new(alloc);
     for i in 0..kinds.len() {
@@ -201,6 +201,7 @@ impl<'a> LexedStr<'a> {
     ) -> Result<LexedStr<'a>, FrontError>
         ensures lexed { IfOk result (λ l. l ≡ lexed_text strings text.now) }
         ensures too_long { IsErrOf result FrontError.TooLong ↔ (LIMIT < length text.now) }
+        ensures refusals { IfErr result (MayRefuse text.now) }
     {
         if text.len() > LIMIT {
             return Err(FrontError::TooLong);
@@ -238,6 +239,7 @@ impl<'a> LexedStr<'a> {
     pub fn new(alloc: Global, text: &'a str) -> Result<LexedStr<'a>, FrontError>
         ensures lexed { IfOk result (λ l. l ≡ lexed_text Standard text.now) }
         ensures too_long { IsErrOf result FrontError.TooLong ↔ (LIMIT < length text.now) }
+        ensures refusals { IfErr result (MayRefuse text.now) }
     {
         LexedStr::new_in(alloc, text, Strings::Standard)
     }
@@ -255,7 +257,7 @@ impl<'a> LexedStr<'a> {
         requires cut { AreCut tokens.now }
         requires laid { EndAtBoundaries text.now at tokens.now }
         ensures lexed { IfOk result (λ l. l ≡ lexed_part text.now at tokens.now) }
-        ensures refusal { IsOkUnless result OutOfMemory }
+        ensures refusals { IfErr result IsOutOfMemory }
     {
         flags_lie_within();
         let mut lists = Lists {
@@ -370,7 +372,7 @@ impl<'a> LexedStr<'a> {
     pub fn to_input(&self, alloc: Global) -> Result<Input, FrontError>
         ensures ok { IfOk result (λ input. input ≡ kinds_without_trivia self.now.tokens) }
         ensures no_trivia { IfOk result (λ input. IsTrue (has_no_trivia input)) }
-        ensures refusal { IsOkUnless result OutOfMemory }
+        ensures refusals { IfErr result IsOutOfMemory }
     {
         kept_of(alloc, &self.kinds)
     }

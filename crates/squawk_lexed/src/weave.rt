@@ -1,7 +1,7 @@
 //! Steps with trivia between them.
-ghost use Rattle.std.specs.Prelude.{◌≡◌, ◌^◌, ◌<◌, ◌≤◌, ◌+◌, [], ◌∷◌, ◌++◌, length, OnOk, OnErr, IfOk, IsOkUnless, IsTrue, drop};
+ghost use Rattle.std.specs.Prelude.{◌≡◌, ◌^◌, ◌<◌, ◌≤◌, ◌+◌, [], ◌∷◌, ◌++◌, length, OnOk, OnErr, IfOk, IfErr, IsTrue, drop};
 ghost use Rattle.squawk_events.specs.Lawful.{is_balanced, token_kinds};
-ghost use Rattle.squawk_events.specs.declared.error.FrontError.TheVariants.{OutOfMemory};
+ghost use Rattle.squawk_events.specs.Refusals.{IsOutOfMemory};
 ghost use Rattle.squawk_lexed.specs.Weave.{kinds_without_trivia, begins_with, leading_trivia, leading_trivia_end, after_leading_trivia, weave_step, offset_after_step, tokens_after_step, has_token_for, have_tokens_for, weave, weave_from, remaining_from, remaining_tokens, is_empty};
 ghost use Rattle.squawk_lexed.specs.LexedText.{total_len};
 ghost use Rattle.squawk_lexed.specs.Prefixes.{AppendsPrefix};
@@ -38,7 +38,7 @@ fn give_front<K: StepSink>(
     ensures front { OnErr result (AppendsPrefix (K.steps sink.old) (K.steps sink.new)
         (leading_trivia from.at (drop from.index lexed.now.tokens))) }
     ensures errors { K.errors sink.new ≡ K.errors sink.old }
-    ensures refusal { IsOkUnless result OutOfMemory }
+    ensures refusals { IfErr result IsOutOfMemory }
 {
     let mut index = from.index;
     let mut at = from.at;
@@ -78,7 +78,7 @@ fn give_step<K: StepSink>(
     ensures front { OnErr result (AppendsPrefix (K.steps sink.old) (K.steps sink.new)
         (weave_step last from.at (drop from.index lexed.now.tokens) step)) }
     ensures errors { K.errors sink.new ≡ K.errors sink.old }
-    ensures refusal { IsOkUnless result OutOfMemory }
+    ensures refusals { IfErr result IsOutOfMemory }
 {
     match step {
         Step::Enter { kind } => {
@@ -131,7 +131,7 @@ fn give_rest<K: StepSink>(
     ensures front { OnErr result (AppendsPrefix (K.steps sink.old) (K.steps sink.new)
         (weave_from 0 lexed.now.tokens rest.now)) }
     ensures errors { K.errors sink.new ≡ K.errors sink.old }
-    ensures refusal { IsOkUnless result OutOfMemory }
+    ensures refusals { IfErr result IsOutOfMemory }
 {
     let count = lexed.len();
     let mut place = Place { index: 0, at: 0 };
@@ -170,7 +170,7 @@ impl<'a> LexedStr<'a> {
         ensures front { OnErr result (AppendsPrefix (K.steps sink.old) (K.steps sink.new)
             (weave self.now.tokens output.now)) }
         ensures errors { K.errors sink.new ≡ K.errors sink.old }
-        ensures refusal { IsOkUnless result OutOfMemory }
+        ensures refusals { IfErr result IsOutOfMemory }
     {
         let steps = output.steps();
         sink.step(StrStep::Enter {

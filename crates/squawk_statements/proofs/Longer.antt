@@ -1,10 +1,10 @@
 -- A closed first child is that of every longer list.
-use Rattle.std.proofs.Common.{◌≡◌, ℕ, suc, Bool, true, false, cond, List, [], ◌∷◌, ◌++◌, map, length, take, ◌+◌, ◌<◌, ◌≤◌, arith, refl, ap, ◌∙◌}
+use Rattle.std.proofs.Common.{◌≡◌, ℕ, suc, Bool, true, false, cond, List, [], ◌∷◌, ◌++◌, map, length, take, ◌<◌, ◌≤◌, arith, refl, ap, ◌∙◌}
 use Rattle.std.proofs.lemmas.List.{map-append, take-append-le}
 use Rattle.std.specs.Prelude.{Option, Some, None, option_map}
 use Rattle.squawk_kinds.specs.Role.{role}
-use Rattle.squawk_kinds.specs.Role.{Role, Trivia, Semicolon, Terminator, Command, Open, Close, Other}
-use Rattle.squawk_statements.specs.Children.{Child, ends_statement, open_groups_after, statement_end, statement, child_from, first_child}
+use Rattle.squawk_kinds.specs.Role.{Role, is_trivia}
+use Rattle.squawk_statements.specs.Children.{Child, ends_statement, open_groups_after, statement_end, statement, statement_to, first_child, trivia_child, single_token, is_single_token}
 use Rattle.squawk_statements.specs.First.{child_node, first_shape}
 use Rattle.squawk_statements.specs.declared.first.ChildShape.{ChildShape}
 use Rattle.squawk_statements.specs.declared.division.Division.{Division}
@@ -33,53 +33,52 @@ closing_longer d g (f ∷ fs) gs =
         (statement_end d (open_groups_after g f) (fs ++ gs)) h
 
 statement_longer : (a b : Option ℕ) (fs gs : List Role) → Longer a b
-    → (statement a fs).closed ≡ true → statement b gs ≡ statement a fs
+    → (statement_to a fs).closed ≡ true → statement_to b gs ≡ statement_to a fs
 statement_longer None b fs gs h closed = absurd (cc)
-statement_longer (Some n) b fs gs h closed = ap (λ o. statement o gs) h
+statement_longer (Some n) b fs gs h closed = ap (λ end. statement_to end gs) h
 
-longer : (d : Division) (f : Role) (fs gs : List Role) → (child_from d f fs).closed ≡ true
-    → child_from d f (fs ++ gs) ≡ child_from d f fs
-longer d Trivia fs gs h = refl
-longer d Semicolon fs gs h = refl
-longer d Terminator fs gs h = refl
-longer d Command fs gs h = refl
-longer d Open fs gs h =
-    statement_longer (statement_end d 1 fs) (statement_end d 1 (fs ++ gs)) fs (fs
-    ++ gs) (closing_longer d 1 fs gs) h
-longer d Close fs gs h =
-    statement_longer (statement_end d 0 fs) (statement_end d 0 (fs ++ gs)) fs (fs
-    ++ gs) (closing_longer d 0 fs gs) h
-longer d Other fs gs h =
-    statement_longer (statement_end d 0 fs) (statement_end d 0 (fs ++ gs)) fs (fs
-    ++ gs) (closing_longer d 0 fs gs) h
+longer : (d : Division) (f : Role) (fs gs : List Role) → (first_child d (f ∷ fs)).closed ≡ true
+    → first_child d ((f ∷ fs) ++ gs) ≡ first_child d (f ∷ fs)
+longer d f fs gs = by (is_trivia f) (is_single_token f)
+  where
+    by : (trivia single : Bool)
+        → (cond trivia trivia_child (cond single single_token (statement d (f ∷ fs)))).closed
+        ≡ true
+        → cond trivia trivia_child (cond single single_token (statement d (f ∷ fs ++ gs)))
+        ≡ cond trivia trivia_child (cond single single_token (statement d (f ∷ fs)))
+    by true single closed = refl
+    by false true closed = refl
+    by false false closed =
+        statement_longer (statement_end d 0 (f ∷ fs)) (statement_end d 0 (f ∷ fs ++ gs)) (f ∷ fs)
+        (f ∷ fs ++ gs) (closing_longer d 0 (f ∷ fs) gs) closed
 
 pub first_longer : (d : Division) (kinds others : List ℕ) → 0 < length kinds
     → (first_child d (map role kinds)).closed ≡ true
     → first_child d (map role (kinds ++ others)) ≡ first_child d (map role kinds)
 first_longer d [] others some h = absurd (omega arith)
-first_longer d (k ∷ kinds) others some h = ap (child_from d (role k)) (map-append role kinds others)
+first_longer d (k ∷ kinds) others some h = ap (λ fs. first_child d (role k ∷ fs)) (map-append role kinds others)
     ∙ longer d (role k) (map role kinds) (map role others) h
 
 -- the shape of a closed first child is that of every longer list
 pub shape_longer : (d : Division) (kinds others : List ℕ) → 0 < length kinds
     → (first_child d (map role kinds)).closed ≡ true
-    → (first_child d (map role kinds)).more + 1 ≤ length kinds
+    → (first_child d (map role kinds)).tokens ≤ length kinds
     → first_shape d (kinds ++ others) ≡ first_shape d kinds
 shape_longer d kinds others some closed within =
     let same = first_longer d kinds others some closed in
     ap (λ (child : Child). shape_by child (kinds ++ others)) same
     ∙ ap (λ ks. record {
-      tokens = (first_child d (map role kinds)).more + 1;
+      tokens = (first_child d (map role kinds)).tokens;
       node =
           child_node ks;
       closed = (first_child d (map role kinds)).closed;
     })
-    (take-append-le ((first_child d (map role kinds)).more + 1) kinds others within)
+    (take-append-le ((first_child d (map role kinds)).tokens) kinds others within)
   where
     shape_by : Child → List ℕ → ChildShape
     shape_by child ks = record {
-      tokens = child.more + 1;
+      tokens = child.tokens;
       node =
-          child_node (take (child.more + 1) ks);
+          child_node (take (child.tokens) ks);
       closed = child.closed;
     }

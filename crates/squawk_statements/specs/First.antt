@@ -1,5 +1,5 @@
 -- The first child of the root, and its node.
-use Rattle.std.specs.Prelude.{ℕ, ◌+◌, List, [], ◌∷◌, map, take, Option, Some, None}
+use Rattle.std.specs.Prelude.{ℕ, List, [], ◌∷◌, map, take, Option, Some, None}
 use Rattle.squawk_kinds.specs.declared.numbers.TheConstants.Number as kind
 use Rattle.squawk_kinds.specs.Role.{Role, Trivia, Semicolon, Terminator, Command, Open, Close, Other}
 use Rattle.squawk_statements.specs.Children.{first_child}
@@ -27,7 +27,7 @@ child_node (k ∷ ks) = node_by (role k) (without_trivia (k ∷ ks))
 -- the first child of a list of kinds, trivia among them
 abbrev pub first_shape : Division → List ℕ → ChildShape
 first_shape division kinds = let child = first_child division (map role kinds) in record {
-  tokens = child.more + 1;
-  node = child_node (take (child.more + 1) kinds);
+  tokens = child.tokens;
+  node = child_node (take child.tokens kinds);
   closed = child.closed;
 }

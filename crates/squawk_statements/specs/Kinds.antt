@@ -2,7 +2,7 @@
 use Rattle.std.specs.Prelude.{◌≡◌, ℕ, ◌==◌, ◌||◌, Bool, true, false, refl, if◌then◌else◌}
 use Rattle.squawk_events.specs.Kinds.{is_trivia_kind}
 use Rattle.squawk_kinds.specs.declared.numbers.TheConstants.Number as kind
-use Rattle.squawk_kinds.specs.Role.{Role, role, is_trivia, Trivia, Semicolon, Terminator, Command, Open, Close, Other}
+use Rattle.squawk_kinds.specs.Role.{role, is_trivia, Trivia, Semicolon, Terminator, Command, Open, Close, Other}
 
 -- a kind is trivia where its role is
 pub role_trivia : (k : ℕ) → is_trivia (role k) ≡ is_trivia_kind k

@@ -1,15 +1,15 @@
 -- The steps of a list of kinds are a tree of them.
-use Rattle.std.specs.Prelude.{◌≡◌, ℕ, zero, suc, ◌==◌, Bool, true, false, IsTrue, List, [], ◌∷◌, ◌++◌, take, drop, refl, if◌then◌else◌}
-use Rattle.std.proofs.Common.{ap, sym, ◌∙◌, append_assoc}
+use Rattle.std.specs.Prelude.{◌≡◌, ◌≤◌, ◌-◌, ℕ, zero, suc, ◌==◌, Bool, true, false, IsTrue, List, [], ◌∷◌, ◌++◌, take, drop, map, Option, Some, None, option_map, refl, if◌then◌else◌}
+use Rattle.std.proofs.Common.{ap, sym, ◌∙◌, append_assoc, arith}
 use Rattle.std.proofs.lemmas.List.{take-append-drop, append-nil}
 use Rattle.squawk_events.specs.Kinds.{has_no_trivia}
 use Rattle.squawk_kinds.specs.Role.{role}
 use Rattle.squawk_events.specs.Lawful.{IsLawful, is_balanced, closes, token_kinds, has_lawful_numbers}
-use Rattle.squawk_kinds.specs.Role.{Role, Trivia, Semicolon, Terminator, Command, Open, Close, Other}
+use Rattle.squawk_kinds.specs.Role.{Role, Trivia, Semicolon, Terminator, Command, Open, Close, Other, is_trivia}
 use Rattle.squawk_kinds.specs.declared.numbers.TheConstants.Number.{ERROR}
 use Rattle.squawk_events.specs.declared.steps.Step.{Step}
 use Rattle.squawk_events.specs.declared.steps.Step.TheVariants.{Enter, Token, Exit, Error}
-use Rattle.squawk_statements.specs.Children.{ends_statement, parts, parts_from, more_of}
+use Rattle.squawk_statements.specs.Children.{ends_statement, parts, parts_from, first_child, first_child_len, statement_to, statement_end}
 use Rattle.squawk_statements.specs.Plain.{plain, node_of, body_steps, exits, kind_steps, groups_open_after, enters_before, exits_after, unknown_statement_error, child_steps, children_steps}
 use Rattle.squawk_statements.specs.declared.division.Division.{Division}
 use Rattle.squawk_statements.specs.declared.division.Division.TheVariants.{Flat, Grouped}
@@ -147,14 +147,43 @@ abbrev joined : {A : Type 0} → List (List A) → List A
 joined [] = []
 joined (xs ∷ rest) = xs ++ joined rest
 
+-- a first child has at least one token
+pub first_child_some : (d : Division) (f : Role) (fs : List Role)
+    → 1 ≤ (first_child d (f ∷ fs)).tokens
+first_child_some d f fs = by f
+  where
+    statement_some : (f : Role) (end : Option ℕ) → is_trivia f ≡ false
+        → 1 ≤ (statement_to (option_map suc end) (f ∷ fs)).tokens
+    statement_some f (Some n) solid = omega arith
+    statement_some f None solid = rw solid (omega arith)
+
+    by : (f : Role) → 1 ≤ (first_child d (f ∷ fs)).tokens
+    by Trivia = omega arith
+    by Semicolon = omega arith
+    by Terminator = omega arith
+    by Command = omega arith
+    by Open = statement_some Open (statement_end d 1 fs) refl
+    by Close = statement_some Close (statement_end d 0 fs) refl
+    by Other = statement_some Other (statement_end d 0 fs) refl
+
+pub suc_minus_one : (n : ℕ) → suc n - 1 ≡ n
+suc_minus_one n = omega arith
+
+take_then_drop : {A : Type 0} (n : ℕ) (x : A) (xs : List A) → 1 ≤ n
+    → take n (x ∷ xs) ++ drop (n - 1) xs ≡ x ∷ xs
+take_then_drop zero x xs some = absurd (omega arith)
+take_then_drop (suc n) x xs some =
+    ap (λ m. x ∷ (take n xs ++ drop m xs)) (suc_minus_one n)
+    ∙ ap (λ ys. x ∷ ys) (take-append-drop n xs)
+
 joined_parts : {A : Type 0} (role_of : A → Role) (n : ℕ) (d : Division) (xs : List A)
     → joined (parts_from role_of n d xs) ≡ drop n xs
 joined_parts role_of zero d [] = refl
 joined_parts role_of (suc n) d [] = refl
 joined_parts role_of zero d (x ∷ xs) =
-    let m = more_of role_of d x xs in
-    ap (λ ys. x ∷ (take m xs ++ ys)) (joined_parts role_of m d xs)
-    ∙ ap (λ ys. x ∷ ys) (take-append-drop m xs)
+    let len = first_child_len role_of d (x ∷ xs) in
+    ap (λ ys. take len (x ∷ xs) ++ ys) (joined_parts role_of (len - 1) d xs)
+    ∙ take_then_drop len x xs (first_child_some d (role_of x) (map role_of xs))
 joined_parts role_of (suc n) d (x ∷ xs) = joined_parts role_of n d xs
 
 tokens_children : (d : Division) (ps : List (List ℕ)) (xs : List Step)

@@ -1,6 +1,6 @@
 //! The first child of the root.
 ghost use Rattle.std.specs.Prelude.{◌≡◌, ◌≤◌, ◌<◌, ◌+◌, ◌++◌, ℕ, List, IsTrue, length, map, take};
-ghost use Rattle.squawk_statements.specs.Children.{statement, statement_end, first_child};
+ghost use Rattle.squawk_statements.specs.Children.{statement, first_child};
 ghost use Rattle.squawk_statements.specs.First.{first_shape, child_node};
 ghost use Rattle.squawk_kinds.specs.Role.{role};
 ghost use Rattle.squawk_statements.specs.declared.division.Division.TheVariants.{Flat};
@@ -20,61 +20,57 @@ pub struct ChildShape {
     pub closed: bool,
 }
 
-/// How many kinds belong to a statement behind its first, and whether one of them ends it.
+// How many tokens a child has, and whether it is closed.
 #[derive(Clone, Copy)]
-pub(crate) struct Rest {
-    pub(crate) more: usize,
+pub(crate) struct Extent {
+    pub(crate) tokens: usize,
     closed: bool,
 }
 
-/// What belongs to a statement behind its first kind, where `groups` groups are open behind that.
-///
-/// These are the kinds up to the one that ends it, or else up to the last that is no trivia.
-fn rest_of(division: Division, groups: usize, kinds: &[SyntaxKind]) -> Rest
-    requires { groups ≤ 1 }
-    ensures more { result.more
-        ≡ (statement (statement_end division groups (map role kinds.now)) (map role kinds.now)).more }
-    ensures closed { result.closed
-        ≡ (statement (statement_end division groups (map role kinds.now))
-        (map role kinds.now)).closed }
-    ensures within { result.more ≤ length kinds.now }
+// The extent of the statement at the start of `kinds`: up to and including the token that ends it,
+// else up to the last token that is not trivia.
+fn statement_extent(division: Division, kinds: &[SyntaxKind]) -> Extent
+    ensures tokens { result.tokens ≡ (statement division (map role kinds.now)).tokens }
+    ensures closed { result.closed ≡ (statement division (map role kinds.now)).closed }
+    ensures within { result.tokens ≤ length kinds.now }
 {
-    let mut opened = groups;
-    let mut solid = 0;
+    let mut groups = 0;
+    let mut trimmed = 0;
     for i in 0..kinds.len() {
         let kind = kinds[i];
-        if is_end(division, opened, kind) {
-            return Rest {
-                more: i + 1,
+        if is_end(division, groups, kind) {
+            return Extent {
+                tokens: i + 1,
                 closed: true,
             };
         }
-        opened = next_groups(opened, kind);
+        groups = next_groups(groups, kind);
         if !is_trivia(kind) {
-            solid = i + 1;
+            trimmed = i + 1;
         }
     }
-    Rest {
-        more: solid,
+    Extent {
+        tokens: trimmed,
         closed: false,
     }
 }
 
-/// What belongs to the first child behind its first kind.
-pub(crate) fn first_rest(division: Division, kinds: &[SyntaxKind]) -> Rest
+// The extent of the first child.
+pub(crate) fn first_extent(division: Division, kinds: &[SyntaxKind]) -> Extent
     requires { 0 < length kinds.now }
-    ensures more { result.more ≡ (first_child division (map role kinds.now)).more }
+    ensures tokens { result.tokens ≡ (first_child division (map role kinds.now)).tokens }
     ensures closed { result.closed ≡ (first_child division (map role kinds.now)).closed }
-    ensures within { result.more < length kinds.now }
+    ensures some { 0 < result.tokens }
+    ensures within { result.tokens ≤ length kinds.now }
 {
     let kind = kinds[0];
     if is_trivia(kind) || is_single_token(kind) {
-        return Rest {
-            more: 0,
+        return Extent {
+            tokens: 1,
             closed: true,
         };
     }
-    rest_of(division, next_groups(0, kind), &kinds[1..])
+    statement_extent(division, kinds)
 }
 
 /// The node of a child of these kinds; `None` where its one kind is trivia.
@@ -98,14 +94,14 @@ fn child_node(kinds: &[SyntaxKind]) -> Option<SyntaxKind>
 fn shape_of(kinds: &[SyntaxKind], division: Division) -> ChildShape
     requires { 0 < length kinds.now }
     ensures shape { result ≡ first_shape division kinds.now }
+    ensures some { 0 < result.tokens }
     ensures within { result.tokens ≤ length kinds.now }
 {
-    let rest = first_rest(division, kinds);
-    let tokens = rest.more + 1;
+    let extent = first_extent(division, kinds);
     ChildShape {
-        tokens,
-        node: child_node(&kinds[..tokens]),
-        closed: rest.closed,
+        tokens: extent.tokens,
+        node: child_node(&kinds[..extent.tokens]),
+        closed: extent.closed,
     }
 }
 

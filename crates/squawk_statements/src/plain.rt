@@ -1,13 +1,13 @@
 //! The plain grammar.
-ghost use Rattle.std.specs.Prelude.{◌≡◌, ◌≤◌, ◌<◌, ◌+◌, ◌^◌, [], ◌∷◌, ◌++◌, length, OnOk, IfOk, IsOkUnless, IsTrue};
+ghost use Rattle.std.specs.Prelude.{◌≡◌, ◌≤◌, ◌<◌, ◌+◌, ◌^◌, [], ◌∷◌, ◌++◌, length, OnOk, IfOk, IfErr, IsTrue};
 ghost use Rattle.squawk_events.specs.Depth.{depth_of};
 ghost use Rattle.squawk_kinds.specs.Role.{role};
-ghost use Rattle.squawk_events.specs.declared.error.FrontError.TheVariants.{OutOfMemory};
+ghost use Rattle.squawk_events.specs.Refusals.{IsOutOfMemory};
 ghost use Rattle.squawk_statements.specs.Plain.{node_of, exits, kind_steps, groups_open_after, body_steps, unknown_statement_error, child_steps, plain};
 ghost use Rattle.squawk_statements.specs.declared.division.Division.TheVariants.{Flat};
 
 use crate::division::{Division, is_end};
-use crate::first::first_rest;
+use crate::first::first_extent;
 use crate::node::statement_node;
 use squawk_events::{FrontError, Grammar, Input, Output};
 use squawk_kinds::SyntaxKind;
@@ -17,7 +17,7 @@ fn close_groups(output: &mut Output, groups: usize) -> Result<(), FrontError>
     requires { groups ≤ depth_of output.old }
     ensures ok { OnOk result (output.new ≡ output.old ++ exits groups) }
     ensures depth { OnOk result (depth_of output.new + groups ≡ depth_of output.old) }
-    ensures refusal { IsOkUnless result OutOfMemory }
+    ensures refusals { IfErr result IsOutOfMemory }
 {
     let mut left = groups;
     while left > 0 {
@@ -41,7 +41,7 @@ fn put_kind(
     ensures groups { IfOk result (λ n. n ≡ groups_open_after division groups (role kind)) }
     ensures depth { IfOk result (λ n. depth_of output.new + groups ≡ depth_of output.old + n) }
     ensures more { IfOk result (λ n. n ≤ groups + 1) }
-    ensures refusal { IsOkUnless result OutOfMemory }
+    ensures refusals { IfErr result IsOutOfMemory }
 {
     if is_end(division, groups, kind) {
         close_groups(output, groups)?;
@@ -70,7 +70,7 @@ fn put_kind(
 fn put_core(output: &mut Output, division: Division, kinds: &[SyntaxKind]) -> Result<(), FrontError>
     ensures ok { OnOk result (output.new ≡ output.old ++ body_steps division 0 kinds.now) }
     ensures depth { OnOk result (depth_of output.new ≡ depth_of output.old) }
-    ensures refusal { IsOkUnless result OutOfMemory }
+    ensures refusals { IfErr result IsOutOfMemory }
 {
     let mut groups = 0;
     for i in 0..kinds.len() {
@@ -83,7 +83,7 @@ fn put_core(output: &mut Output, division: Division, kinds: &[SyntaxKind]) -> Re
 fn put_fault(output: &mut Output, node: SyntaxKind) -> Result<(), FrontError>
     ensures ok { OnOk result (output.new ≡ output.old ++ unknown_statement_error node) }
     ensures depth { OnOk result (depth_of output.new ≡ depth_of output.old) }
-    ensures refusal { IsOkUnless result OutOfMemory }
+    ensures refusals { IfErr result IsOutOfMemory }
 {
     if node == SyntaxKind::ERROR {
         output.error(10)?;
@@ -116,7 +116,7 @@ fn put_child(
     requires { 0 < length kinds.now }
     ensures ok { OnOk result (output.new ≡ output.old ++ child_steps division kinds.now) }
     ensures depth { OnOk result (depth_of output.new ≡ depth_of output.old) }
-    ensures refusal { IsOkUnless result OutOfMemory }
+    ensures refusals { IfErr result IsOutOfMemory }
 {
     let node = node_of(kinds);
     output.enter(node)?;
@@ -133,12 +133,12 @@ fn put_plain(
 ) -> Result<(), FrontError>
     requires { output.old ≡ [] }
     ensures ok { OnOk result (output.new ≡ plain division kinds.now) }
-    ensures refusal { IsOkUnless result OutOfMemory }
+    ensures refusals { IfErr result IsOutOfMemory }
 {
     output.enter(SyntaxKind::SOURCE_FILE)?;
     let mut at = 0;
     while at < kinds.len() {
-        let count = first_rest(division, &kinds[at..]).more + 1;
+        let count = first_extent(division, &kinds[at..]).tokens;
         put_child(output, division, &kinds[at..at + count])?;
         at += count;
     }

@@ -1,11 +1,7 @@
-use Rattle.std.proofs.Common.{ℕ, ap, sym, ◌∙◌, subst, ◌≤◌, length, arith}
+use Rattle.std.proofs.Common.{ℕ, ap, sym, ◌∙◌, subst, ◌≤◌, length}
 use Rattle.squawk_statements.proofs.Longer.{shape_longer}
 use Rattle.squawk_statements.specs.declared.first.ChildShape.{ChildShape}
 use Rattle.squawk_statements.proofs.first.first_child_in.Goals as goal
-
-pub returns-clause-some : goal.returns-clause-some
-returns-clause-some c = let tokens = ap (λ (s : ChildShape). s.tokens) c.shape_of.ensures.shape in
-    omega (arith, tokens)
 
 pub returns-clause-longer : goal.returns-clause-longer
 returns-clause-longer c = λ closed others.
