@@ -7,11 +7,11 @@ use Rattle.squawk_join.specs.ParseOf.{parse_of, child_of, join}
 use Rattle.squawk_lexed.specs.LexedText.{are_sound}
 use Rattle.squawk_lexed.specs.LexedToken.{LexedToken}
 use Rattle.squawk_kinds.specs.Role.{Role, is_trivia, Trivia, Semicolon, Terminator, Command, Open, Close, Other}
-use Rattle.squawk_statements.specs.Children.{ends_statement, open_groups_after, statement_end, trimmed_len, statement, child_from, more_of, parts, parts_from}
+use Rattle.squawk_statements.specs.Children.{ends_statement, open_groups_after, statement_end, trimmed_len, first_child_len, parts}
+use Rattle.squawk_join.proofs.FirstPart.{rest_len, more, more_of, first_tokens, first_part}
 use Rattle.squawk_kinds.specs.Role.{role}
 use Rattle.squawk_statements.specs.declared.division.Division.{Division}
 use Rattle.squawk_join.proofs.JoinIsParse.{parse-joined}
-use Rattle.squawk_join.proofs.JoinLemmas.{skip}
 use Rattle.squawk_join.proofs.RootLemmas.{first-within}
 
 -- the first roles up to the one that closes
@@ -67,30 +67,29 @@ solid-take (f ∷ fs) = by (is_trivia f && trimmed_len fs == 0) refl (solid-take
     by false is more = ap (λ n. cond (is_trivia f && n == 0) 0 (suc n)) more
         ∙ ap (λ b. cond b 0 (suc (trimmed_len fs))) is
 
-statement-alone : (d : Division) (g : ℕ) (fs : List Role)
-    → (statement (statement_end d g (take (statement (statement_end d g fs) fs).more fs))
-    (take (statement (statement_end d g fs) fs).more fs)).more
-    ≡ (statement (statement_end d g fs) fs).more
-statement-alone d g fs = by (statement_end d g fs) refl
+rest-alone : (d : Division) (g : ℕ) (fs : List Role)
+    → rest_len (statement_end d g (take (rest_len (statement_end d g fs) fs) fs))
+    (take (rest_len (statement_end d g fs) fs) fs) ≡ rest_len (statement_end d g fs) fs
+rest-alone d g fs = by (statement_end d g fs) refl
   where
     by : (o : Option ℕ) → statement_end d g fs ≡ o
-        → (statement (statement_end d g (take (statement o fs).more fs))
-        (take (statement o fs).more fs)).more ≡ (statement o fs).more
-    by None is = ap (λ o. (statement o (take (trimmed_len fs) fs)).more)
+        → rest_len (statement_end d g (take (rest_len o fs) fs)) (take (rest_len o fs) fs)
+        ≡ rest_len o fs
+    by None is = ap (λ o. rest_len o (take (trimmed_len fs) fs))
         (none-take d g (trimmed_len fs) fs is) ∙ solid-take fs
-    by (Some k) is = ap (λ o. (statement o (take k fs)).more) (closing-take d g fs k is)
+    by (Some k) is = ap (λ o. rest_len o (take k fs)) (closing-take d g fs k is)
 
-first-alone : (d : Division) (f : Role) (fs : List Role)
-    → (child_from d f (take (child_from d f fs).more fs)).more ≡ (child_from d f fs).more
-first-alone d Trivia fs = refl
-first-alone d Semicolon fs = refl
-first-alone d Terminator fs = refl
-first-alone d Command fs = refl
-first-alone d Open fs = statement-alone d 1 fs
-first-alone d Close fs = statement-alone d 0 fs
-first-alone d Other fs = statement-alone d 0 fs
+more-alone : (d : Division) (f : Role) (fs : List Role)
+    → more d f (take (more d f fs) fs) ≡ more d f fs
+more-alone d Trivia fs = refl
+more-alone d Semicolon fs = refl
+more-alone d Terminator fs = refl
+more-alone d Command fs = refl
+more-alone d Open fs = rest-alone d 1 fs
+more-alone d Close fs = rest-alone d 0 fs
+more-alone d Other fs = rest-alone d 0 fs
 
-pub parts-alone : (d : Division) (t : LexedToken) (ts : List LexedToken)
+parts-alone : (d : Division) (t : LexedToken) (ts : List LexedToken)
     → parts lexed_role d (t ∷ take (more_of lexed_role d t ts) ts)
     ≡ (t ∷ take (more_of lexed_role d t ts) ts) ∷ []
 parts-alone d t ts =
@@ -98,21 +97,26 @@ parts-alone d t ts =
     let us = take m ts in
     let fits : m ≤ length ts = first-within d t ts in
     let size : length us ≡ m = length-take-le m ts fits in
-    let forms : map lexed_role us ≡ take m (map lexed_role ts) = sym (take-map lexed_role m ts) in
-    let same : more_of lexed_role d t us ≡ m = ap (λ fs. (child_from d (role t.kind) fs).more) forms
-    ∙ first-alone d (role t.kind) (map lexed_role ts) in
+    let roles : map lexed_role us ≡ take m (map lexed_role ts) = sym (take-map lexed_role m ts) in
+    let same : more_of lexed_role d t us ≡ m = ap (λ fs. more d (role t.kind) fs) roles
+    ∙ more-alone d (role t.kind) (map lexed_role ts) in
     let whole : take (more_of lexed_role d t us) us ≡ us =
     take_all (more_of lexed_role d t us) us (omega arith) in
     let none : drop (more_of lexed_role d t us) us ≡ [] =
     drop_all (more_of lexed_role d t us) us (omega arith) in
-    ap (λ xs. (t ∷ xs) ∷ parts_from lexed_role (more_of lexed_role d t us) d us) whole
-    ∙ ap (λ rest. (t ∷ us) ∷ rest) (skip lexed_role (more_of lexed_role d t us) d us
-    ∙ ap (parts_from lexed_role 0 d) none)
+    first_part lexed_role d t us
+    ∙ ap (λ xs. (t ∷ xs) ∷ parts lexed_role d (drop (more_of lexed_role d t us) us)) whole
+    ∙ ap (λ rest. (t ∷ us) ∷ parts lexed_role d rest) none
 
 -- a child parsed by itself is itself under a root
 pub parse-alone : (d : Division) (t : LexedToken) (ts : List LexedToken)
-    → are_sound (t ∷ take (more_of lexed_role d t ts) ts) ≡ true
-    → parse_of d (t ∷ take (more_of lexed_role d t ts) ts)
-    ≡ join (child_of d (t ∷ take (more_of lexed_role d t ts) ts) ∷ [])
-parse-alone d t ts sound = parse-joined d (t ∷ take (more_of lexed_role d t ts) ts) sound
-    ∙ ap (λ ps. join (map (child_of d) ps)) (parts-alone d t ts)
+    → are_sound (take (first_child_len lexed_role d (t ∷ ts)) (t ∷ ts)) ≡ true
+    → parse_of d (take (first_child_len lexed_role d (t ∷ ts)) (t ∷ ts))
+    ≡ join (child_of d (take (first_child_len lexed_role d (t ∷ ts)) (t ∷ ts)) ∷ [])
+parse-alone d t ts sound =
+    let own : List LexedToken = t ∷ take (more_of lexed_role d t ts) ts in
+    let own_is : take (first_child_len lexed_role d (t ∷ ts)) (t ∷ ts) ≡ own =
+    ap (λ n. take n (t ∷ ts)) (first_tokens d (role t.kind) (map lexed_role ts)) in
+    parse-joined d (take (first_child_len lexed_role d (t ∷ ts)) (t ∷ ts)) sound
+    ∙ ap (λ ps. join (map (child_of d) ps)) (ap (parts lexed_role d) own_is
+    ∙ parts-alone d t ts ∙ ap (λ p. p ∷ []) (sym own_is))

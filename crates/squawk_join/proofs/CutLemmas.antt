@@ -9,7 +9,8 @@ use Rattle.squawk_statements.specs.Kinds.{role_trivia}
 use Rattle.squawk_kinds.specs.Role.{Role, is_trivia, Trivia, Semicolon, Terminator, Command, Open, Close, Other}
 use Rattle.squawk_lexed.specs.Weave.{kinds_without_trivia}
 use Rattle.squawk_lexed.specs.LexedToken.{LexedToken}
-use Rattle.squawk_statements.specs.Children.{ends_statement, open_groups_after, statement_end, trimmed_len, statement, child_from}
+use Rattle.squawk_statements.specs.Children.{ends_statement, open_groups_after, statement_end, trimmed_len}
+use Rattle.squawk_join.proofs.FirstPart.{rest_len, more}
 use Rattle.squawk_statements.specs.declared.division.Division.{Division}
 use Rattle.squawk_join.specs.Join.{lexed_role}
 
@@ -177,8 +178,8 @@ solid_cut (t ∷ ts) =
 
 -- a statement's part of a text, and its part of the kinds
 statement_cut : (a b : Option ℕ) (ts : List LexedToken) → SameCut a b (kinds_without_trivia ts) ts
-    → Cut (statement a (map role (kinds_without_trivia ts))).more
-    (statement b (map lexed_role ts)).more (kinds_without_trivia ts) ts
+    → Cut (rest_len a (map role (kinds_without_trivia ts)))
+    (rest_len b (map lexed_role ts)) (kinds_without_trivia ts) ts
 statement_cut None None ts h =
     let s = solid_cut ts in
     let all = solid_kept ts in
@@ -202,8 +203,8 @@ statement_cut (Some m) (Some n) ts h = record {
 
 -- the first child's part of a text, and its part of the kinds
 pub first_cut : (d : Division) (f : Role) (ts : List LexedToken)
-    → Cut (child_from d f (map role (kinds_without_trivia ts))).more
-    (child_from d f (map lexed_role ts)).more (kinds_without_trivia ts) ts
+    → Cut (more d f (map role (kinds_without_trivia ts)))
+    (more d f (map lexed_role ts)) (kinds_without_trivia ts) ts
 first_cut d Trivia ts = record { front = refl; left = refl; solid = refl }
 first_cut d Semicolon ts = record { front = refl; left = refl; solid = refl }
 first_cut d Terminator ts = record { front = refl; left = refl; solid = refl }

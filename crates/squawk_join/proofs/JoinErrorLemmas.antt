@@ -14,7 +14,8 @@ use Rattle.squawk_lexed.specs.LexedText.{total_len, are_sound}
 use Rattle.squawk_lexed.specs.Faults.{faults_within}
 use Rattle.squawk_lexed.specs.LexedToken.{LexedToken}
 use Rattle.squawk_lexed.specs.declared.fault.Fault.{Fault}
-use Rattle.squawk_statements.specs.Children.{child_from, more_of, parts}
+use Rattle.squawk_statements.specs.Children.{parts}
+use Rattle.squawk_join.proofs.FirstPart.{more, more_of, first_part}
 use Rattle.squawk_statements.specs.Plain.{child_steps}
 use Rattle.squawk_statements.specs.declared.division.Division.{Division}
 use Rattle.squawk_join.specs.Errors.{error}
@@ -25,8 +26,8 @@ use Rattle.squawk_join.proofs.CutLemmas.{trivia_form, first_cut}
 use Rattle.squawk_join.specs.Errors.{errors}
 use Rattle.squawk_join.specs.Join.{joined_errors}
 use Rattle.squawk_statements.specs.Plain.{plain}
-use Rattle.squawk_join.proofs.ErrorLemmas.{runs, split, same_place, errors_walked}
-use Rattle.squawk_join.proofs.JoinLemmas.{placed as placed_law, fits, both, skip, placed_from, fits_child, leaf_woven, node_woven, shift_child, further}
+use Rattle.squawk_join.proofs.ErrorLemmas.{runs, split, same_place, by_token_is_by_step}
+use Rattle.squawk_join.proofs.JoinLemmas.{placed as placed_law, fits, both, placed_from, fits_child, leaf_woven, node_woven, shift_child, further}
 
 -- whether steps give out all of the tokens, each Error at the start of one of them
 abbrev inner : ℕ → List LexedToken → List StrStep → Bool
@@ -157,7 +158,7 @@ errors_placed (suc n) d at (t ∷ ts) h =
         (child_woven d at (t ∷ take (more_of lexed_role d t ts) ts)) ≡ true
     whole true is =
         let none : more_of lexed_role d t ts ≡ 0 =
-        ap (λ f. (child_from d f (map lexed_role ts)).more)
+        ap (λ f. more d f (map lexed_role ts))
         (trivia_form (role t.kind) (role_trivia t.kind ∙ is)) in
         ap (λ m. inner at (t ∷ take m ts) (child_woven d at (t ∷ take m ts))) none
         ∙ inner_leaf d at t is
@@ -178,7 +179,7 @@ errors_placed (suc n) d at (t ∷ ts) h =
         let m = more_of lexed_role d t ts in
         let tokens : parts lexed_role d (t ∷ ts)
         ≡ (t ∷ take m ts) ∷ parts lexed_role d (drop m ts) =
-        ap (λ rest. (t ∷ take m ts) ∷ rest) (skip lexed_role m d ts) in
+        first_part lexed_role d t ts in
         let all : t ∷ ts ≡ (t ∷ take m ts) ++ drop m ts =
         ap (λ us. t ∷ us) (sym (take-append-drop m ts)) in
         ap (λ ps. errors_by_step at (t ∷ ts) (placed_from d at ps ++ out.Exit ∷ [])) tokens
@@ -263,7 +264,7 @@ child_inner d at t ts = by (is_trivia_kind t.kind) refl
         (child_woven d at (t ∷ take (more_of lexed_role d t ts) ts)) ≡ true
     by true is =
         let none : more_of lexed_role d t ts ≡ 0 =
-        ap (λ f. (child_from d f (map lexed_role ts)).more)
+        ap (λ f. more d f (map lexed_role ts))
         (trivia_form (role t.kind) (role_trivia t.kind ∙ is)) in
         ap (λ m. inner at (t ∷ take m ts) (child_woven d at (t ∷ take m ts))) none
         ∙ inner_leaf d at t is
@@ -288,7 +289,7 @@ parts_errors (suc n) d at (t ∷ ts) h s =
     let m = more_of lexed_role d t ts in
     let p = t ∷ take m ts in
     let tokens : parts lexed_role d (t ∷ ts) ≡ (t ∷ take m ts) ∷ parts lexed_role d (drop m ts) =
-    ap (λ rest. (t ∷ take m ts) ∷ rest) (skip lexed_role m d ts) in
+    first_part lexed_role d t ts in
     let rest = parts_errors n d (at + total_len (t ∷ take m ts)) (drop m ts) (let e =
     length-drop m ts in omega arith) (sound_drop m ts (tail_sound t ts s)) in
     let own = own_errors d at (t ∷ take m ts) (child_inner d 0 t ts) (sound_take (suc m) (t ∷ ts) s)

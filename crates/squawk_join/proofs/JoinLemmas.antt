@@ -13,7 +13,8 @@ use Rattle.squawk_kinds.specs.declared.numbers.TheConstants.Number.{SOURCE_FILE,
 use Rattle.squawk_lexed.specs.Weave.{kinds_without_trivia, leading_trivia, leading_trivia_end, after_leading_trivia, next_len, weave_step, offset_after_step, tokens_after_step, is_empty, weave_from, weave}
 use Rattle.squawk_lexed.specs.LexedText.{total_len}
 use Rattle.squawk_lexed.specs.LexedToken.{LexedToken}
-use Rattle.squawk_statements.specs.Children.{ends_statement, child_from, more_of, parts, parts_from}
+use Rattle.squawk_statements.specs.Children.{ends_statement, parts}
+use Rattle.squawk_join.proofs.FirstPart.{more, more_of, first_part}
 use Rattle.squawk_statements.specs.Plain.{node_of}
 use Rattle.squawk_statements.specs.Plain.{body_steps, exits, kind_steps, groups_open_after, enters_before, exits_after, unknown_statement_error, child_steps, children_steps, plain}
 use Rattle.squawk_statements.specs.declared.division.Division.{Division}
@@ -216,12 +217,6 @@ fits_child d t ts is solid =
 
 -- ---- the text
 
-pub skip : {A : Type 0} (role_of : A → Role) (n : ℕ) (d : Division) (xs : List A)
-    → parts_from role_of n d xs ≡ parts_from role_of 0 d (drop n xs)
-skip role_of zero d xs = refl
-skip role_of (suc n) d [] = refl
-skip role_of (suc n) d (x ∷ xs) = skip role_of n d xs
-
 -- children one after another, each of its own tokens at their own place
 abbrev pub placed_from : Division → ℕ → List (List LexedToken) → List StrStep
 placed_from d at [] = []
@@ -276,9 +271,10 @@ placed (suc n) d at (t ∷ ts) h =
         let here : kinds_without_trivia (t ∷ ts) ≡ kinds_without_trivia ts = rw is refl in
         let f = trivia_form (role t.kind) (role_trivia t.kind ∙ is) in
         let none : more_of lexed_role d t ts ≡ 0 =
-        ap (λ f. (child_from d f (map lexed_role ts)).more) f in
+        ap (λ f. more d f (map lexed_role ts)) f in
         let ps : parts lexed_role d (t ∷ ts) ≡ (t ∷ []) ∷ parts lexed_role d ts =
-        ap (λ m. (t ∷ take m ts) ∷ parts_from lexed_role m d ts) none in
+        first_part lexed_role d t ts
+        ∙ ap (λ m. (t ∷ take m ts) ∷ parts lexed_role d (drop m ts)) none in
         let place : at + (t.len + 0) ≡ at + t.len = omega arith in
         let this : child_woven d at (t ∷ []) ≡ out.Token t.kind at (at + t.len) ∷ [] = rw is refl in
         let right : placed_from d at (parts lexed_role d (t ∷ ts))
@@ -301,14 +297,11 @@ placed (suc n) d at (t ∷ ts) h =
         let kinds : parts role d (kinds_without_trivia (t ∷ ts))
         ≡ kinds_without_trivia (t ∷ take m ts)
         ∷ parts role d (kinds_without_trivia (drop m ts)) =
-        rw (here, part) (ap (λ rest.
-        (t.kind ∷ take (more_of role d t.kind (kinds_without_trivia ts))
-        (kinds_without_trivia ts)) ∷ rest)
-        (skip role (more_of role d t.kind (kinds_without_trivia ts)) d
-        (kinds_without_trivia ts)) ∙ rw (cut.front, cut.left) refl) in
+        rw (here, part) (first_part role d t.kind (kinds_without_trivia ts)
+        ∙ rw (cut.front, cut.left) refl) in
         let tokens : parts lexed_role d (t ∷ ts)
         ≡ (t ∷ take m ts) ∷ parts lexed_role d (drop m ts) =
-        ap (λ rest. (t ∷ take m ts) ∷ rest) (skip lexed_role m d ts) in
+        first_part lexed_role d t ts in
         let whole : t ∷ ts ≡ (t ∷ take m ts) ++ drop m ts =
         ap (λ us. t ∷ us) (sym (take-append-drop m ts)) in
         let this : child_woven d at (t ∷ take m ts)

@@ -1,3 +1,4 @@
+mod FirstPart
 mod CutLemmas
 mod LeavesLemmas
 mod JoinLemmas

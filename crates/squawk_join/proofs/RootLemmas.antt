@@ -1,5 +1,5 @@
 -- The children of the root are those of the division.
-use Rattle.std.proofs.Common.{◌≡◌, ℕ, zero, suc, ◌+◌, ◌==◌, ◌≤◌, Bool, true, false, ◌&&◌, cond, List, [], ◌∷◌, ◌++◌, length, take, map, append_assoc, ap, refl, sym, ◌∙◌, arith}
+use Rattle.std.proofs.Common.{◌≡◌, ℕ, zero, suc, ◌+◌, ◌-◌, ◌==◌, ◌≤◌, Bool, true, false, ◌&&◌, cond, List, [], ◌∷◌, ◌++◌, length, take, map, append_assoc, ap, refl, sym, ◌∙◌, arith}
 use Rattle.std.proofs.lemmas.Bool.{eqb-true}
 use Rattle.std.proofs.lemmas.List.{length-take-le, length-map}
 use Rattle.std.specs.Prelude.{Option, Some, None, option_map}
@@ -14,7 +14,8 @@ use Rattle.squawk_lexed.specs.Weave.{kinds_without_trivia, weave_from, weave}
 use Rattle.squawk_lexed.specs.LexedText.{total_len}
 use Rattle.squawk_lexed.specs.LexedToken.{LexedToken}
 use Rattle.squawk_kinds.specs.Role.{Role, is_trivia, Trivia, Semicolon, Terminator, Command, Open, Close, Other}
-use Rattle.squawk_statements.specs.Children.{Child, ends_statement, open_groups_after, statement_end, trimmed_len, statement, child_from, more_of, parts, parts_from, children, children_from}
+use Rattle.squawk_statements.specs.Children.{ends_statement, open_groups_after, statement_end, statement_to, trimmed_len, first_child, first_child_len, parts, parts_from, children, children_from}
+use Rattle.squawk_join.proofs.FirstPart.{rest_len, more, more_of, first_tokens}
 use Rattle.squawk_kinds.specs.Role.{role}
 use Rattle.squawk_statements.specs.Kinds.{role_trivia}
 use Rattle.squawk_statements.specs.Plain.{node_of, unknown_statement_error, body_steps, child_steps, plain}
@@ -70,26 +71,39 @@ closing-le d g (f ∷ fs) =
     by false None h = tt
     by false (Some m) h = omega arith
 
--- a statement has no more than there is, and is a node
-record Sized (c : Child) (n : ℕ) : Type 0 where
-  within : c.more ≤ n
-  node : c.is_node ≡ true
-
-statement-sized : (found : Option ℕ) (fs : List Role) → Within found (length fs)
-    → Sized (statement found fs) (length fs)
+rest_len-le : (found : Option ℕ) (fs : List Role) → Within found (length fs)
+    → rest_len found fs ≤ length fs
 unfolding Within
-statement-sized None fs h = record { within = solid_len-le fs; node = refl }
-statement-sized (Some m) fs h = record { within = h; node = refl }
+rest_len-le None fs h = solid_len-le fs
+rest_len-le (Some m) fs h = h
 
-first-sized : (d : Division) (f : Role) (fs : List Role) → is_trivia f ≡ false
-    → Sized (child_from d f fs) (length fs)
-first-sized d Trivia fs h = cc
-first-sized d Semicolon fs h = record { within = omega arith; node = refl }
-first-sized d Terminator fs h = record { within = omega arith; node = refl }
-first-sized d Command fs h = record { within = omega arith; node = refl }
-first-sized d Open fs h = statement-sized (statement_end d 1 fs) fs (closing-le d 1 fs)
-first-sized d Close fs h = statement-sized (statement_end d 0 fs) fs (closing-le d 0 fs)
-first-sized d Other fs h = statement-sized (statement_end d 0 fs) fs (closing-le d 0 fs)
+-- a child has no more tokens than there are
+more-le : (d : Division) (f : Role) (fs : List Role) → more d f fs ≤ length fs
+more-le d Trivia fs = omega arith
+more-le d Semicolon fs = omega arith
+more-le d Terminator fs = omega arith
+more-le d Command fs = omega arith
+more-le d Open fs = rest_len-le (statement_end d 1 fs) fs (closing-le d 1 fs)
+more-le d Close fs = rest_len-le (statement_end d 0 fs) fs (closing-le d 0 fs)
+more-le d Other fs = rest_len-le (statement_end d 0 fs) fs (closing-le d 0 fs)
+
+-- a child whose first token is not trivia is a node
+first-node : (d : Division) (f : Role) (fs : List Role) → is_trivia f ≡ false
+    → (first_child d (f ∷ fs)).is_node ≡ true
+first-node d f fs solid = by f solid
+  where
+    statement_node : (end : Option ℕ) (gs : List Role) → (statement_to end gs).is_node ≡ true
+    statement_node None gs = refl
+    statement_node (Some n) gs = refl
+
+    by : (f : Role) → is_trivia f ≡ false → (first_child d (f ∷ fs)).is_node ≡ true
+    by Trivia h = cc
+    by Semicolon h = refl
+    by Terminator h = refl
+    by Command h = refl
+    by Open h = statement_node (statement_end d 0 (Open ∷ fs)) (Open ∷ fs)
+    by Close h = statement_node (statement_end d 0 (Close ∷ fs)) (Close ∷ fs)
+    by Other h = statement_node (statement_end d 0 (Other ∷ fs)) (Other ∷ fs)
 
 length-laid : (at : ℕ) (ts : List LexedToken) → length (laid at ts) ≡ length ts
 length-laid at [] = refl
@@ -121,30 +135,32 @@ node_root d at t ts rest is =
 child_root : (d : Division) (at : ℕ) (t : LexedToken) (ts : List LexedToken) (rest : List StrStep)
     → root_children_from 0 0 (without_errors (child_woven d at (t
     ∷ take (more_of lexed_role d t ts) ts)) ++ rest)
-    ≡ root_child (child_from d (role t.kind) (map lexed_role ts)) ∷ root_children_from 0 0 rest
+    ≡ root_child (first_child d (map lexed_role (t ∷ ts))) ∷ root_children_from 0 0 rest
 child_root d at t ts rest = by (is_trivia_kind t.kind) refl
   where
     by : (b : Bool) → is_trivia_kind t.kind ≡ b
         → root_children_from 0 0 (without_errors
         (child_woven d at (t ∷ take (more_of lexed_role d t ts) ts)) ++ rest)
-        ≡ root_child (child_from d (role t.kind) (map lexed_role ts))
+        ≡ root_child (first_child d (map lexed_role (t ∷ ts)))
         ∷ root_children_from 0 0 rest
     by true is =
         ap (λ zs. root_children_from 0 0 (without_errors zs ++ rest))
         (leaf_woven d at t (take (more_of lexed_role d t ts) ts) is)
-        ∙ ap (λ f. root_child (child_from d f (map lexed_role ts))
+        ∙ ap (λ f. root_child (first_child d (f ∷ map lexed_role ts))
         ∷ root_children_from 0 0 rest) (sym (trivia_form (role t.kind) (role_trivia t.kind
         ∙ is)))
     by false is =
-        let sized = first-sized d (role t.kind) (map lexed_role ts) (role_trivia t.kind ∙ is) in
-        let all : length (map lexed_role ts) ≡ length ts = length-map ts lexed_role in
-        let within = sized.within in
+        let fs = map lexed_role ts in
+        let all : length fs ≡ length ts = length-map ts lexed_role in
+        let within = more-le d (role t.kind) fs in
         let taken : length (take (more_of lexed_role d t ts) ts) ≡ more_of lexed_role d t ts =
         length-take-le (more_of lexed_role d t ts) ts (omega arith) in
+        let node = first-node d (role t.kind) fs (role_trivia t.kind ∙ is) in
+        let size = first_tokens d (role t.kind) fs in
         let child : Node (length (t ∷ take (more_of lexed_role d t ts) ts))
-        ≡ root_child (child_from d (role t.kind) (map lexed_role ts)) =
-        rw sized.node (ap Node (let e : suc (length (take (more_of lexed_role d t ts) ts))
-        ≡ more_of lexed_role d t ts + 1 = omega arith in e)) in
+        ≡ root_child (first_child d (map lexed_role (t ∷ ts))) =
+        rw node (ap Node (let e : suc (length (take (more_of lexed_role d t ts) ts))
+        ≡ (first_child d (map lexed_role (t ∷ ts))).tokens = omega arith in e)) in
         node_root d at t (take (more_of lexed_role d t ts) ts) rest is
         ∙ ap (λ c. c ∷ root_children_from 0 0 rest) child
 
@@ -155,17 +171,21 @@ placed-children d zero at [] = refl
 placed-children d (suc skip) at [] = refl
 placed-children d (suc skip) at (t ∷ ts) = placed-children d skip at ts
 placed-children d zero at (t ∷ ts) =
-    let m = more_of lexed_role d t ts in
-    let part = t ∷ take m ts in
+    let len = first_child_len lexed_role d (t ∷ ts) in
+    let part = t ∷ take (more_of lexed_role d t ts) ts in
+    let part_is : take len (t ∷ ts) ≡ part =
+    ap (λ n. take n (t ∷ ts)) (first_tokens d (role t.kind) (map lexed_role ts)) in
     let next = at + total_len part in
-    let others = placed_from d next (parts_from lexed_role m d ts) in
-    ap (λ zs. root_children_from 0 0 (zs ++ out.Exit ∷ []))
+    let others = placed_from d next (parts_from lexed_role (len - 1) d ts) in
+    ap (λ p. root_children_from 0 0 (without_errors
+    (placed_from d at (p ∷ parts_from lexed_role (len - 1) d ts)) ++ out.Exit ∷ [])) part_is
+    ∙ ap (λ zs. root_children_from 0 0 (zs ++ out.Exit ∷ []))
     (without-append (child_woven d at part) others)
     ∙ ap (root_children_from 0 0) (append_assoc (without_errors (child_woven d at part))
     (without_errors others) (out.Exit ∷ []))
     ∙ child_root d at t ts (without_errors others ++ out.Exit ∷ [])
-    ∙ ap (λ cs. root_child (child_from d (role t.kind) (map lexed_role ts))
-    ∷ cs) (placed-children d m next ts)
+    ∙ ap (λ cs. root_child (first_child d (map lexed_role (t ∷ ts)))
+    ∷ cs) (placed-children d (len - 1) next ts)
 
 -- the root's children are those of the roles of the tokens
 pub root_children-woven : (d : Division) (ts : List LexedToken)
@@ -179,15 +199,7 @@ root_children-woven d ts =
 
 pub first-within : (d : Division) (t : LexedToken) (ts : List LexedToken)
     → more_of lexed_role d t ts ≤ length ts
-first-within d t ts = by (is_trivia (role t.kind)) refl
-  where
-    by : (b : Bool) → is_trivia (role t.kind) ≡ b → more_of lexed_role d t ts ≤ length ts
-    by true is =
-        let none : more_of lexed_role d t ts ≡ 0 =
-        ap (λ f. (child_from d f (map lexed_role ts)).more) (trivia_form (role t.kind) is) in
-        omega arith
-    by false is =
-        let sized = first-sized d (role t.kind) (map lexed_role ts) is in
-        let within = sized.within in
-        let all : length (map lexed_role ts) ≡ length ts = length-map ts lexed_role in
-        omega arith
+first-within d t ts =
+    let within = more-le d (role t.kind) (map lexed_role ts) in
+    let all : length (map lexed_role ts) ≡ length ts = length-map ts lexed_role in
+    omega arith

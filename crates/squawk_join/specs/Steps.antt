@@ -70,4 +70,4 @@ root_children xs = []
 
 -- a child as it stands under the root
 abbrev pub root_child : Child → RootChild
-root_child c = if c.is_node then Node (c.more + 1) else Leaf
+root_child c = if c.is_node then Node c.tokens else Leaf

@@ -1,6 +1,6 @@
 //! The errors of a parse.
-ghost use Rattle.std.specs.Prelude.{[], ◌≡◌, ◌≤◌, ◌<◌, ◌+◌, ◌^◌, ◌++◌, All, drop, take, length, OnOk, IfOk, IsOkUnless, IsTrue};
-ghost use Rattle.squawk_events.specs.declared.error.FrontError.TheVariants.{OutOfMemory};
+ghost use Rattle.std.specs.Prelude.{[], ◌≡◌, ◌≤◌, ◌<◌, ◌+◌, ◌^◌, ◌++◌, All, drop, take, length, OnOk, IfOk, IfErr, IsTrue};
+ghost use Rattle.squawk_events.specs.Refusals.{IsOutOfMemory};
 ghost use Rattle.squawk_lexed.specs.LexedText.{total_len};
 ghost use Rattle.squawk_lexed.specs.Stored.{errors_of};
 ghost use Rattle.squawk_lexed.specs.Weave.{next_len};
@@ -33,7 +33,7 @@ fn push_lexical_errors(
     ensures rest { IfOk result (λ next. drop next lexical.now
         ≡ errors_from end (drop from lexical.now)) }
     ensures within { IfOk result (λ next. next ≤ length lexical.now) }
-    ensures refusal { IsOkUnless result OutOfMemory }
+    ensures refusals { IfErr result IsOutOfMemory }
 {
     let mut next = from;
     while next < lexical.len() && lexical[next].range().start < end {
@@ -72,7 +72,7 @@ fn push_step_error(
     requires { token ≤ length lexed.now.tokens }
     ensures ok { OnOk result (errors.new.items ≡ errors.old.items
         ++ step_error (total_len (take token lexed.now.tokens)) (drop token lexed.now.tokens) number) }
-    ensures refusal { IsOkUnless result OutOfMemory }
+    ensures refusals { IfErr result IsOutOfMemory }
 {
     let end = next_end(lexed, token);
     let start = lexed.text_start(token) as u32;
@@ -92,7 +92,7 @@ fn push_errors_of_step(
         ++ step_errors (total_len (take from.token lexed.now.tokens))
         (drop from.token lexed.now.tokens) step) }
     ensures walk { IfOk result (λ to. IsWalkAfter lexed.now.tokens from.token step to.token to.error) }
-    ensures refusal { IsOkUnless result OutOfMemory }
+    ensures refusals { IfErr result IsOutOfMemory }
 {
     match step {
         StrStep::Error { number, .. } => {
@@ -121,7 +121,7 @@ pub(crate) fn errors_of_steps(
     steps: &[StrStep],
 ) -> Result<Vec<ParseError>, FrontError>
     ensures ok { IfOk result (λ errors. errors.items ≡ errors_by_step 0 lexed.now.tokens steps.now) }
-    ensures refusal { IsOkUnless result OutOfMemory }
+    ensures refusals { IfErr result IsOutOfMemory }
 {
     let mut errors = Vec::new(alloc);
     let mut walk = Walk { token: 0, error: 0 };

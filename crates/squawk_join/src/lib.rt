@@ -11,7 +11,7 @@ ghost use Rattle.squawk_join.specs.ParseOf.{parse_of, tree_of, child_of, join};
 ghost use Rattle.squawk_lexed.specs.LexedText.{are_sound, total_len};
 ghost use Rattle.squawk_lexed.specs.Weave.{kinds_without_trivia, weave};
 ghost use Rattle.squawk_lexed.specs.LexedToken.{LexedToken};
-ghost use Rattle.squawk_statements.specs.Children.{parts, children, more_of};
+ghost use Rattle.squawk_statements.specs.Children.{parts, children, first_child_len};
 ghost use Rattle.squawk_statements.specs.declared.division.Division.{Division};
 
 mod errors;
@@ -37,6 +37,6 @@ pub fn parses_are_trees()
 /// A child parsed by itself is itself under a root.
 pub fn children_stand_alone()
     ensures { (division : Division) (token : LexedToken) (tokens : List LexedToken) → let own =
-        token ∷ take (more_of lexed_role division token tokens) tokens in IsTrue (are_sound own)
+        take (first_child_len lexed_role division (token ∷ tokens)) (token ∷ tokens) in IsTrue (are_sound own)
         → parse_of division own ≡ join (child_of division own ∷ []) }
 {}
