@@ -4,3 +4,4 @@ pub mod FrontLemmas
 pub mod KeptLemmas
 pub mod WovenLemmas
 pub mod PartLemmas
+pub mod RoleLemmas

@@ -1,5 +1,5 @@
 //! Laws of the tables: functions that do nothing, each with the law as its contract.
-ghost use Rattle.std.specs.Prelude.{◌≡◌, ◌≢◌, ◌↔◌, ℕ, AllPairs, Any, Contains};
+ghost use Rattle.std.specs.Prelude.{◌≡◌, ◌≢◌, ◌↔◌, ℕ, List, AllPairs, Any, Contains, IfSome};
 ghost use Rattle.std.specs.declared.cmp.Ordering.TheVariants.{Less};
 ghost use Rattle.squawk_words.specs.Classes.{classes};
 ghost use Rattle.squawk_words.specs.Index.{word_cmp};
@@ -7,7 +7,9 @@ ghost use Rattle.squawk_words.specs.Flags.{members};
 ghost use Rattle.squawk_words.specs.KeywordSets.{all_keywords, unreserved_keywords, column_or_table_keywords, type_keywords, bare_label_keywords};
 ghost use Rattle.squawk_words.specs.Sets.{punctuation, operators, contextual_keywords as contextual, col_name_keyword_first, type_func_name_keywords, reserved_keywords, plpgsql_reserved_keywords, plpgsql_reserved_contextual_keywords};
 ghost use Rattle.squawk_words.specs.declared.sets.TheConstants as sets;
+ghost use Rattle.squawk_words.specs.KindOf.{keyword_of};
 ghost use Rattle.squawk_words.specs.Words.{keywords, contextual_keywords};
+ghost use Rattle.squawk_kinds.specs.Role.{role, Other};
 
 /// The words of each table rise by their length and then by their bytes, and none stands twice.
 pub fn words_rise()
@@ -41,4 +43,9 @@ pub fn sets_have_members()
     ensures plpgsql_reserved { members sets.PLPGSQL_RESERVED_KEYWORDS ≡ plpgsql_reserved_keywords }
     ensures plpgsql_contextual { members sets.PLPGSQL_RESERVED_CONTEXTUAL_KEYWORDS
         ≡ plpgsql_reserved_contextual_keywords }
+{}
+
+/// No keyword is trivia, ends a statement, is a psql command or a parenthesis.
+pub fn keywords_are_plain()
+    ensures { (text : List ℕ) → IfSome (keyword_of text) (λ kind. role kind ≡ Other) }
 {}

@@ -1,0 +1,14 @@
+//! Laws of the definitions, for proofs: functions that do nothing, each with a law as its contract.
+ghost use Rattle.std.specs.Prelude.{◌≡◌, ℕ, List};
+ghost use Rattle.squawk_kinds.specs.Role.{role};
+ghost use Rattle.squawk_lexer.specs.declared.token.TokenKind.{TokenKind};
+ghost use Rattle.squawk_lexed.specs.Leaf.{leaf_kind, token_role};
+
+use squawk_words::laws::keywords_are_plain;
+
+/// The leaf of a token has the token's role, whatever the text of the token.
+pub fn leaves_keep_roles()
+    ensures { (token : TokenKind) (text : List ℕ) → role (leaf_kind token text) ≡ token_role token }
+{
+    keywords_are_plain();
+}
