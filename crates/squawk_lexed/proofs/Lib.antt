@@ -6,3 +6,4 @@ pub mod WeaveLemmas
 pub mod PartLemmas
 mod PlacedLemmas
 mod GivenLemmas
+pub mod RoleLemmas

@@ -13,11 +13,11 @@ use Rattle.squawk_show.specs.declared.command.Command.{Command}
 use Rattle.squawk_show.specs.declared.command.Command.TheVariants.{Report}
 use Rattle.squawk_show.specs.declared.error.RunError.{RunError}
 use Rattle.squawk_show.specs.declared.error.RunError.TheVariants.{BadWords, ReadFault, NotUtf8, Front, WriteFault}
-use Rattle.squawk_tree.specs.Children.{children, roles_of, root_child}
-use Rattle.squawk_tree.specs.ParseOf.{parse_of}
-use Rattle.squawk_tree.specs.Steps.{leaves, ranges_through, root_children}
+use Rattle.squawk_statements.specs.Children.{children}
+use Rattle.squawk_tree.specs.ParseOf.{parse_of, roles_of}
+use Rattle.squawk_tree.specs.Steps.{leaves, ranges_through, root_children, root_child}
 use Rattle.squawk_tree.specs.Tree.{Tree, IsTree}
-use Rattle.squawk_tree.specs.declared.division.Division.TheVariants.{Flat}
+use Rattle.squawk_statements.specs.declared.division.Division.TheVariants.{Flat}
 
 -- Texts and their trees
 

@@ -1,71 +1,54 @@
 -- The parse of a text.
-use Rattle.std.specs.Prelude.{ℕ, ◌+◌, ◌==◌, List, [], ◌∷◌, ◌++◌, length, Option, Some, None, if◌then◌else◌}
-use Rattle.std.specs.Str.{chars}
+use Rattle.std.specs.Prelude.{ℕ, ◌+◌, List, [], ◌∷◌, map}
+use Rattle.squawk_events.specs.declared.steps.Step.{Step}
 use Rattle.squawk_events.specs.declared.steps.StrStep.{StrStep}
-use Rattle.squawk_events.specs.declared.steps.StrStep.TheVariants.{Enter, Token, Exit}
-use Rattle.squawk_kinds.specs.declared.numbers.TheConstants.Number as kind
-use Rattle.squawk_lexer.specs.Cut.{tokens}
-use Rattle.squawk_kinds.specs.Role.{Role, Trivia, Semicolon, Terminator, Command, Open, Close, Other}
+use Rattle.squawk_events.specs.declared.steps.StrStep.TheVariants.{Token}
+use Rattle.squawk_kinds.specs.Role.{Role, role}
+use Rattle.squawk_lexed.specs.Leaf.{token_role}
+use Rattle.squawk_lexed.specs.LexedText.{lexed_text, total_len}
+use Rattle.squawk_lexed.specs.LexedToken.{LexedToken}
+use Rattle.squawk_lexed.specs.Weave.{kinds_without_trivia, weave}
 use Rattle.squawk_lexer.specs.declared.token.Strings.{Strings}
-use Rattle.squawk_tree.specs.Children.{parts}
-use Rattle.squawk_kinds.specs.Role.{role}
-use Rattle.squawk_tree.specs.Leaf.{leaf_role}
-use Rattle.squawk_tree.specs.Leaves.{leaves_of}
+use Rattle.squawk_lexer.specs.declared.token.Token as lexer
+use Rattle.squawk_statements.specs.Plain.{plain}
+use Rattle.squawk_statements.specs.declared.division.Division.{Division}
+use Rattle.squawk_tree.specs.Errors.{errors}
+use Rattle.squawk_tree.specs.Steps.{without_errors}
 use Rattle.squawk_tree.specs.Tree.{Tree}
-use Rattle.squawk_tree.specs.declared.division.Division.{Division}
-use Rattle.squawk_tree.specs.declared.leaves.Leaf.{Leaf}
 
--- the bytes of some leaves
-abbrev pub leaves_len : List Leaf → ℕ
-leaves_len [] = 0
-leaves_len (l ∷ ls) = l.len + leaves_len ls
+-- the role of a token in the division into statements
+abbrev pub lexed_role : LexedToken → Role
+lexed_role t = role t.kind
 
--- the steps of leaves, the first of which begins at a place
-abbrev pub token_steps : ℕ → List Leaf → List StrStep
+-- the roles of the tokens that the lexer cuts
+abbrev pub roles_of : List lexer.Token → List Role
+roles_of ts = map (λ (t : lexer.Token). token_role t.kind) ts
+
+-- the Token steps of tokens, the first of which begins at an offset
+abbrev pub token_steps : ℕ → List LexedToken → List StrStep
 token_steps at [] = []
-token_steps at (l ∷ ls) = Token l.kind at (at + l.len) ∷ token_steps (at + l.len) ls
+token_steps at (t ∷ ts) = Token t.kind at (at + t.len) ∷ token_steps (at + t.len) ts
 
--- the node of a statement, by its first kind
-abbrev pub statement_node : ℕ → ℕ
-statement_node k = if k == kind.SELECT_KW then kind.SELECT else kind.ERROR
+-- the tree over tokens whose steps, Error steps included, are these
+abbrev pub tree_of : List LexedToken → List StrStep → Tree
+tree_of ts steps = record {
+  steps = without_errors steps;
+  errors = errors ts steps;
+  len = total_len ts;
+}
 
--- the node of a child of the root whose first kind has this role, where it is a node
-abbrev pub node_by : Role → ℕ → Option ℕ
-node_by Trivia k = None
-node_by Semicolon k = Some kind.EMPTY_STMT
-node_by Terminator k = Some kind.PSQL_COMMAND
-node_by Command k = Some kind.PSQL_COMMAND
-node_by Open k = Some (statement_node k)
-node_by Close k = Some (statement_node k)
-node_by Other k = Some (statement_node k)
+-- the parse of tokens by a grammar that gives these steps for a list of kinds
+abbrev pub parse_by : (List ℕ → List Step) → List LexedToken → Tree
+parse_by told ts = tree_of ts (weave ts (told (kinds_without_trivia ts)))
 
-abbrev pub node_of : ℕ → Option ℕ
-node_of k = node_by (role k) k
+-- the parse of tokens into statements
+abbrev pub parse_of_tokens : Division → List LexedToken → Tree
+parse_of_tokens division ts = parse_by (plain division) ts
 
--- steps in a node, or by themselves
-abbrev pub enclosed : Option ℕ → List StrStep → List StrStep
-enclosed None steps = steps
-enclosed (Some node) steps = Enter node ∷ steps ++ Exit ∷ []
-
--- the steps of a child of the root that begins at a place
-abbrev pub child_steps : ℕ → List Leaf → List StrStep
-child_steps at [] = []
-child_steps at (l ∷ ls) = enclosed (node_of l.kind) (token_steps at (l ∷ ls))
-
--- the steps of children, the first of which begins at a place
-abbrev pub children_steps : ℕ → List (List Leaf) → List StrStep
-children_steps at [] = []
-children_steps at (part ∷ rest) = child_steps at part ++ children_steps (at + leaves_len part) rest
-
--- the steps of the tree of some leaves
-abbrev pub tree_steps : Division → List Leaf → List StrStep
-tree_steps division leaves = Enter kind.SOURCE_FILE
-    ∷ children_steps 0 (parts leaf_role division leaves) ++ Exit ∷ []
+-- the tokens of a text of these bytes
+abbrev pub tokens_of : Strings → List ℕ → List LexedToken
+tokens_of strings text = (lexed_text strings text).tokens
 
 -- the parse of a text of these bytes
 abbrev pub parse_of : Strings → Division → List ℕ → Tree
-parse_of strings division text = record {
-  steps = tree_steps division (leaves_of text 0 (tokens strings (chars text)));
-  errors = [];
-  len = length text;
-}
+parse_of strings division text = parse_of_tokens division (tokens_of strings text)

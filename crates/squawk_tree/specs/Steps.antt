@@ -1,7 +1,8 @@
 -- A tree as a list of steps, in order.
-use Rattle.std.specs.Prelude.{ℕ, zero, suc, ◌+◌, ◌==◌, ◌&&◌, nat_lt, Bool, true, false, List, [], ◌∷◌}
+use Rattle.std.specs.Prelude.{ℕ, zero, suc, ◌+◌, ◌==◌, ◌&&◌, nat_lt, Bool, true, false, List, [], ◌∷◌, if◌then◌else◌}
 use Rattle.squawk_events.specs.declared.steps.StrStep.{StrStep}
 use Rattle.squawk_events.specs.declared.steps.StrStep.TheVariants.{Enter, Token, Exit, Error}
+use Rattle.squawk_statements.specs.Children.{Child}
 
 -- from d open nodes on, the steps come to no open node at their end and not before
 abbrev pub closes : ℕ → List StrStep → Bool
@@ -24,6 +25,22 @@ has_no_errors (Enter kind ∷ xs) = has_no_errors xs
 has_no_errors (Token kind start end ∷ xs) = has_no_errors xs
 has_no_errors (Exit ∷ xs) = has_no_errors xs
 has_no_errors (Error number at ∷ xs) = false
+
+-- the steps other than Error steps
+abbrev pub without_errors : List StrStep → List StrStep
+without_errors [] = []
+without_errors (Enter kind ∷ xs) = Enter kind ∷ without_errors xs
+without_errors (Token kind start end ∷ xs) = Token kind start end ∷ without_errors xs
+without_errors (Exit ∷ xs) = Exit ∷ without_errors xs
+without_errors (Error number at ∷ xs) = without_errors xs
+
+-- the Token steps
+abbrev pub only_tokens : List StrStep → List StrStep
+only_tokens [] = []
+only_tokens (Enter kind ∷ xs) = only_tokens xs
+only_tokens (Token kind start end ∷ xs) = Token kind start end ∷ only_tokens xs
+only_tokens (Exit ∷ xs) = only_tokens xs
+only_tokens (Error number at ∷ xs) = only_tokens xs
 
 -- the ranges of the tokens
 abbrev pub leaves : List StrStep → List (ℕ × ℕ)
@@ -66,3 +83,7 @@ root_children_from (suc d) n (Error number at ∷ xs) = root_children_from (suc 
 abbrev pub root_children : List StrStep → List RootChild
 root_children (Enter kind ∷ xs) = root_children_from 0 0 xs
 root_children xs = []
+
+-- a child of the division as it stands under the root
+abbrev pub root_child : Child → RootChild
+root_child child = if child.is_node then Node child.tokens else Leaf

@@ -1,8 +1,11 @@
 -- What a parse is seen as, and what holds of it.
 use Rattle.std.specs.Prelude.{ℕ, ◌≡◌, ◌≤◌, List, All, IsTrue}
+use Rattle.std.specs.Str.{IsCharBoundary}
 use Rattle.squawk_events.specs.declared.steps.StrStep.{StrStep}
 use Rattle.squawk_events.specs.declared.steps.ParseError.{ParseError}
+use Rattle.squawk_tree.specs.declared.children.ChildSpan.{ChildSpan}
 use Rattle.squawk_tree.specs.Steps.{is_balanced, has_no_errors, leaves, tiles}
+use Rattle.squawk_tree.specs.ChildSpans.{child_spans}
 use Rattle.squawk_tree.specs.Ranges.{ranges}
 
 -- the steps of a tree, its errors, and the length of its text in bytes
@@ -25,7 +28,12 @@ pub record IsTree (t : Tree) : Type 0 where
   pub tiled : IsTrue (tiles 0 (leaves t.steps) t.len)
   pub errors_within : All (IsErrorWithin t.len) t.errors
 
--- what is kept: a tree, and the range of each step
-pub record IsKept (t : Tree) (spans : List (ℕ × ℕ)) : Type 0 where
+-- both ends of a range of bytes are character boundaries of a text
+abbrev pub IsRangeOf : List ℕ → ℕ × ℕ → Type 0
+IsRangeOf text range = IsCharBoundary text range.0 × IsCharBoundary text range.1
+
+-- what is kept of a parse: a tree, the range of each step, and the children of the root
+pub record IsKept (t : Tree) (spans : List (ℕ × ℕ)) (children : List ChildSpan) : Type 0 where
   pub tree : IsTree t
   pub spans_are : spans ≡ ranges t.steps
+  pub children_are : children ≡ child_spans t.steps

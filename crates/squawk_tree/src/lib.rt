@@ -1,14 +1,19 @@
 //! Lossless syntax trees: a text as a balanced list of steps whose tokens cover it, and its errors.
 #![tactic(auto)]
 
-mod division;
-mod leaves;
+mod children;
+mod errors;
+pub mod laws;
 mod parse;
+mod sink;
 mod source;
 mod spans;
-
-pub use parse::Parse;
-pub use source::parse_source;
-
 #[cfg(test)]
 mod tests;
+
+pub use children::ChildSpan;
+pub use parse::Parse;
+pub use sink::TreeSink;
+pub use source::{
+    parse_divided, parse_lexed, parse_source, parse_source_in, parse_with, parse_with_in,
+};

@@ -1,8 +1,12 @@
 //! A syntax tree over a text, and the errors in the text.
-ghost use Rattle.std.specs.Prelude.{◌≡◌, ◌<◌, All, length, slice_get, IfOk, Some};
+ghost use Rattle.std.specs.Prelude.{◌≡◌, ◌≤◌, ◌<◌, ◌++◌, ◌∷◌, [], All, OnOk, length, map, slice_get, slice_range, IfOk, IfSome, Some};
+ghost use Rattle.std.specs.Str.{IsCharBoundary};
+ghost use Rattle.squawk_tree.specs.ChildSpans.{child_spans, span_child};
 ghost use Rattle.squawk_tree.specs.Ranges.{ranges};
-ghost use Rattle.squawk_tree.specs.Tree.{Tree, IsTree, IsErrorWithin};
+ghost use Rattle.squawk_tree.specs.Steps.{root_children, without_errors};
+ghost use Rattle.squawk_tree.specs.Tree.{Tree, IsTree, IsErrorWithin, IsRangeOf};
 
+use crate::children::{ChildSpan, child_spans};
 use crate::spans::spans_of;
 use squawk_events::{ParseError, StrStep};
 use std::alloc::{AllocError, Global};
@@ -11,13 +15,14 @@ use std::marker::Model;
 /// A syntax tree over a text, and the errors in the text.
 ///
 /// The tree is a balanced list of `Enter`, `Token` and `Exit` steps. The ranges of its tokens
-/// follow one another from 0 to the text's end, so that the leaves spell the text. All places are
-/// in bytes.
+/// follow one another from 0 to the end of the text, so that the leaves spell the text. All offsets
+/// are in bytes.
 #[derive(Drop)]
 pub struct Parse {
     steps: Vec<StrStep>,
     // the range of each step
     spans: Vec<(u32, u32)>,
+    children: Vec<ChildSpan>,
     errors: Vec<ParseError>,
     len: u32,
 }
@@ -29,29 +34,59 @@ impl Model for Parse {
 
     ghost view = { λ p. record { steps = p.steps.items; errors = p.errors.items; len = p.len } };
 
-    ghost invariant = { λ p. IsKept (record { steps = p.steps.items; errors = p.errors.items; len = p.len }) p.spans.items };
+    ghost invariant = { λ p. IsKept (record { steps = p.steps.items; errors = p.errors.items; len = p.len })
+        p.spans.items p.children.items };
+}
+
+// Appends a step, unless it is an `Error` step.
+fn push_step(steps: &mut Vec<StrStep>, step: StrStep) -> Result<(), AllocError>
+    ensures { OnOk result (steps.new.items ≡ steps.old.items ++ without_errors (step ∷ [])) }
+{
+    if let StrStep::Error { .. } = step {
+        return Ok(());
+    }
+    steps.push(step)?;
+    Ok(())
+}
+
+// Takes the `Error` steps out of a list of steps.
+fn remove_errors(alloc: Global, steps: &[StrStep]) -> Result<Vec<StrStep>, AllocError>
+    ensures { IfOk result (λ kept. kept.items ≡ without_errors steps.now) }
+{
+    let mut kept = Vec::new(alloc);
+    for step in steps {
+        push_step(&mut kept, *step)?;
+    }
+    Ok(kept)
 }
 
 impl Parse {
-    /// The parse of these steps and errors, for a text of this length in bytes.
+    // The parse of these steps and errors, for a text of this length in bytes. `Error` steps are
+    // left out.
     pub(crate) fn new(
         alloc: Global,
         steps: Vec<StrStep>,
         errors: Vec<ParseError>,
         len: u32,
     ) -> Result<Parse, AllocError>
-        requires { IsTree (record { steps = steps.items; errors = errors.items; len = len }) }
-        ensures { IfOk result (λ p. p ≡ record {
-          steps = steps.items;
+        requires { IsTree (record {
+          steps = without_errors steps.items;
           errors = errors.items;
-          len =
-              len;
+          len = len;
+        }) }
+        ensures { IfOk result (λ parse. parse ≡ record {
+          steps = without_errors steps.items;
+          errors = errors.items;
+          len = len;
         }) }
     {
+        let steps = remove_errors(alloc, &steps)?;
         let spans = spans_of(alloc, &steps)?;
+        let children = child_spans(alloc, &steps)?;
         Ok(Parse {
             steps,
             spans,
+            children,
             errors,
             len,
         })
@@ -59,7 +94,7 @@ impl Parse {
 
     /// The number of bytes of the text.
     ///
-    /// Of every parse the steps are balanced, no `Error` is among them, the tokens cover the text
+    /// In every parse the steps are balanced, no `Error` is among them, the tokens cover the text
     /// from 0 to `len`, and each error has a number from 1 to 10 and lies in the text: that is what
     /// the second clause says.
     pub fn len(&self) -> u32
@@ -84,15 +119,44 @@ impl Parse {
         &self.errors
     }
 
-    /// The range of a step in bytes, from its first to before its second number: a token's own, and
-    /// for an `Enter` and its `Exit` the node's. It takes constant time.
+    /// The children of the root, in order: what stands directly inside the first `Enter`.
+    pub fn children(&self) -> &[ChildSpan]
+        ensures spans { result.now ≡ child_spans self.now.steps }
+        ensures children { map span_child result.now ≡ root_children self.now.steps }
+    {
+        &self.children
+    }
+
+    // The range of a step. It does not end before its start.
+    fn span(&self, i: usize) -> (u32, u32)
+        requires { i < length self.now.steps }
+        ensures range { slice_get (ranges self.now.steps) i ≡ Some result }
+        ensures ordered { result.0 ≤ result.1 }
+    {
+        self.spans[i]
+    }
+
+    /// The range of a step in bytes, the end exclusive: a token's own, and for an `Enter` and its
+    /// `Exit` the node's. It takes constant time.
     ///
     /// A node begins where the last token before its `Enter` ends, and ends where the last token
-    /// before its `Exit` does. Before the first token that place is 0.
+    /// before its `Exit` does. Before the first token that offset is 0.
     pub fn range(&self, i: usize) -> (u32, u32)
         requires { i < length self.now.steps }
         ensures { slice_get (ranges self.now.steps) i ≡ Some result }
     {
-        self.spans[i]
+        self.span(i)
+    }
+
+    /// The part of a text that a step covers. `text` is the text of the parse, or any other in which
+    /// both ends of the step's range are character boundaries.
+    pub fn text<'a>(&self, text: &'a str, i: usize) -> &'a str
+        requires step { i < length self.now.steps }
+        requires range { IfSome (slice_get (ranges self.now.steps) i) (IsRangeOf text.now) }
+        ensures { IfSome (slice_get (ranges self.now.steps) i)
+            (λ range. result.now ≡ slice_range text.now range.0 range.1) }
+    {
+        let (start, end) = self.span(i);
+        &text[start as usize..end as usize]
     }
 }

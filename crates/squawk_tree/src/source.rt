@@ -1,148 +1,186 @@
-//! The tree of a text's statements.
-ghost use Rattle.std.specs.Prelude.{◌≡◌, ◌<◌, ◌+◌, ◌++◌, ◌^◌, ◌↔◌, length, map, IfOk, OnOk, IsErrOf};
+//! Parses of texts and of their tokens.
+ghost use Rattle.std.specs.Prelude.{◌≡◌, ◌<◌, ◌↔◌, length, map, IfOk, IfErr, OnOk, IsErrOf, IsTrue};
 ghost use Rattle.std.specs.Str.{chars};
+ghost use Rattle.squawk_events.specs.Lawful.{IsLawful};
+ghost use Rattle.squawk_events.specs.Refusals.{IsOutOfMemory, MayRefuse};
+ghost use Rattle.squawk_lexed.specs.LexedText.{are_sound, total_len};
+ghost use Rattle.squawk_lexed.specs.Weave.{kinds_without_trivia, weave};
 ghost use Rattle.squawk_lexer.specs.Cut.{tokens, token_ends};
 ghost use Rattle.squawk_lexer.specs.declared.token.Strings.TheVariants.{Standard};
-ghost use Rattle.squawk_tree.specs.Children.{children, roles_of, parts, root_child};
-ghost use Rattle.squawk_tree.specs.Leaf.{leaf_role};
-ghost use Rattle.squawk_tree.specs.ParseOf.{leaves_len, token_steps, node_of, child_steps, children_steps, tree_steps, parse_of};
-ghost use Rattle.squawk_tree.specs.Steps.{leaves, ranges_through, root_children};
+ghost use Rattle.squawk_statements.specs.Children.{children, parts};
+ghost use Rattle.squawk_statements.specs.declared.division.Division.TheVariants.{Flat};
+ghost use Rattle.squawk_tree.specs.Join.{children_of, join};
+ghost use Rattle.squawk_tree.specs.ParseOf.{roles_of, token_steps, tokens_of, parse_by, parse_of, parse_of_tokens};
+ghost use Rattle.squawk_tree.specs.Steps.{leaves, only_tokens, ranges_through, root_children, root_child};
 ghost use Rattle.squawk_tree.specs.Tree.{IsTree};
-ghost use Rattle.squawk_tree.specs.declared.division.Division.TheVariants.{Flat};
 
-use crate::Parse;
-use crate::division::{Division, first_child_len};
-use crate::leaves::{Leaf, leaves_of};
-use squawk_events::{FrontError, StrStep};
-use squawk_kinds::SyntaxKind;
+use crate::errors::errors_of_steps;
+use crate::laws::{children_join, parses_are_trees};
+use crate::{Parse, TreeSink};
+use squawk_events::{EntryPoint, FrontError, Grammar, StrStep};
+use squawk_lexed::LexedStr;
+use squawk_lexed::laws::leaves_keep_roles;
 use squawk_lexer::Strings;
-use std::alloc::{AllocError, Global};
+use squawk_statements::{Division, GroupedGrammar, PlainGrammar};
+use std::alloc::Global;
 
-/// The most bytes that a text may have.
-const LIMIT: usize = 4294967295;
-
-/// The node of a child of the root that begins with a leaf of this kind; `None` where that leaf is
-/// a child by itself.
-#[tactic(auto, unfolding(squawk_kinds::specs::Role::role))]
-fn node_of(kind: SyntaxKind) -> Option<SyntaxKind>
-    ensures { result ≡ node_of kind }
+// The steps that a grammar gives for some tokens, woven with them.
+fn woven_steps<G: Grammar>(
+    alloc: Global,
+    lexed: &LexedStr<'_>,
+    grammar: &G,
+) -> Result<Vec<StrStep>, FrontError>
+    ensures steps { IfOk result (λ steps. steps.items
+        ≡ weave lexed.now.tokens (G.told grammar.now (kinds_without_trivia lexed.now.tokens))) }
+    ensures lawful { OnOk result (IsLawful (kinds_without_trivia lexed.now.tokens)
+        (G.told grammar.now (kinds_without_trivia lexed.now.tokens))) }
+    ensures refusals { IfErr result IsOutOfMemory }
 {
-    match kind {
-        SyntaxKind::WHITESPACE | SyntaxKind::COMMENT => None,
-        SyntaxKind::SEMICOLON => Some(SyntaxKind::EMPTY_STMT),
-        SyntaxKind::PSQL_TERMINATOR_TEXT | SyntaxKind::PSQL_COMMAND_TEXT => {
-            Some(SyntaxKind::PSQL_COMMAND)
-        }
-        SyntaxKind::SELECT_KW => Some(SyntaxKind::SELECT),
-        _ => Some(SyntaxKind::ERROR),
-    }
+    let input = lexed.to_input(alloc)?;
+    let output = EntryPoint::SourceFile.parse(alloc, &input, grammar)?;
+    let mut sink = TreeSink::new(alloc);
+    let _ = lexed.intersperse_trivia(&output, &mut sink)?;
+    Ok(sink.into_steps())
 }
 
-/// Appends the steps of leaves, the first of which begins at a place, and answers the place behind
-/// the last.
-fn push_leaves(steps: &mut Vec<StrStep>, start: u32, leaves: &[Leaf]) -> Result<u32, AllocError>
-    requires { start + leaves_len leaves.now < 2 ^ 32 }
-    ensures steps { OnOk result (steps.new.items
-        ≡ steps.old.items ++ token_steps start leaves.now) }
-    ensures end { IfOk result (λ end. end ≡ start + leaves_len leaves.now) }
+/// The parse of some tokens by a grammar. It cuts nothing; the only refusal is `OutOfMemory`.
+///
+/// Its steps are those of the grammar, with the trivia between them and without `Error` steps. Its
+/// errors are the faults of the tokens and the `Error` steps, token by token.
+pub fn parse_lexed<G: Grammar>(
+    alloc: Global,
+    lexed: &LexedStr<'_>,
+    grammar: &G,
+) -> Result<Parse, FrontError>
+    ensures tree { IfOk result (λ parse. parse
+        ≡ parse_by (G.told grammar.now) lexed.now.tokens) }
+    ensures lawful { IfOk result IsTree }
+    ensures leaves { IfOk result (λ parse. only_tokens parse.steps
+        ≡ token_steps 0 lexed.now.tokens) }
+    ensures len { IfOk result (λ parse. parse.len ≡ length lexed.now.text) }
+    ensures sound { IsTrue (are_sound lexed.now.tokens) }
+    ensures refusals { IfErr result IsOutOfMemory }
 {
-    let mut at = start;
-    for leaf in leaves {
-        let end = at + leaf.len;
-        steps.push(StrStep::Token {
-            kind: leaf.kind,
-            start: at,
-            end,
-        })?;
-        at = end;
-    }
-    Ok(at)
+    let len = lexed.text_start(lexed.len()) as u32;
+    let steps = woven_steps(alloc, lexed, grammar)?;
+    let errors = errors_of_steps(alloc, lexed, &steps)?;
+    Ok(Parse::new(alloc, steps, errors, len)?)
 }
 
-/// Appends the steps of a child of the root, which begins at a place, and answers the place behind
-/// it.
-fn push_child(steps: &mut Vec<StrStep>, start: u32, leaves: &[Leaf]) -> Result<u32, AllocError>
-    requires some { 0 < length leaves.now }
-    requires fits { start + leaves_len leaves.now < 2 ^ 32 }
-    ensures steps { OnOk result (steps.new.items
-        ≡ steps.old.items ++ child_steps start leaves.now) }
-    ensures end { IfOk result (λ end. end ≡ start + leaves_len leaves.now) }
+/// The parse of a text by a grammar, where plain strings are read as `strings` says.
+///
+/// `TooLong` comes exactly where the text has more than 4294967295 bytes, before any memory is
+/// taken, and `OutOfMemory` where there is no memory for the parse.
+pub fn parse_with_in<G: Grammar>(
+    alloc: Global,
+    text: &str,
+    strings: Strings,
+    grammar: &G,
+) -> Result<Parse, FrontError>
+    ensures tree { IfOk result (λ parse. parse
+        ≡ parse_by (G.told grammar.now) (tokens_of strings text.now)) }
+    ensures lawful { IfOk result IsTree }
+    ensures leaves { IfOk result (λ parse. only_tokens parse.steps
+        ≡ token_steps 0 (tokens_of strings text.now)) }
+    ensures len { IfOk result (λ parse. parse.len ≡ length text.now) }
+    ensures too_long { IsErrOf result FrontError.TooLong ↔ (4294967295 < length text.now) }
+    ensures refusals { IfErr result (MayRefuse text.now) }
 {
-    let Some(kind) = node_of(leaves[0].kind) else {
-        return push_leaves(steps, start, leaves);
-    };
-    steps.push(StrStep::Enter { kind })?;
-    let end = push_leaves(steps, start, leaves)?;
-    steps.push(StrStep::Exit)?;
-    Ok(end)
+    let lexed = LexedStr::new_in(alloc, text, strings)?;
+    parse_lexed(alloc, &lexed, grammar)
 }
 
-/// Appends the steps of all children of the root.
-fn push_children(
-    steps: &mut Vec<StrStep>,
+/// The parse of a text by a grammar, where a backslash in a plain string is a character like any
+/// other. It refuses as `parse_with_in` does.
+pub fn parse_with<G: Grammar>(alloc: Global, text: &str, grammar: &G) -> Result<Parse, FrontError>
+    ensures tree { IfOk result (λ parse. parse
+        ≡ parse_by (G.told grammar.now) (tokens_of Standard text.now)) }
+    ensures lawful { IfOk result IsTree }
+    ensures leaves { IfOk result (λ parse. only_tokens parse.steps
+        ≡ token_steps 0 (tokens_of Standard text.now)) }
+    ensures len { IfOk result (λ parse. parse.len ≡ length text.now) }
+    ensures too_long { IsErrOf result FrontError.TooLong ↔ (4294967295 < length text.now) }
+    ensures refusals { IfErr result (MayRefuse text.now) }
+{
+    parse_with_in(alloc, text, Strings::Standard, grammar)
+}
+
+// The parse of the tokens of a text into statements, by a division.
+fn parse_tokens(
+    alloc: Global,
+    lexed: &LexedStr<'_>,
     division: Division,
-    leaves: &[Leaf],
-) -> Result<(), AllocError>
-    requires { leaves_len leaves.now < 2 ^ 32 }
-    ensures { OnOk result (steps.new.items ≡ steps.old.items
-        ++ children_steps 0 (parts leaf_role division leaves.now)) }
+) -> Result<Parse, FrontError>
+    ensures tree { IfOk result (λ tree. tree ≡ parse_of_tokens division lexed.now.tokens) }
+    ensures lawful { IfOk result IsTree }
+    ensures leaves { IfOk result (λ tree. only_tokens tree.steps
+        ≡ token_steps 0 lexed.now.tokens) }
+    ensures len { IfOk result (λ tree. tree.len ≡ length lexed.now.text) }
+    ensures sound { IsTrue (are_sound lexed.now.tokens) }
+    ensures refusals { IfErr result IsOutOfMemory }
 {
-    let mut done = 0;
-    let mut at = 0;
-    while done < leaves.len() {
-        let count = first_child_len(division, &leaves[done..]);
-        at = push_child(steps, at, &leaves[done..done + count])?;
-        done += count;
+    match division {
+        Division::Flat => parse_lexed(alloc, lexed, &PlainGrammar),
+        Division::Grouped => parse_lexed(alloc, lexed, &GroupedGrammar),
     }
-    Ok(())
 }
 
-/// The steps of the tree of these leaves.
-fn steps_of(alloc: Global, division: Division, leaves: &[Leaf]) -> Result<Vec<StrStep>, AllocError>
-    requires { leaves_len leaves.now < 2 ^ 32 }
-    ensures { IfOk result (λ steps. steps.items ≡ tree_steps division leaves.now) }
-{
-    let mut steps = Vec::new(alloc);
-    steps.push(StrStep::Enter {
-        kind: SyntaxKind::SOURCE_FILE,
-    })?;
-    push_children(&mut steps, division, leaves)?;
-    steps.push(StrStep::Exit)?;
-    Ok(steps)
-}
-
-/// The tree of a text, by a reading of its plain strings and a division into statements.
-fn parse_divided(
+/// The parse of a text into statements, where plain strings are read as `strings` says, and a
+/// semicolon between parentheses ends a statement as `division` says.
+///
+/// Each statement, and each psql command outside one, is a node under the root, and each trivia
+/// token (white space, a leading byte order mark, a comment) outside them is a leaf there. Its
+/// errors are the faults of the tokens, and one for each statement that begins with no known words.
+///
+/// Every UTF-8 text below 4 GiB parses: `TooLong` comes exactly where the text has more than
+/// 4294967295 bytes, before any memory is taken, and `OutOfMemory` where there is no memory.
+pub fn parse_divided(
     alloc: Global,
     text: &str,
     strings: Strings,
     division: Division,
 ) -> Result<Parse, FrontError>
     ensures tree { IfOk result (λ tree. tree ≡ parse_of strings division text.now) }
+    // Each child of the root is the parse of its own tokens.
+    ensures joined { IfOk result (λ tree. tree ≡ join (children_of strings division text.now)) }
     ensures lawful { IfOk result IsTree }
+    ensures leaves { IfOk result (λ tree. leaves tree.steps
+        ≡ ranges_through 0 (token_ends 0 (tokens strings (chars text.now)))) }
+    ensures children { IfOk result (λ tree. root_children tree.steps
+        ≡ map root_child (children division (roles_of (tokens strings (chars text.now))))) }
+    ensures len { IfOk result (λ tree. tree.len ≡ length text.now) }
     ensures too_long { IsErrOf result FrontError.TooLong ↔ (4294967295 < length text.now) }
+    ensures refusals { IfErr result (MayRefuse text.now) }
 {
-    if text.len() > LIMIT {
-        return Err(FrontError::TooLong);
-    }
-    let leaves = leaves_of(alloc, text, strings)?;
-    let steps = steps_of(alloc, division, &leaves)?;
-    Ok(Parse::new(alloc, steps, Vec::new(alloc), text.len() as u32)?)
+    leaves_keep_roles();
+    children_join();
+    parses_are_trees();
+    let lexed = LexedStr::new_in(alloc, text, strings)?;
+    parse_tokens(alloc, &lexed, division)
 }
 
-/// The tree of a text's statements.
-///
-/// Each statement, and each psql command outside one, is a node under the root, and each trivia
-/// token (white space, a byte order mark at the beginning, a comment) outside them is a leaf there.
-/// A statement ends with a semicolon or with a psql command that ends a query, else with the last
-/// token of the text that is no trivia. One that begins with the word `select` is a `SELECT` node,
-/// every other an `ERROR` node; a semicolon by itself is an `EMPTY_STMT`, a psql command by itself
-/// a `PSQL_COMMAND`.
-///
-/// `TooLong` comes exactly where the text has more than 4294967295 bytes, before any memory is
-/// taken, and `OutOfMemory` where there is no memory for the tree.
+/// The parse of a text into statements, where each semicolon ends one, and plain strings are read
+/// as `strings` says. It refuses as `parse_divided` does.
+pub fn parse_source_in(alloc: Global, text: &str, strings: Strings) -> Result<Parse, FrontError>
+    ensures tree { IfOk result (λ tree. tree ≡ parse_of strings Flat text.now) }
+    ensures joined { IfOk result (λ tree. tree ≡ join (children_of strings Flat text.now)) }
+    ensures lawful { IfOk result IsTree }
+    ensures leaves { IfOk result (λ tree. leaves tree.steps
+        ≡ ranges_through 0 (token_ends 0 (tokens strings (chars text.now)))) }
+    ensures children { IfOk result (λ tree. root_children tree.steps
+        ≡ map root_child (children Flat (roles_of (tokens strings (chars text.now))))) }
+    ensures len { IfOk result (λ tree. tree.len ≡ length text.now) }
+    ensures too_long { IsErrOf result FrontError.TooLong ↔ (4294967295 < length text.now) }
+    ensures refusals { IfErr result (MayRefuse text.now) }
+{
+    parse_divided(alloc, text, strings, Division::Flat)
+}
+
+/// The parse of a text into statements, where each semicolon ends one, and a backslash in a plain
+/// string is a character like any other. It refuses as `parse_divided` does.
 pub fn parse_source(alloc: Global, text: &str) -> Result<Parse, FrontError>
     ensures tree { IfOk result (λ tree. tree ≡ parse_of Standard Flat text.now) }
+    ensures joined { IfOk result (λ tree. tree ≡ join (children_of Standard Flat text.now)) }
     ensures lawful { IfOk result IsTree }
     // The leaves are the tokens of the text, and the root's children those of the division of the
     // tokens' roles.
@@ -150,7 +188,9 @@ pub fn parse_source(alloc: Global, text: &str) -> Result<Parse, FrontError>
         ≡ ranges_through 0 (token_ends 0 (tokens Standard (chars text.now)))) }
     ensures children { IfOk result (λ tree. root_children tree.steps
         ≡ map root_child (children Flat (roles_of (tokens Standard (chars text.now))))) }
+    ensures len { IfOk result (λ tree. tree.len ≡ length text.now) }
     ensures too_long { IsErrOf result FrontError.TooLong ↔ (4294967295 < length text.now) }
+    ensures refusals { IfErr result (MayRefuse text.now) }
 {
-    parse_divided(alloc, text, Strings::Standard, Division::Flat)
+    parse_source_in(alloc, text, Strings::Standard)
 }

@@ -1,70 +1,191 @@
-//! Parses of whole texts.
-use crate::parse_source;
-use squawk_events::StrStep::{Enter, Exit, Token};
+//! Parses of whole texts: what no clause says.
+use crate::{ChildSpan, Parse, parse_divided, parse_source};
+use squawk_events::{ParseError, StrStep};
 use squawk_kinds::SyntaxKind;
+use squawk_lexer::Strings;
+use squawk_statements::Division;
+use std::alloc::{AllocError, Global};
 use std::test::Fail;
 
+// The steps of a parse, one a line: `+` and the kind of a node with its range, `-` at its end, and
+// the kind of a leaf with its range and its text.
+fn render(alloc: Global, parse: &Parse, text: &str) -> Result<String, AllocError> {
+    let mut lines = String::new(alloc);
+    for i in 0..parse.steps().len() {
+        let (start, end) = parse.range(i);
+        match parse.steps()[i] {
+            StrStep::Enter { kind } => {
+                lines.push_str(format!(in alloc; "+ {kind} {start}..{end}\n")?.as_str())?;
+            }
+            StrStep::Token { kind, .. } => {
+                let leaf = text.get(start as usize..end as usize).unwrap_or("?");
+                lines.push_str(format!(in alloc; "{kind} {start}..{end} {leaf}\n")?.as_str())?;
+            }
+            _ => lines.push_str("-\n")?,
+        }
+    }
+    for error in parse.errors() {
+        let number = error.number;
+        let (start, end) = (error.start, error.end);
+        lines.push_str(format!(in alloc; "E {start}..{end} {number}\n")?.as_str())?;
+    }
+    Ok(lines)
+}
+
+struct Row<'a> {
+    name: &'a str,
+    text: &'a str,
+    lines: &'a str,
+}
+
+const ROWS: &[Row<'static>] = &[
+    Row {
+        name: "commands_in_statement",
+        text: "-- a\nSELECT \\dt \\g\n;",
+        lines: "+ source file 0..20\n\
+            comment 0..4 -- a\n\
+            whitespace 4..5 \n\n\
+            + select 5..18\n\
+            `select` 5..11 SELECT\n\
+            whitespace 11..12  \n\
+            psql meta-command 12..16 \\dt \n\
+            psql terminator 16..18 \\g\n\
+            -\n\
+            whitespace 18..19 \n\n\
+            + empty stmt 19..20\n\
+            `;` 19..20 ;\n\
+            -\n\
+            -\n",
+    },
+    Row {
+        name: "semicolon_in_group",
+        text: "foo (a;b",
+        lines: "+ source file 0..8\n\
+            + error 0..7\n\
+            identifier 0..3 foo\n\
+            whitespace 3..4  \n\
+            + paren expr 4..6\n\
+            `(` 4..5 (\n\
+            identifier 5..6 a\n\
+            -\n\
+            `;` 6..7 ;\n\
+            -\n\
+            + error 7..8\n\
+            identifier 7..8 b\n\
+            -\n\
+            -\n\
+            E 0..3 10\n\
+            E 7..8 10\n",
+    },
+    Row {
+        name: "paren_select",
+        text: "(a)) ;",
+        lines: "+ source file 0..6\n\
+            + paren select 0..6\n\
+            + paren expr 0..3\n\
+            `(` 0..1 (\n\
+            identifier 1..2 a\n\
+            `)` 2..3 )\n\
+            -\n\
+            `)` 3..4 )\n\
+            whitespace 4..5  \n\
+            `;` 5..6 ;\n\
+            -\n\
+            -\n",
+    },
+];
+
 #[test]
-fn commands_in_statement(rt: HostRuntime) -> Result<(), Fail> {
-    let parse = parse_source(rt.alloc(), "-- a\nSELECT \\dt \\g\n;")
-        .ok()
-        .ok_or("no memory")?;
-    let steps = [
-        Enter {
-            kind: SyntaxKind::SOURCE_FILE,
-        },
-        Token {
-            kind: SyntaxKind::COMMENT,
-            start: 0,
-            end: 4,
-        },
-        Token {
-            kind: SyntaxKind::WHITESPACE,
-            start: 4,
-            end: 5,
-        },
-        Enter {
-            kind: SyntaxKind::SELECT,
-        },
-        Token {
-            kind: SyntaxKind::SELECT_KW,
-            start: 5,
-            end: 11,
-        },
-        Token {
-            kind: SyntaxKind::WHITESPACE,
-            start: 11,
-            end: 12,
-        },
-        Token {
-            kind: SyntaxKind::PSQL_COMMAND_TEXT,
-            start: 12,
-            end: 16,
-        },
-        Token {
-            kind: SyntaxKind::PSQL_TERMINATOR_TEXT,
-            start: 16,
-            end: 18,
-        },
-        Exit,
-        Token {
-            kind: SyntaxKind::WHITESPACE,
-            start: 18,
-            end: 19,
-        },
-        Enter {
-            kind: SyntaxKind::EMPTY_STMT,
-        },
-        Token {
-            kind: SyntaxKind::SEMICOLON,
-            start: 19,
-            end: 20,
-        },
-        Exit,
-        Exit,
-    ];
-    assert_eq!(rt; parse.steps(), steps.as_slice());
-    assert_eq!(rt; parse.len(), 20);
+fn texts_have_trees(rt: HostRuntime) -> Result<(), Fail> {
+    for row in ROWS {
+        let parse = parse_source(rt.alloc(), row.text).ok().ok_or(row.name)?;
+        let lines = render(rt.alloc(), &parse, row.text)?;
+        assert_eq!(rt; lines.as_str(), row.lines);
+    }
+    Ok(())
+}
+
+const MIGRATION: &str = "BEGIN;\n\
+    create table if not exists t \
+    (id bigint primary key, \"Name\" text default E'a\\'b');\n\
+    create unique index concurrently i on t (id);\n\
+    create or replace function f() returns int language sql \
+    as $body$ select 1; select 2; $body$;\n\
+    COMMIT;\n";
+
+#[test]
+fn migration(rt: HostRuntime) -> Result<(), Fail> {
+    let parse = parse_source(rt.alloc(), MIGRATION).ok().ok_or("no memory")?;
+    let mut lines = String::new(rt.alloc());
+    for child in parse.children() {
+        match child.node {
+            Some(kind) => lines.push_str(format!(in rt.alloc(); "{kind}")?.as_str())?,
+            None => lines.push_str("leaf")?,
+        }
+        let (start, end) = (child.start, child.end);
+        lines.push_str(format!(in rt.alloc(); " {start}..{end}\n")?.as_str())?;
+    }
+    assert_eq!(rt;
+        lines.as_str(),
+        "begin 0..6\n\
+        leaf 6..7\n\
+        create table 7..89\n\
+        leaf 89..90\n\
+        create index 90..135\n\
+        leaf 135..136\n\
+        create function 136..229\n\
+        leaf 229..230\n\
+        commit transaction 230..237\n\
+        leaf 237..238\n"
+    );
     assert_eq!(rt; parse.errors().len(), 0);
+    Ok(())
+}
+
+#[test]
+fn children_have_steps(rt: HostRuntime) -> Result<(), Fail> {
+    let parse = parse_source(rt.alloc(), "; a b").ok().ok_or("no memory")?;
+    let children = [
+        ChildSpan {
+            step: 1,
+            tokens: 1,
+            start: 0,
+            end: 1,
+            node: Some(SyntaxKind::EMPTY_STMT),
+        },
+        ChildSpan {
+            step: 4,
+            tokens: 1,
+            start: 1,
+            end: 2,
+            node: None,
+        },
+        ChildSpan {
+            step: 5,
+            tokens: 3,
+            start: 2,
+            end: 5,
+            node: Some(SyntaxKind::ERROR),
+        },
+    ];
+    assert_eq!(rt; parse.children(), children.as_slice());
+    let unknown = ParseError {
+        start: 2,
+        end: 3,
+        number: 10,
+    };
+    assert_eq!(rt; parse.errors(), [unknown].as_slice());
+    Ok(())
+}
+
+#[test]
+fn divisions(rt: HostRuntime) -> Result<(), Fail> {
+    let text = "foo (a;b); c";
+    for (division, children) in [(Division::Flat, 4), (Division::Grouped, 3)] {
+        let parse = parse_divided(rt.alloc(), text, Strings::Standard, division)
+            .ok()
+            .ok_or("no memory")?;
+        assert_eq!(rt; parse.children().len(), children);
+    }
     Ok(())
 }

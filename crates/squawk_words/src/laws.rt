@@ -1,8 +1,10 @@
 //! Laws of the words and sets, for proofs: their contracts are what counts.
-ghost use Rattle.std.specs.Prelude.{◌≡◌, ◌≢◌, ◌↔◌, ℕ, AllPairs, Any, Contains};
+ghost use Rattle.std.specs.Prelude.{◌≡◌, ◌≢◌, ◌↔◌, ℕ, List, AllPairs, Any, Contains, IfSome};
 ghost use Rattle.std.specs.declared.cmp.Ordering.TheVariants.{Less};
 ghost use Rattle.squawk_words.specs.Categories.{categories, kind_sets};
 ghost use Rattle.squawk_words.specs.KeywordSets.{all_keywords};
+ghost use Rattle.squawk_kinds.specs.Role.{role, Other};
+ghost use Rattle.squawk_words.specs.KindOf.{keyword_of};
 ghost use Rattle.squawk_words.specs.Words.{keywords, contextual_keywords, word_cmp};
 
 use crate::{
@@ -56,3 +58,8 @@ pub fn sets_have_members() -> [KindSet; 13]
         PLPGSQL_RESERVED_CONTEXTUAL_KEYWORDS,
     ]
 }
+
+/// No keyword is trivia, ends a statement, is a psql command or a parenthesis.
+pub fn keywords_are_plain()
+    ensures { (text : List ℕ) → IfSome (keyword_of text) (λ kind. role kind ≡ Other) }
+{}

@@ -2,10 +2,10 @@ use Rattle.std.proofs.Common.{ap, ◌∙◌, map, chars}
 use Rattle.squawk_lexer.specs.declared.token.Strings.TheVariants.{Standard}
 use Rattle.squawk_show.specs.Run.{tree_of, LeavesAreTokens, ChildrenAreStatements}
 use Rattle.squawk_lexer.specs.Cut.{tokens, token_ends}
-use Rattle.squawk_tree.specs.Children.{children, roles_of, root_child}
-use Rattle.squawk_tree.specs.Steps.{ranges_through}
-use Rattle.squawk_tree.specs.ParseOf.{parse_of}
-use Rattle.squawk_tree.specs.declared.division.Division.TheVariants.{Flat}
+use Rattle.squawk_statements.specs.Children.{children}
+use Rattle.squawk_tree.specs.Steps.{ranges_through, root_child}
+use Rattle.squawk_tree.specs.ParseOf.{parse_of, roles_of}
+use Rattle.squawk_statements.specs.declared.division.Division.TheVariants.{Flat}
 use Rattle.squawk_show.proofs.program.parse_bytes.Goals as goal
 
 pub

@@ -1,22 +1,15 @@
-use Rattle.std.proofs.Common.{arith, ap, ◌∙◌}
-use Rattle.squawk_tree.specs.ParseOf.{leaves_len, tree_steps}
-use Rattle.squawk_tree.proofs.TreeSteps.{leaves_len-tiled, parse_of-lawful}
+use Rattle.std.proofs.Common.{ap}
+use Rattle.squawk_lexed.specs.LexedText.{LexedText}
+use Rattle.squawk_tree.proofs.TextLaws.{leaves_of_text, children_of_text}
 use Rattle.squawk_tree.proofs.source.parse_divided.Goals as goal
 
-pub steps_of-requires : goal.steps_of-requires
-steps_of-requires c =
-    let leaves_are = c.deref.ensures.value ∙ c.in_ok-leaves.ensures.leaves in
-    omega (
-      arith,
-      ap leaves_len leaves_are,
-      leaves_len-tiled c.args.text.now 0 _
-          c.leaves_of.ensures.tiles,
-      c.if-text-gt-LIMIT.false,
-    )
+pub returns-clause-leaves : goal.returns-clause-leaves
+returns-clause-leaves c =
+    leaves_of_text _ c.args.strings c.args.text.now _
+    (ap (λ (l : LexedText). l.tokens) c.in_ok-lexed.ensures.lexed) c.parse_tokens.ensures.leaves
 
-pub new-requires-2 : goal.new-requires-2
-new-requires-2 c =
-    let leaves_are = c.deref.ensures.value ∙ c.in_ok-leaves.ensures.leaves in
-    let steps_are = c.in_ok-steps.ensures ∙ ap (tree_steps c.args.division) leaves_are in
-    rw (steps_are, c.new.ensures.items) (parse_of-lawful c.args.strings c.args.division
-    c.args.text.now c.leaves_of.ensures.tiles)
+pub returns-clause-children : goal.returns-clause-children
+returns-clause-children c =
+    children_of_text c.leaves_keep_roles.ensures _ c.args.strings c.args.division c.args.text.now _
+    (ap (λ (l : LexedText). l.tokens) c.in_ok-lexed.ensures.lexed)
+    c.parses_are_trees.ensures.children c.parse_tokens.ensures.tree

@@ -1,5 +1,0 @@
-use Rattle.squawk_join.proofs.Alone.{parse-alone}
-use Rattle.squawk_join.proofs.children_stand_alone.Goals as goal
-
-pub returns : goal.returns
-returns c = λ division token tokens sound. parse-alone division token tokens sound

@@ -1,6 +1,0 @@
-pub mod Tree
-pub mod Join
-pub mod Errors
-pub mod ParseOf
-pub mod Steps
-pub mod IsTree

@@ -1,0 +1,175 @@
+-- The errors, token by token, are those read off the steps.
+use Rattle.std.proofs.Common.{◌≡◌, ℕ, zero, suc, ◌+◌, ◌==◌, ◌<◌, ◌≤◌, Bool, true, false, ◌&&◌, cond, List, [], ◌∷◌, ◌++◌, drop, map, append_assoc, refl, ap, sym, ◌∙◌, arith, nat_lt}
+use Rattle.std.proofs.lemmas.Bool.Decides.{nat_tests}
+use Rattle.squawk_events.specs.Kinds.{is_trivia_kind}
+use Rattle.squawk_events.specs.Lawful.{token_kinds, closes, is_balanced}
+use Rattle.squawk_events.specs.declared.steps.Step.{Step}
+use Rattle.squawk_events.specs.declared.steps.Step.TheVariants.{Enter, Token, Exit, Error}
+use Rattle.squawk_events.specs.declared.steps.StrStep.{StrStep}
+use Rattle.squawk_events.specs.declared.steps.StrStep.TheVariants as out
+use Rattle.squawk_lexed.specs.Weave.{kinds_without_trivia, leading_trivia, leading_trivia_end, after_leading_trivia, next_len, is_empty, weave_from, weave}
+use Rattle.squawk_lexed.specs.LexedText.{are_sound}
+use Rattle.squawk_lexed.specs.Faults.{faults_within}
+use Rattle.squawk_lexed.specs.LexedToken.{LexedToken}
+use Rattle.squawk_tree.specs.Errors.{error, numbers_at, errors_by_token, errors}
+use Rattle.squawk_tree.specs.Walk.{errors_by_step}
+use Rattle.squawk_lexed.specs.Stored.{errors_at}
+use Rattle.squawk_tree.proofs.LeavesLemmas.{next_of, none_behind, kept_behind, never_closed}
+
+-- whether steps give out all of the tokens from a place on, each Error at the start of the next
+abbrev pub runs : ℕ → List LexedToken → List StrStep → Bool
+runs at ts [] = is_empty ts
+runs at ts (out.Enter kind ∷ xs) = runs at ts xs
+runs at ts (out.Exit ∷ xs) = runs at ts xs
+runs at ts (out.Error number place ∷ xs) = place == at && runs at ts xs
+runs at [] (out.Token kind start end ∷ xs) = false
+runs at (t ∷ ts) (out.Token kind start end ∷ xs) = runs (at + t.len) ts xs
+
+runs_front : (at : ℕ) (ts : List LexedToken) (ys : List StrStep)
+    → runs at ts (leading_trivia at ts ++ ys)
+    ≡ runs (leading_trivia_end at ts) (after_leading_trivia ts) ys
+runs_front at [] ys = refl
+runs_front at (t ∷ ts) ys = by (is_trivia_kind t.kind) (runs_front (at + t.len) ts ys)
+  where
+    by : (b : Bool) → runs (at + t.len) ts (leading_trivia (at + t.len) ts ++ ys)
+        ≡ runs (leading_trivia_end (at + t.len) ts) (after_leading_trivia ts) ys
+        → runs at (t ∷ ts) (cond b (out.Token t.kind at (at + t.len)
+        ∷ leading_trivia (at + t.len) ts) [] ++ ys)
+        ≡ runs (cond b (leading_trivia_end (at + t.len) ts) at)
+        (cond b (after_leading_trivia ts) (t ∷ ts)) ys
+    by true rest = rest
+    by false rest = refl
+
+runs_front_step : (at : ℕ) (ts : List LexedToken) (y : StrStep) (ys : List StrStep)
+    → runs at ts ((leading_trivia at ts ++ y ∷ []) ++ ys)
+    ≡ runs (leading_trivia_end at ts) (after_leading_trivia ts) (y ∷ ys)
+runs_front_step at ts y ys = ap (runs at ts) (append_assoc (leading_trivia at ts) (y ∷ []) ys)
+    ∙ runs_front at ts (y ∷ ys)
+
+pub same_place : (at : ℕ) (b : Bool) → (at == at && b) ≡ b
+same_place at b = grind (arith, nat_tests)
+
+runs_woven : (d at : ℕ) (ts : List LexedToken) (xs : List Step) → closes (suc d) xs ≡ true
+    → kinds_without_trivia ts ≡ token_kinds xs → runs at ts (weave_from at ts xs) ≡ true
+runs_woven d at ts [] h e = never_closed d h
+runs_woven d at ts (Enter kind ∷ xs) h e =
+    runs_front_step at ts (out.Enter kind) (weave_from (leading_trivia_end at ts)
+    (after_leading_trivia ts) xs)
+    ∙ runs_woven (suc d) (leading_trivia_end at ts) (after_leading_trivia ts) xs h
+    (kept_behind ts ∙ e)
+runs_woven d at ts (Token kind ∷ xs) h e =
+    let next = next_of ts kind (token_kinds xs) e in
+    let kinds : kinds_without_trivia (drop 1 (after_leading_trivia ts)) ≡ token_kinds xs =
+    rw next.is next.kinds_are in
+    let end : ℕ = leading_trivia_end at ts + next_len (after_leading_trivia ts) in
+    let rest : List StrStep =
+    weave_from (leading_trivia_end at ts + next_len (after_leading_trivia ts))
+    (drop 1 (after_leading_trivia ts)) xs in
+    let more = runs_woven d (leading_trivia_end at ts + next_len (after_leading_trivia ts))
+    (drop 1 (after_leading_trivia ts)) xs h kinds in
+    let here : runs (leading_trivia_end at ts) (after_leading_trivia ts)
+    (out.Token kind (leading_trivia_end at ts) end ∷ rest)
+    ≡ runs end (drop 1 (after_leading_trivia ts)) rest =
+    first_token (leading_trivia_end at ts) (after_leading_trivia ts) next.token next.rest kind
+    (leading_trivia_end at ts) end rest next.is in
+    runs_front_step at ts (out.Token kind (leading_trivia_end at ts) end) rest ∙ here ∙ more
+  where
+    first_token : (at : ℕ) (us : List LexedToken) (t : LexedToken) (vs : List LexedToken)
+        (kind start end : ℕ) (ys : List StrStep) → us ≡ t ∷ vs
+        → runs at us (out.Token kind start end ∷ ys) ≡ runs (at + next_len us) (drop 1 us) ys
+    first_token at [] t vs kind start end ys e = absurd (cc)
+    first_token at (u ∷ us) t vs kind start end ys e = refl
+runs_woven d at ts (Exit ∷ []) h e =
+    let none = none_behind ts e in
+    runs_front_step at ts out.Exit []
+    ∙ ap (λ u. runs (leading_trivia_end at ts) u (out.Exit ∷ [])) none
+runs_woven zero at ts (Exit ∷ x ∷ xs) h e = absurd (cc)
+runs_woven (suc d) at ts (Exit ∷ x ∷ xs) h e = runs_woven d at ts (x ∷ xs) h e
+runs_woven d at ts (Error number ∷ xs) h e = same_place at (runs at ts (weave_from at ts xs))
+    ∙ runs_woven d at ts xs h e
+
+pub split : (a b : Bool) → (a && b) ≡ true → (a ≡ true) × (b ≡ true)
+split true b h = (refl, h)
+split false b h = absurd (cc)
+
+is_place : (p at : ℕ) → (p == at) ≡ true → p ≡ at
+is_place p at h = grind (arith, nat_tests)
+
+not_place : (p q : ℕ) → p < q → (p == q) ≡ false
+not_place p q h = grind (arith, nat_tests)
+
+not_place_back : (p q : ℕ) → q < p → (p == q) ≡ false
+not_place_back p q h = grind (arith, nat_tests)
+
+some_len : (n : ℕ) → nat_lt 0 n ≡ true → 0 < n
+some_len n h = grind (arith, nat_tests)
+
+-- no Error stands before the place
+none_before : (q at : ℕ) (ts : List LexedToken) (xs : List StrStep) → q < at → runs at ts xs ≡ true
+    → numbers_at q xs ≡ []
+none_before q at ts [] h r = refl
+none_before q at ts (out.Enter kind ∷ xs) h r = none_before q at ts xs h r
+none_before q at ts (out.Exit ∷ xs) h r = none_before q at ts xs h r
+none_before q at ts (out.Error number place ∷ xs) h r =
+    let s = split (place == at) (runs at ts xs) r in
+    let is = is_place place at s.0 in
+    rw (not_place_back place q (omega arith)) (none_before q at ts xs h s.1)
+none_before q at [] (out.Token kind start end ∷ xs) h r = absurd (cc)
+none_before q at (t ∷ ts) (out.Token kind start end ∷ xs) h r =
+    none_before q (at + t.len) ts xs (omega arith) r
+
+-- the errors from a place on are those of any list with the same numbers from there on
+same_errors : (p : ℕ) (ts : List LexedToken) (xs ys : List StrStep)
+    → ((q : ℕ) → p ≤ q → numbers_at q xs ≡ numbers_at q ys)
+    → errors_by_token p ts xs ≡ errors_by_token p ts ys
+same_errors p [] xs ys h = ap (map (error p p)) (h p (omega arith))
+same_errors p (t ∷ ts) xs ys h =
+    ap (λ ns. map (error p (p + t.len)) ns ++ errors_at p t.faults
+    ++ errors_by_token (p + t.len) ts xs) (h p (omega arith))
+    ∙ ap (λ es. map (error p (p + t.len)) (numbers_at p ys) ++ errors_at p t.faults
+    ++ es) (same_errors (p + t.len) ts xs ys (λ q le. h q (omega arith)))
+
+at_place : (at : ℕ) → (at == at) ≡ true
+at_place at = grind (arith, nat_tests)
+
+pub by_token_is_by_step : (at : ℕ) (ts : List LexedToken) (xs : List StrStep) → runs at ts xs ≡ true
+    → are_sound ts ≡ true → errors_by_token at ts xs ≡ errors_by_step at ts xs
+by_token_is_by_step at [] [] r s = refl
+by_token_is_by_step at (t ∷ ts) [] r s = absurd (cc)
+by_token_is_by_step at ts (out.Enter kind ∷ xs) r s =
+    same_errors at ts (out.Enter kind ∷ xs) xs (λ q le. refl) ∙ by_token_is_by_step at ts xs r s
+by_token_is_by_step at ts (out.Exit ∷ xs) r s = same_errors at ts (out.Exit ∷ xs) xs (λ q le. refl)
+    ∙ by_token_is_by_step at ts xs r s
+by_token_is_by_step at [] (out.Error number place ∷ xs) r s =
+    let p = split (place == at) (runs at [] xs) r in
+    let end : at ≡ at + 0 = omega arith in
+    rw p.0 (ap (λ m. error at m number ∷ map (error at at) (numbers_at at xs)) end
+    ∙ ap (λ es. error at (at + 0) number ∷ es) (by_token_is_by_step at [] xs p.1 s))
+by_token_is_by_step at (t ∷ ts) (out.Error number place ∷ xs) r s =
+    let p = split (place == at) (runs at (t ∷ ts) xs) r in
+    let is = is_place place at p.0 in
+    let some = some_len t.len (split (nat_lt 0 t.len) (faults_within t.len t.faults
+    && are_sound ts) s).0 in
+    let rest = same_errors (at + t.len) ts (out.Error number place ∷ xs) xs (λ q le. let e =
+    not_place place q (omega arith) in rw e refl) in
+    rw (p.0, rest) (ap (λ es. error at (at + t.len) number
+    ∷ es) (by_token_is_by_step at (t ∷ ts) xs p.1 s))
+by_token_is_by_step at [] (out.Token kind start end ∷ xs) r s = absurd (cc)
+by_token_is_by_step at (t ∷ ts) (out.Token kind start end ∷ xs) r s =
+    let s1 = split (nat_lt 0 t.len) (faults_within t.len t.faults && are_sound ts) s in
+    let s2 = split (faults_within t.len t.faults) (are_sound ts) s1.1 in
+    let some = some_len t.len s1.0 in
+    let none = none_before at (at + t.len) ts xs (omega arith) r in
+    let rest = same_errors (at + t.len) ts (out.Token kind start end ∷ xs) xs (λ q le. refl) in
+    rw (none, rest) (ap (λ es. errors_at at t.faults
+    ++ es) (by_token_is_by_step (at + t.len) ts xs r s2.1))
+
+pub errors_whole : (ts : List LexedToken) (xs : List Step) → is_balanced xs ≡ true
+    → token_kinds xs ≡ kinds_without_trivia ts → are_sound ts ≡ true
+    → errors ts (weave ts xs) ≡ errors_by_step 0 ts (weave ts xs)
+errors_whole ts [] h e s = absurd (cc)
+errors_whole ts (Enter kind ∷ xs) h e s =
+    by_token_is_by_step 0 ts (weave ts (Enter kind ∷ xs)) (runs_woven 0 0 ts xs h (sym e)) s
+errors_whole ts (Token kind ∷ xs) h e s = absurd (cc)
+errors_whole ts (Exit ∷ xs) h e s = absurd (cc)
+errors_whole ts (Error number ∷ xs) h e s = absurd (cc)

@@ -1,0 +1,470 @@
+-- What is given out for a text is what is given out for each child of its own tokens.
+use Rattle.std.proofs.Common.{◌≡◌, ℕ, zero, suc, ◌+◌, ◌==◌, ◌≤◌, Bool, true, false, not, ◌&&◌, cond, List, [], ◌∷◌, ◌++◌, length, take, drop, map, append_assoc, refl, ap, sym, ◌∙◌, arith}
+use Rattle.std.proofs.lemmas.List.{take-append-drop, length-drop, map-append}
+use Rattle.squawk_events.specs.Kinds.{is_trivia_kind}
+use Rattle.squawk_kinds.specs.Role.{role}
+use Rattle.squawk_statements.specs.Kinds.{role_trivia}
+use Rattle.squawk_kinds.specs.Role.{Role, Trivia, Semicolon, Terminator, Command, Open, Close, Other}
+use Rattle.squawk_events.specs.declared.steps.ParseError.{ParseError}
+use Rattle.squawk_events.specs.declared.steps.Step.{Step}
+use Rattle.squawk_events.specs.declared.steps.Step.TheVariants.{Enter, Token, Exit, Error}
+use Rattle.squawk_events.specs.declared.steps.StrStep.{StrStep}
+use Rattle.squawk_events.specs.declared.steps.StrStep.TheVariants as out
+use Rattle.squawk_kinds.specs.declared.numbers.TheConstants.Number.{SOURCE_FILE, ERROR}
+use Rattle.squawk_lexed.specs.Weave.{kinds_without_trivia, leading_trivia, leading_trivia_end, after_leading_trivia, next_len, weave_step, offset_after_step, tokens_after_step, is_empty, weave_from, weave}
+use Rattle.squawk_lexed.specs.LexedText.{total_len}
+use Rattle.squawk_lexed.specs.LexedToken.{LexedToken}
+use Rattle.squawk_statements.specs.Children.{ends_statement, parts}
+use Rattle.squawk_tree.proofs.FirstPart.{more, more_of, first_part}
+use Rattle.squawk_statements.specs.Plain.{node_of}
+use Rattle.squawk_statements.specs.Plain.{body_steps, exits, kind_steps, groups_open_after, enters_before, exits_after, unknown_statement_error, child_steps, children_steps, plain}
+use Rattle.squawk_statements.specs.declared.division.Division.{Division}
+use Rattle.squawk_statements.specs.declared.division.Division.TheVariants.{Flat, Grouped}
+use Rattle.squawk_tree.specs.Errors.{errors}
+use Rattle.squawk_tree.specs.Join.{woven_child, shifted_step, shifted_error, child_of, children_len}
+use Rattle.squawk_tree.specs.ParseOf.{lexed_role}
+use Rattle.squawk_tree.proofs.CutLemmas.{trivia_form, ends_solid, first_cut}
+
+-- ---- children one after another, each of its own tokens
+
+-- their steps, the first of which begins at an offset
+abbrev pub joined_from : Division → ℕ → List (List LexedToken) → List StrStep
+joined_from d at [] = []
+joined_from d at (part ∷ rest) =
+    map (shifted_step at) (woven_child d 0 part) ++ joined_from d (at + total_len part) rest
+
+-- under one root
+abbrev pub joined : Division → List (List LexedToken) → List StrStep
+joined d children = out.Enter SOURCE_FILE ∷ joined_from d 0 children ++ out.Exit ∷ []
+
+-- their errors
+abbrev pub joined_errors : Division → ℕ → List (List LexedToken) → List ParseError
+joined_errors d at [] = []
+joined_errors d at (part ∷ rest) =
+    map (shifted_error at) (errors part (woven_child d 0 part))
+    ++ joined_errors d (at + total_len part) rest
+
+total_append : (xs ys : List LexedToken) → total_len (xs ++ ys) ≡ total_len xs + total_len ys
+total_append [] ys = omega arith
+total_append (x ∷ xs) ys = let rest = total_append xs ys in omega arith
+
+-- together they are as long as the whole
+pub parts_len : (n : ℕ) (d : Division) (ts : List LexedToken) → length ts ≤ n
+    → total_len ts ≡ children_len (map (child_of d) (parts lexed_role d ts))
+parts_len n d [] h = refl
+parts_len zero d (t ∷ ts) h = absurd (omega arith)
+parts_len (suc n) d (t ∷ ts) h =
+    let m = more_of lexed_role d t ts in
+    let left = length-drop m ts in
+    let rest = parts_len n d (drop m ts) (omega arith) in
+    let split = total_append (take m ts) (drop m ts) in
+    let whole : total_len (take m ts ++ drop m ts) ≡ total_len ts =
+    ap total_len (take-append-drop m ts) in
+    let sum : t.len + total_len ts
+    ≡ t.len + total_len (take m ts)
+    + children_len (map (child_of d) (parts lexed_role d (drop m ts))) = omega arith in
+    sum ∙ ap (λ ps. children_len (map (child_of d) ps)) (sym (first_part lexed_role d t ts))
+
+-- ---- steps that use up their tokens
+
+abbrev pub fits : List Step → List LexedToken → Bool
+fits [] ts = is_empty ts
+fits (Enter kind ∷ xs) ts = not (is_empty (after_leading_trivia ts))
+    && fits xs (after_leading_trivia ts)
+fits (Token kind ∷ xs) ts = not (is_empty (after_leading_trivia ts))
+    && fits xs (drop 1 (after_leading_trivia ts))
+fits (Exit ∷ xs) ts = fits xs ts
+fits (Error number ∷ xs) ts = not (is_empty ts) && fits xs ts
+
+pub both : (a b : Bool) → (not a && b) ≡ true → (a ≡ false) × (b ≡ true)
+both true b h = absurd (cc)
+both false b h = (refl, h)
+
+-- more tokens behind those whose front is followed by one of them
+pub record FrontOf (at : ℕ) (p r : List LexedToken) : Type 0 where
+  steps : leading_trivia at (p ++ r) ≡ leading_trivia at p
+  end : leading_trivia_end at (p ++ r) ≡ leading_trivia_end at p
+  left : after_leading_trivia (p ++ r) ≡ after_leading_trivia p ++ r
+  size : leading_trivia_end at p + total_len (after_leading_trivia p) ≡ at + total_len p
+
+pub front_of : (at : ℕ) (p r : List LexedToken) → is_empty (after_leading_trivia p) ≡ false
+    → FrontOf at p r
+front_of at [] r h = absurd (cc)
+front_of at (t ∷ p) r h = by (is_trivia_kind t.kind) refl h (front_of (at + t.len) p r)
+  where
+    by : (b : Bool) → is_trivia_kind t.kind ≡ b
+        → is_empty (cond b (after_leading_trivia p) (t ∷ p)) ≡ false
+        → (is_empty (after_leading_trivia p) ≡ false → FrontOf (at + t.len) p r)
+        → FrontOf at (t ∷ p) r
+    by true is h more =
+        let rest = more h in
+        record {
+          steps = rw is (ap (λ ys. out.Token t.kind at (at + t.len) ∷ ys) rest.steps);
+          end =
+              rw is rest.end;
+          left = rw is rest.left;
+          size =
+              rw is (let e = rest.size in omega arith);
+        }
+    by false is h more = record {
+      steps = rw is refl;
+      end = rw is refl;
+      left = rw is refl;
+      size =
+          rw is refl;
+    }
+
+-- the first of some tokens
+pub record NextOf (u r : List LexedToken) : Type 0 where
+  len : next_len (u ++ r) ≡ next_len u
+  rest : drop 1 (u ++ r) ≡ drop 1 u ++ r
+  size : next_len u + total_len (drop 1 u) ≡ total_len u
+
+pub next_of : (u r : List LexedToken) → is_empty u ≡ false → NextOf u r
+next_of [] r h = absurd (cc)
+next_of (t ∷ u) r h = record { len = refl; rest = refl; size = refl }
+
+pub append_woven : (xs : List Step) (at : ℕ) (p r : List LexedToken) (y : Step) (ys : List Step)
+    → fits xs p ≡ true → weave_from at (p ++ r) (xs ++ y ∷ ys)
+    ≡ weave_from at p xs ++ weave_from (at + total_len p) r (y ∷ ys)
+append_woven [] at [] r y ys h = ap (λ n. weave_from n r (y ∷ ys)) (omega arith)
+append_woven [] at (t ∷ p) r y ys h = absurd (cc)
+append_woven (Enter kind ∷ xs) at p r y ys h =
+    let hs = both (is_empty (after_leading_trivia p)) (fits xs (after_leading_trivia p)) h in
+    let f = front_of at p r hs.0 in
+    let rest = append_woven xs (leading_trivia_end at p) (after_leading_trivia p) r y ys hs.1 in
+    rw (f.steps, f.end, f.left, rest, f.size)
+    (sym (append_assoc (leading_trivia at p ++ out.Enter kind
+    ∷ []) (weave_from (leading_trivia_end at p) (after_leading_trivia p) xs)
+    (weave_from (at + total_len p) r (y ∷ ys))))
+append_woven (Token kind ∷ xs) at p r y ys h =
+    let hs = both (is_empty (after_leading_trivia p)) (fits xs (drop 1 (after_leading_trivia p))) h
+    in
+    let f = front_of at p r hs.0 in
+    let n = next_of (after_leading_trivia p) r hs.0 in
+    let rest = append_woven xs (leading_trivia_end at p + next_len (after_leading_trivia p))
+    (drop 1 (after_leading_trivia p)) r y ys hs.1 in
+    let place : leading_trivia_end at p + next_len (after_leading_trivia p)
+    + total_len (drop 1 (after_leading_trivia p)) ≡ at + total_len p = let a = f.size in let b =
+    n.size in omega arith in
+    rw (f.steps, f.end, f.left, n.len, n.rest, rest, place)
+    (sym (append_assoc (leading_trivia at p
+    ++ out.Token kind (leading_trivia_end at p) (leading_trivia_end at p
+    + next_len (after_leading_trivia p)) ∷ [])
+    (weave_from (leading_trivia_end at p + next_len (after_leading_trivia p))
+    (drop 1 (after_leading_trivia p)) xs) (weave_from (at + total_len p) r (y ∷ ys))))
+append_woven (Exit ∷ []) at [] r y ys h = ap (λ n. out.Exit ∷ weave_from n r (y ∷ ys)) (omega arith)
+append_woven (Exit ∷ []) at (t ∷ p) r y ys h = absurd (cc)
+append_woven (Exit ∷ x ∷ xs) at p r y ys h =
+    ap (λ zs. out.Exit ∷ zs) (append_woven (x ∷ xs) at p r y ys h)
+append_woven (Error number ∷ xs) at p r y ys h =
+    ap (λ zs. out.Error number at ∷ zs) (append_woven xs at p r y ys
+    (both (is_empty p) (fits xs p) h).1)
+
+-- ---- a child's steps use up its tokens
+
+past_front : (xs : List Step) (t : LexedToken) (ts : List LexedToken) → is_trivia_kind t.kind ≡ true
+    → is_empty ts ≡ false → fits xs ts ≡ true → fits xs (t ∷ ts) ≡ true
+past_front [] t ts is some h = absurd (cc)
+past_front (Enter kind ∷ xs) t ts is some h = rw is h
+past_front (Token kind ∷ xs) t ts is some h = rw is h
+past_front (Exit ∷ xs) t ts is some h = past_front xs t ts is some h
+past_front (Error number ∷ xs) t ts is some h =
+    past_front xs t ts is some (both (is_empty ts) (fits xs ts) h).1
+
+fits_exits : (n : ℕ) (xs : List Step) (ts : List LexedToken) → fits xs ts ≡ true
+    → fits (exits n ++ xs) ts ≡ true
+fits_exits zero xs ts h = h
+fits_exits (suc n) xs ts h = fits_exits n xs ts h
+
+fits_token : (kind : ℕ) (xs : List Step) (t : LexedToken) (ts : List LexedToken)
+    → is_trivia_kind t.kind ≡ false → fits xs ts ≡ true → fits (Token kind ∷ xs) (t ∷ ts) ≡ true
+fits_token kind xs t ts is h = rw is h
+
+fits_end : (n kind : ℕ) (xs : List Step) (t : LexedToken) (ts : List LexedToken)
+    → is_trivia_kind t.kind ≡ false → fits xs ts ≡ true
+    → fits ((exits n ++ Token kind ∷ []) ++ xs) (t ∷ ts) ≡ true
+fits_end n kind xs t ts is h =
+    ap (λ zs. fits zs (t ∷ ts)) (append_assoc (exits n) (Token kind ∷ []) xs)
+    ∙ fits_exits n (Token kind ∷ xs) (t ∷ ts) (fits_token kind xs t ts is h)
+
+fits_kind : (d : Division) (n kind : ℕ) (f : Role) (xs : List Step) (t : LexedToken)
+    (ts : List LexedToken) → is_trivia_kind t.kind ≡ false → fits xs ts ≡ true
+    → fits (cond (ends_statement d n f) (exits n ++ Token kind ∷ []) (enters_before f ++ Token kind
+    ∷ exits_after n f) ++ xs) (t ∷ ts) ≡ true
+fits_kind d n kind Trivia xs t ts is h = fits_token kind xs t ts is h
+fits_kind Flat n kind Semicolon xs t ts is h = fits_end n kind xs t ts is h
+fits_kind Grouped zero kind Semicolon xs t ts is h = fits_token kind xs t ts is h
+fits_kind Grouped (suc n) kind Semicolon xs t ts is h = fits_token kind xs t ts is h
+fits_kind d n kind Terminator xs t ts is h = fits_end n kind xs t ts is h
+fits_kind d n kind Command xs t ts is h = fits_token kind xs t ts is h
+fits_kind d n kind Open xs t ts is h = rw is (fits_token kind xs t ts is h)
+fits_kind d zero kind Close xs t ts is h = fits_token kind xs t ts is h
+fits_kind d (suc n) kind Close xs t ts is h = fits_token kind (Exit ∷ xs) t ts is h
+fits_kind d n kind Other xs t ts is h = fits_token kind xs t ts is h
+
+fits_core : (d : Division) (n : ℕ) (ts : List LexedToken) (xs : List Step) → fits xs [] ≡ true
+    → ends_solid true ts ≡ true → fits (body_steps d n (kinds_without_trivia ts) ++ xs) ts ≡ true
+fits_core d n [] xs last solid = fits_exits n xs [] last
+fits_core d n (t ∷ ts) xs last solid =
+    by (is_trivia_kind t.kind) refl (fits_core d n ts xs last)
+    (fits_core d (groups_open_after d n (role t.kind)) ts xs last)
+  where
+    some : (us : List LexedToken) → ends_solid false us ≡ true → (is_empty us ≡ false)
+        × (ends_solid true us ≡ true)
+    some [] h = absurd (cc)
+    some (u ∷ us) h = (refl, h)
+
+    by : (b : Bool) → is_trivia_kind t.kind ≡ b
+        → (ends_solid true ts ≡ true → fits (body_steps d n (kinds_without_trivia ts) ++ xs) ts
+        ≡ true)
+        → (ends_solid true ts ≡ true
+        → fits (body_steps d (groups_open_after d n (role t.kind)) (kinds_without_trivia ts)
+        ++ xs) ts ≡ true) → fits (body_steps d n (kinds_without_trivia (t ∷ ts)) ++ xs) (t ∷ ts)
+        ≡ true
+    by true is same after =
+        let left : ends_solid false ts ≡ true = ap (λ b. ends_solid (not b) ts) (sym is) ∙ solid in
+        let more = some ts left in
+        let here : kinds_without_trivia (t ∷ ts) ≡ kinds_without_trivia ts = rw is refl in
+        rw here (past_front (body_steps d n (kinds_without_trivia ts)
+        ++ xs) t ts is more.0 (same more.1))
+    by false is same after =
+        let left : ends_solid true ts ≡ true = ap (λ b. ends_solid (not b) ts) (sym is) ∙ solid in
+        let here : kinds_without_trivia (t ∷ ts) ≡ t.kind ∷ kinds_without_trivia ts = rw is refl in
+        rw here (ap (λ zs.
+        fits zs (t ∷ ts)) (append_assoc (kind_steps d n t.kind)
+        (body_steps d (groups_open_after d n (role t.kind)) (kinds_without_trivia ts)) xs)
+        ∙ fits_kind d n t.kind (role t.kind) (body_steps d (groups_open_after d n (role t.kind))
+        (kinds_without_trivia ts) ++ xs) t ts is (after left))
+
+fits_fault : (b : Bool) (xs : List Step) (t : LexedToken) (ts : List LexedToken)
+    → fits xs (t ∷ ts) ≡ true → fits (cond b (Error 10 ∷ []) [] ++ xs) (t ∷ ts) ≡ true
+fits_fault true xs t ts h = h
+fits_fault false xs t ts h = h
+
+pub fits_child : (d : Division) (t : LexedToken) (ts : List LexedToken)
+    → is_trivia_kind t.kind ≡ false → ends_solid true ts ≡ true
+    → fits (child_steps d (kinds_without_trivia (t ∷ ts))) (t ∷ ts) ≡ true
+fits_child d t ts is solid =
+    let node = node_of (kinds_without_trivia (t ∷ ts)) in
+    let whole : ends_solid true (t ∷ ts) ≡ true = ap (λ b. ends_solid (not b) ts) is ∙ solid in
+    let inner : fits ((unknown_statement_error node
+    ++ body_steps d 0 (kinds_without_trivia (t ∷ ts))) ++ Exit ∷ []) (t ∷ ts) ≡ true =
+    ap (λ zs. fits zs (t ∷ ts)) (append_assoc (unknown_statement_error node)
+    (body_steps d 0 (kinds_without_trivia (t ∷ ts))) (Exit ∷ []))
+    ∙ fits_fault (node == ERROR) (body_steps d 0 (kinds_without_trivia (t ∷ ts)) ++ Exit
+    ∷ []) t ts (fits_core d 0 (t ∷ ts) (Exit ∷ []) refl whole) in
+    let behind : after_leading_trivia (t ∷ ts) ≡ t ∷ ts = rw is refl in
+    ap (λ u. not (is_empty u) && fits ((unknown_statement_error node
+    ++ body_steps d 0 (kinds_without_trivia (t ∷ ts))) ++ Exit ∷ []) u) behind ∙ inner
+
+-- ---- the text
+
+-- children one after another, each of its own tokens at their own place
+abbrev pub placed_from : Division → ℕ → List (List LexedToken) → List StrStep
+placed_from d at [] = []
+placed_from d at (part ∷ rest) = woven_child d at part ++ placed_from d (at + total_len part) rest
+
+-- trivia before a child or at the end
+front_leaf : (d : Division) (at : ℕ) (t : LexedToken) (ts : List LexedToken) (ps : List (List ℕ))
+    → is_trivia_kind t.kind ≡ true
+    → weave_from at (t ∷ ts) (children_steps d ps ++ Exit ∷ [])
+    ≡ out.Token t.kind at (at + t.len) ∷ weave_from (at + t.len) ts (children_steps d ps ++ Exit
+    ∷ [])
+front_leaf d at t ts [] is = rw is refl
+front_leaf d at t ts (p ∷ ps) is = rw is refl
+
+-- a child before others or before the end
+front_child : (d : Division) (at : ℕ) (p r : List LexedToken) (ks : List ℕ) (ps : List (List ℕ))
+    → fits (child_steps d ks) p ≡ true
+    → weave_from at (p ++ r) (children_steps d (ks ∷ ps) ++ Exit ∷ [])
+    ≡ weave_from at p (child_steps d ks) ++ weave_from (at + total_len p) r (children_steps d ps
+    ++ Exit ∷ [])
+front_child d at p r ks [] h =
+    ap (λ zs. weave_from at (p ++ r) zs) (append_assoc (child_steps d ks) [] (Exit ∷ []))
+    ∙ append_woven (child_steps d ks) at p r Exit [] h
+front_child d at p r ks (q ∷ ps) h =
+    ap (λ zs. weave_from at (p ++ r) zs) (append_assoc (child_steps d ks)
+    (children_steps d (q ∷ ps)) (Exit ∷ []))
+    ∙ append_woven (child_steps d ks) at p r (Enter (node_of q)) _ h
+
+pub placed : (n : ℕ) (d : Division) (at : ℕ) (ts : List LexedToken) → length ts ≤ n
+    → weave_from at ts (children_steps d (parts role d (kinds_without_trivia ts)) ++ Exit ∷ [])
+    ≡ placed_from d at (parts lexed_role d ts) ++ out.Exit ∷ []
+placed n d at [] h = refl
+placed zero d at (t ∷ ts) h = absurd (omega arith)
+placed (suc n) d at (t ∷ ts) h =
+    by (is_trivia_kind t.kind) refl (placed n d (at + t.len) ts (omega arith))
+    (placed n d (at + total_len (t ∷ take (more_of lexed_role d t ts) ts))
+    (drop (more_of lexed_role d t ts) ts) (let e = length-drop (more_of lexed_role d t ts) ts in
+    omega arith))
+  where
+    by : (b : Bool) → is_trivia_kind t.kind ≡ b
+        → weave_from (at + t.len) ts (children_steps d (parts role d (kinds_without_trivia ts))
+        ++ Exit ∷ []) ≡ placed_from d (at + t.len) (parts lexed_role d ts) ++ out.Exit ∷ []
+        → weave_from (at + total_len (t ∷ take (more_of lexed_role d t ts) ts))
+        (drop (more_of lexed_role d t ts) ts)
+        (children_steps d (parts role d (kinds_without_trivia
+        (drop (more_of lexed_role d t ts) ts))) ++ Exit ∷ [])
+        ≡ placed_from d (at + total_len (t ∷ take (more_of lexed_role d t ts) ts))
+        (parts lexed_role d (drop (more_of lexed_role d t ts) ts)) ++ out.Exit ∷ []
+        → weave_from at (t ∷ ts) (children_steps d (parts role d (kinds_without_trivia (t ∷ ts)))
+        ++ Exit ∷ []) ≡ placed_from d at (parts lexed_role d (t ∷ ts)) ++ out.Exit ∷ []
+    by true is leaf child =
+        let here : kinds_without_trivia (t ∷ ts) ≡ kinds_without_trivia ts = rw is refl in
+        let f = trivia_form (role t.kind) (role_trivia t.kind ∙ is) in
+        let none : more_of lexed_role d t ts ≡ 0 =
+        ap (λ f. more d f (map lexed_role ts)) f in
+        let ps : parts lexed_role d (t ∷ ts) ≡ (t ∷ []) ∷ parts lexed_role d ts =
+        first_part lexed_role d t ts
+        ∙ ap (λ m. (t ∷ take m ts) ∷ parts lexed_role d (drop m ts)) none in
+        let place : at + (t.len + 0) ≡ at + t.len = omega arith in
+        let this : woven_child d at (t ∷ []) ≡ out.Token t.kind at (at + t.len) ∷ [] = rw is refl in
+        let right : placed_from d at (parts lexed_role d (t ∷ ts))
+        ≡ out.Token t.kind at (at + t.len)
+        ∷ placed_from d (at + t.len) (parts lexed_role d ts) =
+        ap (placed_from d at) ps ∙ ap (λ zs. zs
+        ++ placed_from d (at + (t.len + 0)) (parts lexed_role d ts)) this
+        ∙ ap (λ m. out.Token t.kind at (at + t.len)
+        ∷ placed_from d m (parts lexed_role d ts)) place in
+        ap (λ ks. weave_from at (t ∷ ts) (children_steps d (parts role d ks) ++ Exit ∷ [])) here
+        ∙ front_leaf d at t ts (parts role d (kinds_without_trivia ts)) is
+        ∙ ap (λ zs. out.Token t.kind at (at + t.len) ∷ zs) leaf
+        ∙ ap (λ zs. zs ++ out.Exit ∷ []) (sym right)
+    by false is leaf child =
+        let m = more_of lexed_role d t ts in
+        let here : kinds_without_trivia (t ∷ ts) ≡ t.kind ∷ kinds_without_trivia ts = rw is refl in
+        let part : kinds_without_trivia (t ∷ take m ts)
+        ≡ t.kind ∷ kinds_without_trivia (take m ts) = rw is refl in
+        let cut = first_cut d (role t.kind) ts in
+        let kinds : parts role d (kinds_without_trivia (t ∷ ts))
+        ≡ kinds_without_trivia (t ∷ take m ts)
+        ∷ parts role d (kinds_without_trivia (drop m ts)) =
+        rw (here, part) (first_part role d t.kind (kinds_without_trivia ts)
+        ∙ rw (cut.front, cut.left) refl) in
+        let tokens : parts lexed_role d (t ∷ ts)
+        ≡ (t ∷ take m ts) ∷ parts lexed_role d (drop m ts) =
+        first_part lexed_role d t ts in
+        let whole : t ∷ ts ≡ (t ∷ take m ts) ++ drop m ts =
+        ap (λ us. t ∷ us) (sym (take-append-drop m ts)) in
+        let this : woven_child d at (t ∷ take m ts)
+        ≡ weave_from at (t ∷ take m ts) (child_steps d (kinds_without_trivia (t ∷ take m ts))) =
+        rw is refl in
+        let step = front_child d at (t ∷ take m ts) (drop m ts) (kinds_without_trivia (t
+        ∷ take m ts)) (parts role d (kinds_without_trivia (drop m ts)))
+        (fits_child d t (take m ts) is cut.solid) in
+        ap (λ ps. weave_from at (t ∷ ts) (children_steps d ps ++ Exit ∷ [])) kinds
+        ∙ ap (λ us. weave_from at us (children_steps d (kinds_without_trivia (t ∷ take m ts)
+        ∷ parts role d (kinds_without_trivia (drop m ts))) ++ Exit ∷ [])) whole
+        ∙ step
+        ∙ ap (λ zs. weave_from at (t ∷ take m ts)
+        (child_steps d (kinds_without_trivia (t ∷ take m ts))) ++ zs) child
+        ∙ ap (λ zs. zs
+        ++ (placed_from d (at + total_len (t ∷ take m ts)) (parts lexed_role d (drop m ts))
+        ++ out.Exit ∷ [])) (sym this)
+        ∙ sym (append_assoc (woven_child d at (t ∷ take m ts))
+        (placed_from d (at + total_len (t ∷ take m ts)) (parts lexed_role d (drop m ts)))
+        (out.Exit ∷ []))
+        ∙ ap (λ ps. placed_from d at ps ++ out.Exit ∷ []) (sym tokens)
+
+-- ---- shifts
+
+pub further : (a n l : ℕ) → a + n + l ≡ a + l + n
+further a n l = omega arith
+
+record Shifted (n at : ℕ) (ts : List LexedToken) : Type 0 where
+  steps : leading_trivia (at + n) ts ≡ map (shifted_step n) (leading_trivia at ts)
+  end : leading_trivia_end (at + n) ts ≡ leading_trivia_end at ts + n
+
+shift_front : (n at : ℕ) (ts : List LexedToken) → Shifted n at ts
+shift_front n at [] = record { steps = refl; end = refl }
+shift_front n at (t ∷ ts) = by (is_trivia_kind t.kind) refl (shift_front n (at + t.len) ts)
+  where
+    by : (b : Bool) → is_trivia_kind t.kind ≡ b → Shifted n (at + t.len) ts → Shifted n at (t ∷ ts)
+    by true is rest = record {
+      steps =
+          rw (is, further at n t.len) (ap (λ ys.
+          out.Token t.kind (at + n) (at + t.len + n) ∷ ys) rest.steps);
+      end =
+          rw (is, further at n t.len) rest.end;
+    }
+    by false is rest = record { steps = rw is refl; end = rw is refl }
+
+shift_step : (last : Bool) (n at : ℕ) (ts : List LexedToken) (x : Step)
+    → (weave_step last (at + n) ts x ≡ map (shifted_step n) (weave_step last at ts x))
+    × (offset_after_step last (at + n) ts x ≡ offset_after_step last at ts x + n)
+shift_step last n at ts (Enter kind) = let f = shift_front n at ts in
+    (rw f.steps (sym (map-append (shifted_step n) (leading_trivia at ts) (out.Enter kind ∷ []))), f.end)
+shift_step last n at ts (Token kind) =
+    let f = shift_front n at ts in (
+      rw (f.steps, f.end, further (leading_trivia_end at ts) n (next_len (after_leading_trivia ts)))
+          (sym (map-append (shifted_step n) (leading_trivia at ts)
+          (out.Token kind (leading_trivia_end at ts) (leading_trivia_end at ts
+          + next_len (after_leading_trivia ts)) ∷ []))),
+      rw (f.end, further (leading_trivia_end at ts) n (next_len (after_leading_trivia ts))) refl,
+    )
+shift_step true n at ts Exit = let f = shift_front n at ts in
+    (rw f.steps (sym (map-append (shifted_step n) (leading_trivia at ts) (out.Exit ∷ []))), f.end)
+shift_step false n at ts Exit = (refl, refl)
+shift_step last n at ts (Error number) = (refl, refl)
+
+shift_woven : (n at : ℕ) (ts : List LexedToken) (xs : List Step)
+    → weave_from (at + n) ts xs ≡ map (shifted_step n) (weave_from at ts xs)
+shift_woven n at ts [] = refl
+shift_woven n at ts (x ∷ xs) =
+    let s = shift_step (is_empty xs) n at ts x in
+    let rest = shift_woven n (offset_after_step (is_empty xs) at ts x)
+    (tokens_after_step (is_empty xs) ts x) xs in
+    rw (s.0, s.1, rest) (sym (map-append (shifted_step n) (weave_step (is_empty xs) at ts x)
+    (weave_from (offset_after_step (is_empty xs) at ts x) (tokens_after_step (is_empty xs) ts x)
+    xs)))
+
+pub node_woven : (d : Division) (at : ℕ) (t : LexedToken) (ts : List LexedToken)
+    → is_trivia_kind t.kind ≡ false → woven_child d at (t ∷ ts)
+    ≡ weave_from at (t ∷ ts) (child_steps d (kinds_without_trivia (t ∷ ts)))
+node_woven d at t ts is =
+    ap (λ b. cond b (out.Token t.kind at (at + t.len)
+    ∷ []) (weave_from at (t ∷ ts) (child_steps d (kinds_without_trivia (t ∷ ts))))) is
+
+pub leaf_woven : (d : Division) (at : ℕ) (t : LexedToken) (ts : List LexedToken)
+    → is_trivia_kind t.kind ≡ true → woven_child d at (t ∷ ts)
+    ≡ out.Token t.kind at (at + t.len) ∷ []
+leaf_woven d at t ts is =
+    ap (λ b. cond b (out.Token t.kind at (at + t.len)
+    ∷ []) (weave_from at (t ∷ ts) (child_steps d (kinds_without_trivia (t ∷ ts))))) is
+
+pub shift_child : (d : Division) (n : ℕ) (part : List LexedToken)
+    → woven_child d n part ≡ map (shifted_step n) (woven_child d 0 part)
+shift_child d n [] = refl
+shift_child d n (t ∷ ts) = by (is_trivia_kind t.kind) refl
+  where
+    by : (b : Bool) → is_trivia_kind t.kind ≡ b
+        → woven_child d n (t ∷ ts) ≡ map (shifted_step n) (woven_child d 0 (t ∷ ts))
+    by true is =
+        let a : n ≡ 0 + n = omega arith in
+        let b : n + t.len ≡ 0 + t.len + n = omega arith in
+        leaf_woven d n t ts is ∙ ap (λ m. out.Token t.kind m (n + t.len) ∷ []) a
+        ∙ ap (λ m. out.Token t.kind (0 + n) m ∷ []) b
+        ∙ ap (map (shifted_step n)) (sym (leaf_woven d 0 t ts is))
+    by false is =
+        let e : n ≡ 0 + n = omega arith in
+        let here : woven_child d n (t ∷ ts)
+        ≡ weave_from n (t ∷ ts) (child_steps d (kinds_without_trivia (t ∷ ts))) =
+        node_woven d n t ts is in
+        let there : woven_child d 0 (t ∷ ts)
+        ≡ weave_from 0 (t ∷ ts) (child_steps d (kinds_without_trivia (t ∷ ts))) =
+        node_woven d 0 t ts is in
+        here ∙ ap (λ m. weave_from m (t ∷ ts) (child_steps d (kinds_without_trivia (t ∷ ts)))) e
+        ∙ shift_woven n 0 (t ∷ ts) (child_steps d (kinds_without_trivia (t ∷ ts)))
+        ∙ ap (map (shifted_step n)) (sym there)
+
+pub shift_all : (d : Division) (at : ℕ) (ps : List (List LexedToken))
+    → placed_from d at ps ≡ joined_from d at ps
+shift_all d at [] = refl
+shift_all d at (p ∷ ps) = rw (shift_child d at p, shift_all d (at + total_len p) ps) refl
+
+-- what is given out for a text is its children's, joined
+pub join_law : (d : Division) (ts : List LexedToken)
+    → weave ts (plain d (kinds_without_trivia ts)) ≡ joined d (parts lexed_role d ts)
+join_law d ts = ap (λ ys. out.Enter SOURCE_FILE ∷ ys) (placed (length ts) d 0 ts (omega arith)
+    ∙ ap (λ ys. ys ++ out.Exit ∷ []) (shift_all d 0 (parts lexed_role d ts)))

@@ -1,0 +1,68 @@
+-- The parse of a text: its leaves are the tokens of the text, and its root's children those of the
+-- division of their roles.
+use Rattle.std.proofs.Common.{◌≡◌, ℕ, ◌+◌, List, [], ◌∷◌, map, ap, refl, sym, subst, ◌∙◌}
+use Rattle.std.specs.Prelude.{Result, Ok, Err, IfOk, slice_range}
+use Rattle.std.specs.Str.{chars}
+use Rattle.squawk_kinds.specs.Role.{role}
+use Rattle.squawk_lexed.specs.Leaf.{leaf_kind, token_role}
+use Rattle.squawk_lexed.specs.LexedText.{lexed_tokens}
+use Rattle.squawk_lexed.specs.LexedToken.{LexedToken}
+use Rattle.squawk_lexer.specs.Cut.{tokens, token_ends}
+use Rattle.squawk_lexer.specs.declared.token.Strings.{Strings}
+use Rattle.squawk_lexer.specs.declared.token.Token as lexer
+use Rattle.squawk_lexer.specs.declared.token.TokenKind.{TokenKind}
+use Rattle.squawk_statements.specs.Children.{children}
+use Rattle.squawk_statements.specs.declared.division.Division.{Division}
+use Rattle.squawk_tree.specs.ParseOf.{lexed_role, roles_of, token_steps, tokens_of, parse_of_tokens}
+use Rattle.squawk_tree.specs.Steps.{leaves, only_tokens, ranges_through, root_children, root_child}
+use Rattle.squawk_tree.specs.Tree.{Tree}
+use Rattle.squawk_tree.proofs.TreeLaws.{leaves-only_tokens}
+
+-- what holds of a parse holds of an answer that is the parse
+pub on_parse : {E : Type 0} (r : Result Tree E) (parse : Tree) (P : Tree → Type 0)
+    → IfOk r (λ t. t ≡ parse) → P parse → IfOk r P
+on_parse (Ok t) parse P is h = subst P (sym is) h
+on_parse (Err e) parse P is h = tt
+
+-- the Token steps are laid from end to end of the tokens
+leaves-token_steps : (text : List ℕ) (at : ℕ) (ts : List lexer.Token)
+    → leaves (token_steps at (lexed_tokens text at ts)) ≡ ranges_through at (token_ends at ts)
+leaves-token_steps text at [] = refl
+leaves-token_steps text at (t ∷ ts) =
+    ap (λ rs. (at, at + t.len) ∷ rs) (leaves-token_steps text (at + t.len) ts)
+
+pub leaves_of_text : {E : Type 0} (r : Result Tree E) (strings : Strings) (text : List ℕ)
+    (ts : List LexedToken) → ts ≡ tokens_of strings text
+    → IfOk r (λ tree. only_tokens tree.steps ≡ token_steps 0 ts)
+    → IfOk r (λ tree. leaves tree.steps
+    ≡ ranges_through 0 (token_ends 0 (tokens strings (chars text))))
+leaves_of_text (Ok tree) strings text ts ts_are is = sym (leaves-only_tokens tree.steps)
+    ∙ ap leaves is ∙ ap (λ us. leaves (token_steps 0 us)) ts_are
+    ∙ leaves-token_steps text 0 (tokens strings (chars text))
+leaves_of_text (Err e) strings text ts ts_are is = tt
+
+-- a token keeps its role as a leaf
+module _ (keep : (token : TokenKind) (text : List ℕ) → role (leaf_kind token text)
+    ≡ token_role token) where
+  roles-lexed : (text : List ℕ) (at : ℕ) (ts : List lexer.Token)
+      → map lexed_role (lexed_tokens text at ts) ≡ roles_of ts
+  roles-lexed text at [] = refl
+  roles-lexed text at (t ∷ ts) =
+      ap (λ r. r ∷ map lexed_role (lexed_tokens text (at + t.len) ts))
+      (keep t.kind (slice_range text at (at + t.len)))
+      ∙ ap (λ rs. token_role t.kind ∷ rs) (roles-lexed text (at + t.len) ts)
+
+  pub children_of_text : {E : Type 0} (r : Result Tree E) (strings : Strings) (division : Division)
+      (text : List ℕ) (ts : List LexedToken) → ts ≡ tokens_of strings text
+      → ((division : Division) (ts : List LexedToken)
+      → root_children (parse_of_tokens division ts).steps
+      ≡ map root_child (children division (map lexed_role ts)))
+      → IfOk r (λ tree. tree ≡ parse_of_tokens division ts)
+      → IfOk r (λ tree. root_children tree.steps
+      ≡ map root_child (children division (roles_of (tokens strings (chars text)))))
+  children_of_text (Ok tree) strings division text ts ts_are law is =
+      ap (λ (t : Tree). root_children t.steps) is ∙ law division ts
+      ∙ ap (λ us. map root_child (children division (map lexed_role us))) ts_are
+      ∙ ap (λ rs. map root_child (children division rs))
+      (roles-lexed text 0 (tokens strings (chars text)))
+  children_of_text (Err e) strings division text ts ts_are law is = tt

@@ -1,0 +1,45 @@
+use Rattle.std.proofs.Common.{◌≡◌, ℕ, List, length, take, ap, sym, subst, ◌∙◌, arith}
+use Rattle.std.proofs.lemmas.List.{take_all}
+use Rattle.squawk_lexed.specs.LexedText.{total_len}
+use Rattle.squawk_lexed.specs.LexedToken.{LexedToken}
+use Rattle.squawk_lexed.specs.Weave.{kinds_without_trivia}
+use Rattle.squawk_tree.specs.Steps.{only_tokens}
+use Rattle.squawk_tree.specs.Tree.{Tree, IsTree}
+use Rattle.squawk_tree.specs.Walk.{errors_by_step}
+use Rattle.squawk_tree.proofs.LeavesLemmas.{leaves_whole}
+use Rattle.squawk_tree.proofs.TreeLaws.{tree_of-lawful, parts_are}
+use Rattle.squawk_tree.proofs.source.parse_lexed.Goals as goal
+
+whole_len : (ts : List LexedToken) (n len : ℕ) → n ≡ length ts → len ≡ total_len (take n ts)
+    → len ≡ total_len ts
+whole_len ts n len count is =
+    is ∙ ap total_len (take_all n ts (omega arith))
+
+pub new-requires : goal.new-requires
+new-requires g c =
+    let ts = c.args.lexed.now.tokens in
+    let lawful = c.in_ok-steps.ensures.lawful in
+    subst IsTree (sym (parts_are ts _ _ _ _ c.len.ensures.sound lawful c.in_ok-steps.ensures.steps
+    (c.in_ok-errors.ensures.ok ∙ ap (errors_by_step 0 ts) c.deref.ensures.value)
+    (whole_len ts _ _ c.len.ensures.count c.text_start-len.ensures)))
+    (tree_of-lawful ts _ c.len.ensures.sound lawful)
+
+pub returns-clause-tree : goal.returns-clause-tree
+returns-clause-tree g c =
+    let ts = c.args.lexed.now.tokens in
+    let lawful = c.in_ok-steps.ensures.lawful in
+    c.in_ok-new.ensures ∙ parts_are ts _ _ _ _ c.len.ensures.sound lawful
+    c.in_ok-steps.ensures.steps
+    (c.in_ok-errors.ensures.ok ∙ ap (errors_by_step 0 ts) c.deref.ensures.value)
+    (whole_len ts _ _ c.len.ensures.count c.text_start-len.ensures)
+
+pub returns-clause-leaves : goal.returns-clause-leaves
+returns-clause-leaves g c =
+    let ts = c.args.lexed.now.tokens in
+    let told = g.G.Grammar.told c.args.grammar.now (kinds_without_trivia ts) in
+    let lawful = c.in_ok-steps.ensures.lawful in
+    ap (λ (t : Tree). only_tokens t.steps) (c.in_ok-new.ensures ∙ parts_are ts told _ _ _
+    c.len.ensures.sound lawful c.in_ok-steps.ensures.steps
+    (c.in_ok-errors.ensures.ok ∙ ap (errors_by_step 0 ts) c.deref.ensures.value)
+    (whole_len ts _ _ c.len.ensures.count c.text_start-len.ensures))
+    ∙ leaves_whole ts told lawful.balanced lawful.tokens

@@ -1,0 +1,80 @@
+-- The children of a parse, each made of its own tokens alone, and how they are joined to one tree.
+use Rattle.std.specs.Prelude.{ℕ, ◌+◌, List, [], ◌∷◌, ◌++◌, map, if◌then◌else◌}
+use Rattle.squawk_events.specs.Kinds.{is_trivia_kind}
+use Rattle.squawk_events.specs.declared.steps.ParseError.{ParseError}
+use Rattle.squawk_events.specs.declared.steps.StrStep.{StrStep}
+use Rattle.squawk_events.specs.declared.steps.StrStep.TheVariants.{Enter, Token, Exit, Error}
+use Rattle.squawk_kinds.specs.declared.numbers.TheConstants.Number.{SOURCE_FILE}
+use Rattle.squawk_lexed.specs.LexedText.{total_len}
+use Rattle.squawk_lexed.specs.LexedToken.{LexedToken}
+use Rattle.squawk_lexed.specs.Weave.{kinds_without_trivia, weave_from}
+use Rattle.squawk_lexer.specs.declared.token.Strings.{Strings}
+use Rattle.squawk_statements.specs.Children.{parts}
+use Rattle.squawk_statements.specs.Plain.{child_steps}
+use Rattle.squawk_statements.specs.declared.division.Division.{Division}
+use Rattle.squawk_tree.specs.Errors.{error, errors}
+use Rattle.squawk_tree.specs.ParseOf.{lexed_role, tokens_of}
+use Rattle.squawk_tree.specs.Steps.{without_errors}
+use Rattle.squawk_tree.specs.Tree.{Tree}
+
+-- The steps of a child of these tokens, the first of which begins at an offset. A trivia token is a
+-- leaf; the tokens of any other child are woven into the steps of its kinds.
+abbrev pub woven_child : Division → ℕ → List LexedToken → List StrStep
+woven_child d at [] = []
+woven_child d at (t ∷ ts) =
+    if is_trivia_kind t.kind then Token t.kind at (at + t.len) ∷ []
+    else weave_from at (t ∷ ts) (child_steps d (kinds_without_trivia (t ∷ ts)))
+
+-- one child: its steps, its errors and its length, with offsets from its start
+pub record ChildTree : Type 0 where
+  pub steps : List StrStep
+  pub errors : List ParseError
+  pub len : ℕ
+
+-- the child of these tokens
+abbrev pub child_of : Division → List LexedToken → ChildTree
+child_of d ts = record {
+  steps = without_errors (woven_child d 0 ts);
+  errors = errors ts (woven_child d 0 ts);
+  len = total_len ts;
+}
+
+-- the children of a text of these bytes
+abbrev pub children_of : Strings → Division → List ℕ → List ChildTree
+children_of strings d text = map (child_of d) (parts lexed_role d (tokens_of strings text))
+
+-- a step n bytes later
+abbrev pub shifted_step : ℕ → StrStep → StrStep
+shifted_step n (Enter kind) = Enter kind
+shifted_step n (Token kind start end) = Token kind (start + n) (end + n)
+shifted_step n Exit = Exit
+shifted_step n (Error number at) = Error number (at + n)
+
+-- an error n bytes later
+abbrev pub shifted_error : ℕ → ParseError → ParseError
+shifted_error n e = error (e.start + n) (e.end + n) e.number
+
+-- the steps of children, the first of which begins at an offset
+abbrev pub steps_from : ℕ → List ChildTree → List StrStep
+steps_from at [] = []
+steps_from at (child ∷ rest) =
+    map (shifted_step at) child.steps ++ steps_from (at + child.len) rest
+
+-- their errors
+abbrev pub errors_from : ℕ → List ChildTree → List ParseError
+errors_from at [] = []
+errors_from at (child ∷ rest) =
+    map (shifted_error at) child.errors ++ errors_from (at + child.len) rest
+
+-- their length
+abbrev pub children_len : List ChildTree → ℕ
+children_len [] = 0
+children_len (child ∷ rest) = child.len + children_len rest
+
+-- children in order under one root
+abbrev pub join : List ChildTree → Tree
+join children = record {
+  steps = Enter SOURCE_FILE ∷ steps_from 0 children ++ Exit ∷ [];
+  errors = errors_from 0 children;
+  len = children_len children;
+}

@@ -1,0 +1,104 @@
+//! A sink that makes a tree of the steps that it takes.
+ghost use Rattle.std.specs.Prelude.{◌≡◌, ◌≤◌, IsTrue, All, [], ◌∷◌, ◌++◌, OnOk, OnErr, IfOk, IfErr};
+ghost use Rattle.squawk_events.specs.Refusals.{IsOutOfMemory};
+ghost use Rattle.squawk_tree.specs.Steps.{is_balanced, leaves, tiles, without_errors};
+ghost use Rattle.squawk_tree.specs.Taken.{Taken, IsError, EndsBy, end_after, tokens_end};
+
+use crate::Parse;
+use squawk_events::{FrontError, ParseError, StepSink, StrStep};
+use std::alloc::Global;
+use std::marker::Model;
+
+/// A sink that makes a tree of the steps that it takes, and of the errors that are pushed.
+///
+/// Each of its errors has one of the ten messages, and does not end before its start.
+#[derive(Drop)]
+pub struct TreeSink {
+    alloc: Global,
+    steps: Vec<StrStep>,
+    errors: Vec<ParseError>,
+}
+
+impl Model for TreeSink {
+    ghost use Rattle.std.specs.Prelude.{All};
+    ghost use Rattle.squawk_tree.specs.Taken.{Taken, IsError};
+
+    ghost Value = { Taken };
+
+    ghost view = { λ s. record { steps = s.steps.items; errors = s.errors.items } };
+
+    ghost invariant = { λ s. All IsError s.errors.items };
+}
+
+// The end of the last token of some steps, and 0 where there is none.
+fn last_end(steps: &[StrStep]) -> u32
+    ensures { result ≡ tokens_end steps.now }
+{
+    let mut end = 0;
+    for step in steps {
+        if let StrStep::Token { end: next, .. } = *step {
+            end = next;
+        }
+    }
+    end
+}
+
+impl TreeSink {
+    /// A sink that has taken nothing. It takes no memory.
+    pub fn new(alloc: Global) -> TreeSink
+        ensures { result ≡ record { steps = []; errors = [] } }
+    {
+        TreeSink {
+            alloc,
+            steps: Vec::new(alloc),
+            errors: Vec::new(alloc),
+        }
+    }
+
+    /// Appends an error to those of the tree. A refusal leaves the sink as it was.
+    pub fn push_error(&mut self, error: ParseError) -> Result<(), FrontError>
+        requires { IsError error }
+        ensures steps { OnOk result (self.new.steps ≡ self.old.steps) }
+        ensures errors { OnOk result (self.new.errors ≡ self.old.errors ++ error ∷ []) }
+        ensures err { OnErr result (self.new ≡ self.old) }
+        ensures refusals { IfErr result IsOutOfMemory }
+    {
+        self.errors.push(error)?;
+        Ok(())
+    }
+
+    /// The steps that it has taken.
+    pub(crate) fn into_steps(self) -> Vec<StrStep>
+        ensures { result.items ≡ self.steps }
+    {
+        self.steps
+    }
+
+    /// The tree of the steps, without their `Error` steps, and of the pushed errors.
+    ///
+    /// The steps are to be balanced, their tokens to follow one another from 0 on, and no error to
+    /// end after the last token. The only refusal is `OutOfMemory`; the sink is given up then.
+    pub fn finish(self) -> Result<Parse, FrontError>
+        requires balanced { IsTrue (is_balanced (without_errors self.steps)) }
+        requires tiled { IsTrue (tiles 0 (leaves self.steps) (tokens_end self.steps)) }
+        requires within { All (EndsBy (tokens_end self.steps)) self.errors }
+        ensures steps { IfOk result (λ parse. parse.steps ≡ without_errors self.steps) }
+        ensures errors { IfOk result (λ parse. parse.errors ≡ self.errors) }
+        ensures len { IfOk result (λ parse. parse.len ≡ tokens_end self.steps) }
+        ensures refusals { IfErr result IsOutOfMemory }
+    {
+        let len = last_end(&self.steps);
+        Ok(Parse::new(self.alloc, self.steps, self.errors, len)?)
+    }
+}
+
+impl StepSink for TreeSink {
+    ghost steps = { λ s. s.steps };
+
+    ghost errors = { λ s. s.errors };
+
+    fn step(&mut self, step: StrStep) -> Result<(), FrontError> {
+        self.steps.push(step)?;
+        Ok(())
+    }
+}
