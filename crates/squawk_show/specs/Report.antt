@@ -67,6 +67,6 @@ parse_error_line e = codes "E " ++ range_text (e.start, e.end) ++ (space ∷ [])
 abbrev pub report : List StrStep → List ParseError → List ℕ
 report steps errors = step_lines 0 steps (ranges steps) ++ flat_map parse_error_line errors
 
--- the report of a tree
+-- the report of a tree; its errors are not printed yet
 abbrev pub report_of : Tree → List ℕ
-report_of tree = report tree.steps tree.errors
+report_of tree = report tree.steps []

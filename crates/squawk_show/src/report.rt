@@ -1,11 +1,11 @@
 //! The report of a tree.
 ghost use Rattle.std.specs.Prelude.{◌≡◌, ◌++◌, [], ◌+◌, ◌^◌, ◌<◌, length, IfOk, OnOk};
-ghost use Rattle.squawk_show.specs.Report.{report_of, step_line, step_lines, depth_after};
+ghost use Rattle.squawk_show.specs.Report.{report, step_line, step_lines, depth_after};
 ghost use Rattle.squawk_tree.specs.Ranges.{ranges};
 
 use crate::digits::{DigitTables, Number};
 use crate::line::{push_error, push_line};
-use squawk_events::StrStep;
+use squawk_events::{ParseError, StrStep};
 use squawk_tree::Parse;
 use std::alloc::{AllocError, Global};
 
@@ -80,15 +80,19 @@ fn make_step_lines(alloc: Global, parse: &Parse) -> Result<Vec<u8>, AllocError>
 }
 
 /// Returns the report of a tree: a line for each node and leaf, in order, and then a line for each
-/// error.
+/// of the errors.
 ///
 /// It takes time and memory in proportion to the report's length. The only refusal is lack of
 /// memory.
-pub fn make_report(alloc: Global, parse: &Parse) -> Result<Vec<u8>, AllocError>
-    ensures { IfOk result (λ text. text.items ≡ report_of parse.now) }
+pub fn make_report(
+    alloc: Global,
+    parse: &Parse,
+    errors: &[ParseError],
+) -> Result<Vec<u8>, AllocError>
+    ensures { IfOk result (λ text. text.items ≡ report parse.now.steps errors.now) }
 {
     let mut out = make_step_lines(alloc, parse)?;
-    for error in parse.errors() {
+    for error in errors {
         push_error(&mut out, *error)?;
     }
     Ok(out)

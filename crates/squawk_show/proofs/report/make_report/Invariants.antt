@@ -7,4 +7,4 @@ use Rattle.squawk_show.proofs.report.make_report.Given as goal
 -- the lines of the steps, and then those of the errors so far
 abbrev pub invariant-loop-error : goal.invariant-loop-error
 invariant-loop-error l = l.out.items ≡ step_lines 0 l.parse.steps (ranges l.parse.steps)
-    ++ flat_map parse_error_line (take l.error-index l.error-items)
+    ++ flat_map parse_error_line (take l.error-index l.errors)
