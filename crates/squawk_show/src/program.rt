@@ -47,8 +47,7 @@ fn prepare_report<S: Source>(alloc: Global, source: &mut S) -> Result<(Parse, Ve
 {
     let bytes = read_all(alloc, source, LIMIT)?;
     let parse = parse_bytes(alloc, &bytes)?;
-    // The errors of the tree are not printed yet.
-    let report = make_report(alloc, &parse, &[])?;
+    let report = make_report(alloc, &parse)?;
     Ok((parse, report))
 }
 
