@@ -15,10 +15,10 @@ Tests = (ℕ → Bool) → Type 0
 abbrev pub PairTests : Type 1
 PairTests = (ℕ → Bool) → (ℕ → Bool) → Type 0
 
--- Two texts go on with c and r, and with d and s. Each test of `told` says the same of c and d,
+-- Two texts go on with c and r, and with d and s. Each test of `tests` says the same of c and d,
 -- and each pair of `pairs` says the same of the first two characters.
-pub record Follows (told : Tests) (pairs : PairTests) (c d : ℕ) (r s : List ℕ) : Type 0 where
-  pub one : (p : ℕ → Bool) → told p → p d ≡ p c
+pub record Follows (tests : Tests) (pairs : PairTests) (c d : ℕ) (r s : List ℕ) : Type 0 where
+  pub one : (p : ℕ → Bool) → tests p → p d ≡ p c
   pub two : (p q : ℕ → Bool) → pairs p q → (p d && q (get_or s 0 0)) ≡ (p c && q (get_or r 0 0))
 
 -- ---- lists that begin alike
@@ -26,8 +26,8 @@ pub record Follows (told : Tests) (pairs : PairTests) (c d : ℕ) (r s : List �
 -- g is the same of any two texts that begin with xs and go on so, where g reads no further than
 -- xs. The measure m is the number of characters that g reads.
 abbrev pub Looks : {X : Type 0} → Tests → PairTests → (List ℕ → X) → (List ℕ → ℕ) → Type 0
-Looks told pairs g m =
-    (xs : List ℕ) (c d : ℕ) (r s : List ℕ) → Follows told pairs c d r s
+Looks tests pairs g m =
+    (xs : List ℕ) (c d : ℕ) (r s : List ℕ) → Follows tests pairs c d r s
     → m (xs ++ c ∷ r) ≤ length xs → g (xs ++ d ∷ s) ≡ g (xs ++ c ∷ r)
 
 -- Two choices by one test are equal where the branches taken are. m bounds what a branch reads.
@@ -73,26 +73,26 @@ agrees_read n u v j a h = sym (get_or-take n v j 0 h) ∙ ap (λ w. get_or w j 0
 
 -- Two texts that agree on the characters before index k, the end of a token, and go on alike
 -- there.
-pub record Alike (told : Tests) (pairs : PairTests) (k : ℕ) (u v : List ℕ) : Type 0 where
+pub record Alike (tests : Tests) (pairs : PairTests) (k : ℕ) (u v : List ℕ) : Type 0 where
   pub left : k < length u
   pub right : k < length v
   pub same : take k v ≡ take k u
-  pub follows : Follows told pairs (get_or u k 0) (get_or v k 0) (drop (k + 1) u) (drop (k + 1) v)
+  pub follows : Follows tests pairs (get_or u k 0) (get_or v k 0) (drop (k + 1) u) (drop (k + 1) v)
 
 -- Alike texts have the same first n characters, for n up to k,
-pub take_same : {told : Tests} {pairs : PairTests} (k : ℕ) (u v : List ℕ) (n : ℕ)
-    → Alike told pairs k u v → n ≤ k → take n v ≡ take n u
+pub take_same : {tests : Tests} {pairs : PairTests} (k : ℕ) (u v : List ℕ) (n : ℕ)
+    → Alike tests pairs k u v → n ≤ k → take n v ≡ take n u
 take_same k u v n a h = sym (take-take n k v h) ∙ ap (take n) a.same ∙ take-take n k u h
 
 -- and the same character at each index before k.
-pub read : {told : Tests} {pairs : PairTests} (k : ℕ) (u v : List ℕ) (j : ℕ)
-    → Alike told pairs k u v → j < k → get_or v j 0 ≡ get_or u j 0
+pub read : {tests : Tests} {pairs : PairTests} (k : ℕ) (u v : List ℕ) (j : ℕ)
+    → Alike tests pairs k u v → j < k → get_or v j 0 ≡ get_or u j 0
 read k u v j a h = sym (get_or-take k v j 0 h) ∙ ap (λ w. get_or w j 0) a.same
     ∙ get_or-take k u j 0 h
 
 -- A test says the same of the character at each index up to k.
-pub test : {told : Tests} {pairs : PairTests} (p : ℕ → Bool)
-    → told p → (k : ℕ) (u v : List ℕ) (j : ℕ) → Alike told pairs k u v → j ≤ k
+pub test : {tests : Tests} {pairs : PairTests} (p : ℕ → Bool)
+    → tests p → (k : ℕ) (u v : List ℕ) (j : ℕ) → Alike tests pairs k u v → j ≤ k
     → p (get_or v j 0) ≡ p (get_or u j 0)
 test p t k u v j a h = by (cases_lt j k)
   where
@@ -107,8 +107,8 @@ pub after : (k : ℕ) (u : List ℕ) → get_or (drop (k + 1) u) 0 0 ≡ get_or 
 after k u = get_or-drop (k + 1) u 0 0 ∙ ap (λ n. get_or u n 0) (omega arith)
 
 -- A pair of tests says the same of two characters in a row, the first at index k at most.
-pub pair : {told : Tests} {pairs : PairTests} (p q : ℕ → Bool) → told q → pairs p q
-    → (k : ℕ) (u v : List ℕ) (i j : ℕ) → Alike told pairs k u v → i ≤ k → j ≡ i + 1
+pub pair : {tests : Tests} {pairs : PairTests} (p q : ℕ → Bool) → tests q → pairs p q
+    → (k : ℕ) (u v : List ℕ) (i j : ℕ) → Alike tests pairs k u v → i ≤ k → j ≡ i + 1
     → (p (get_or v i 0) && q (get_or v j 0)) ≡ (p (get_or u i 0) && q (get_or u j 0))
 pair p q t s k u v i j a h e = by (cases_lt i k)
   where
@@ -135,17 +135,17 @@ up_to k u i h within =
     ∙ ap (λ n. drop n u) (omega arith) ∙ here))
 
 -- What g says from index i on is the same of both texts, where it reads no further than k.
-pub seen : {X : Type 0} {told : Tests} {pairs : PairTests} (g : List ℕ → X) (m : List ℕ → ℕ)
-    → Looks told pairs g m → (k : ℕ) (u v : List ℕ) (i : ℕ) → Alike told pairs k u v
+pub seen : {X : Type 0} {tests : Tests} {pairs : PairTests} (g : List ℕ → X) (m : List ℕ → ℕ)
+    → Looks tests pairs g m → (k : ℕ) (u v : List ℕ) (i : ℕ) → Alike tests pairs k u v
     → i + m (drop i u) ≤ k → g (drop i v) ≡ g (drop i u)
 seen g m looks k u v i a h =
     let j : ℕ = k - i in
     let less : k < length u = a.left in
     let left = up_to k u i (omega arith) a.left in
-    let front : take j (drop i v) ≡ take j (drop i u) = sym (drop-take i j v)
+    let prefix : take j (drop i v) ≡ take j (drop i u) = sym (drop-take i j v)
     ∙ ap (drop i) (take_same k u v (i + j) a (omega arith)) ∙ drop-take i j u in
     let right : take j (drop i u) ++ get_or v k 0 ∷ drop (k + 1) v ≡ drop i v =
-    ap (λ w. w ++ get_or v k 0 ∷ drop (k + 1) v) (sym front) ∙ up_to k v i (omega arith) a.right
+    ap (λ w. w ++ get_or v k 0 ∷ drop (k + 1) v) (sym prefix) ∙ up_to k v i (omega arith) a.right
     in
     let len : length (take j (drop i u)) ≡ j =
     length-take-le j (drop i u) (omega (arith, length-drop i u)) in

@@ -36,53 +36,53 @@ same_count (c ∷ cs) (suc m) (suc n) h k e =
     ap suc (same_count cs m n (omega arith) (omega arith)
     (omega (arith, e, sum_by-cons len_utf8 c (take m cs), sum_by-cons len_utf8 c (take n cs))))
 
--- Where the first token has the bytes of `front` and the two characters of `two` follow, any other
+-- Where the first token has the bytes of `own` and the two characters of `two` follow, any other
 -- text with these has it too.
-of_parts : (strings : Strings) (at_start : Bool) (front two rest other : List ℕ)
-    → (token_at strings at_start (chars (front ++ (two ++ rest)))).len ≡ length front
-    → IsUtf8 front → IsUtf8 two → 2 ≤ length (chars two)
-    → token_at strings at_start (chars (front ++ (two ++ other)))
-    ≡ token_at strings at_start (chars (front ++ (two ++ rest)))
-of_parts strings at_start front two rest other len utf8 utf8_two some =
+of_parts : (strings : Strings) (at_start : Bool) (own two rest other : List ℕ)
+    → (token_at strings at_start (chars (own ++ (two ++ rest)))).len ≡ length own
+    → IsUtf8 own → IsUtf8 two → 2 ≤ length (chars two)
+    → token_at strings at_start (chars (own ++ (two ++ other)))
+    ≡ token_at strings at_start (chars (own ++ (two ++ rest)))
+of_parts strings at_start own two rest other len utf8 utf8_two some =
     tokens_look_ahead strings at_start u v agrees
   where
     u : List ℕ
-    u = chars (front ++ (two ++ rest))
+    u = chars (own ++ (two ++ rest))
 
     v : List ℕ
-    v = chars (front ++ (two ++ other))
+    v = chars (own ++ (two ++ other))
 
     known : List ℕ
-    known = chars front ++ chars two
+    known = chars own ++ chars two
 
     -- both begin with the characters that are known
-    split : (r : List ℕ) → chars (front ++ (two ++ r)) ≡ known ++ chars r
-    split r = chars-append front (two ++ r) utf8
-        ∙ ap (λ w. chars front ++ w) (chars-append two r utf8_two)
-        ∙ sym (append_assoc (chars front) (chars two) (chars r))
+    split : (r : List ℕ) → chars (own ++ (two ++ r)) ≡ known ++ chars r
+    split r = chars-append own (two ++ r) utf8
+        ∙ ap (λ w. chars own ++ w) (chars-append two r utf8_two)
+        ∙ sym (append_assoc (chars own) (chars two) (chars r))
 
-    long : length u ≡ length (chars front) + length (chars two) + length (chars rest)
+    long : length u ≡ length (chars own) + length (chars two) + length (chars rest)
     long = ap length (split rest) ∙ length-append known (chars rest)
-        ∙ ap (λ n. n + length (chars rest)) (length-append (chars front) (chars two))
+        ∙ ap (λ n. n + length (chars rest)) (length-append (chars own) (chars two))
 
-    front_bytes : utf8_len (take (length (chars front)) u) ≡ length front
-    front_bytes =
-        let n = length (chars front) in
-        let taken : take n u ≡ chars front =
+    own_bytes : utf8_len (take (length (chars own)) u) ≡ length own
+    own_bytes =
+        let n = length (chars own) in
+        let taken : take n u ≡ chars own =
         ap (take n) (split rest)
         ∙ take-append-le n known (chars rest)
-        (omega (arith, length-append (chars front) (chars two)))
-        ∙ take-append_seam (chars front) (chars two) in
-        ap utf8_len taken ∙ sym (length_bytes front (is_utf8-from_IsUtf8 front utf8))
+        (omega (arith, length-append (chars own) (chars two)))
+        ∙ take-append_seam (chars own) (chars two) in
+        ap utf8_len taken ∙ sym (length_bytes own (is_utf8-from_IsUtf8 own utf8))
 
-    end : (lexeme_at strings at_start u).end ≡ length (chars front)
+    end : (lexeme_at strings at_start u).end ≡ length (chars own)
     end = same_count u _ _ (tokens_within strings at_start u (omega (arith, long)))
-        (omega (arith, long)) (len ∙ sym front_bytes)
+        (omega (arith, long)) (len ∙ sym own_bytes)
 
     agrees : Agrees ((lexeme_at strings at_start u).end + 2) u v
     agrees =
         let n = (lexeme_at strings at_start u).end + 2 in
-        let less : n ≤ length known = omega (arith, end, length-append (chars front) (chars two)) in
+        let less : n ≤ length known = omega (arith, end, length-append (chars own) (chars two)) in
         record {
           within = omega (arith, end, long);
           same = ap (take n) (split other) ∙ take-append-le n known (chars other) less
@@ -91,9 +91,9 @@ of_parts strings at_start front two rest other len utf8 utf8_two some =
 
 -- The first token is decided by its bytes and the two characters after it.
 pub texts_look_ahead : TextsLookAhead
-texts_look_ahead strings at_start text front two rest other e len utf8 utf8_two some =
+texts_look_ahead strings at_start text own two rest other e len utf8 utf8_two some =
     let same = ap (λ w. token_at strings at_start (chars w)) e in
-    of_parts strings at_start front two rest other (ap (λ (t : Token). t.len) (sym same)
+    of_parts strings at_start own two rest other (ap (λ (t : Token). t.len) (sym same)
     ∙ sym len) utf8 utf8_two some ∙ sym same
 
 -- ---- progress

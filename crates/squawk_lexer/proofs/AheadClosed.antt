@@ -72,8 +72,8 @@ quoted_far escapes q c (d ∷ cs) =
 
 -- The length of a quoted text is decided by its characters and by the test of the next for the
 -- quote.
-quoted_looks : {told : Tests} {pairs : PairTests} (escapes : Bool) (q : ℕ) → told (λ c. eqb c q)
-    → Looks told pairs (quoted_len escapes q) (λ v. unwrap_or (quoted_len escapes q v) (length v))
+quoted_looks : {tests : Tests} {pairs : PairTests} (escapes : Bool) (q : ℕ) → tests (λ c. eqb c q)
+    → Looks tests pairs (quoted_len escapes q) (λ v. unwrap_or (quoted_len escapes q v) (length v))
 quoted_looks escapes q t [] c d r s f h = absurd (omega (arith, quoted_far escapes q c r))
 quoted_looks escapes q t (x ∷ []) c d r s f h =
     let m = λ (o : Option ℕ). unwrap_or o (length (x ∷ c ∷ r)) in
@@ -178,9 +178,9 @@ comment_looks (suc i) (x ∷ y ∷ xs) c d r s h =
 
 -- What is found from index i on, and the index at which it ends, are the same in both texts. An
 -- end at k or before it was found, since the text is longer.
-pub found_same : {told : Tests} {pairs : PairTests} (g : List ℕ → Option ℕ)
-    → Looks told pairs g (λ v. unwrap_or (g v) (length v)) → (k : ℕ) (u v : List ℕ) (i : ℕ)
-    → Alike told pairs k u v → end_or_text_end u i (g (drop i u)) ≤ k
+pub found_same : {tests : Tests} {pairs : PairTests} (g : List ℕ → Option ℕ)
+    → Looks tests pairs g (λ v. unwrap_or (g v) (length v)) → (k : ℕ) (u v : List ℕ) (i : ℕ)
+    → Alike tests pairs k u v → end_or_text_end u i (g (drop i u)) ≤ k
     → (g (drop i v) ≡ g (drop i u))
     × (end_or_text_end v i (g (drop i v)) ≡ end_or_text_end u i (g (drop i u)))
 found_same g looks k u v i a h = by (seen g (λ w. unwrap_or (g w) (length w)) looks k u v i a h)
@@ -197,16 +197,16 @@ found_same g looks k u v i a h = by (seen g (λ w. unwrap_or (g w) (length w)) l
     by e = (e, ap (end_or_text_end v i) e ∙ end (g (drop i u)) h)
 
 -- So for a quoted text,
-pub quoted_same : {told : Tests} {pairs : PairTests} (escapes : Bool) (q : ℕ) → told (λ c. eqb c q)
-    → (k : ℕ) (u v : List ℕ) (i : ℕ) → Alike told pairs k u v → quoted_end escapes q u i ≤ k
+pub quoted_same : {tests : Tests} {pairs : PairTests} (escapes : Bool) (q : ℕ) → tests (λ c. eqb c q)
+    → (k : ℕ) (u v : List ℕ) (i : ℕ) → Alike tests pairs k u v → quoted_end escapes q u i ≤ k
     → (quoted_len escapes q (drop i v) ≡ quoted_len escapes q (drop i u))
     × (quoted_end escapes q v i ≡ quoted_end escapes q u i)
 quoted_same escapes q t k u v i a h =
     found_same (quoted_len escapes q) (quoted_looks escapes q t) k u v i a h
 
 -- and for a block comment.
-pub comment_same : {told : Tests} {pairs : PairTests} (inner k : ℕ) (u v : List ℕ) (i : ℕ)
-    → Alike told pairs k u v → comment_end inner u i ≤ k
+pub comment_same : {tests : Tests} {pairs : PairTests} (inner k : ℕ) (u v : List ℕ) (i : ℕ)
+    → Alike tests pairs k u v → comment_end inner u i ≤ k
     → (comment_len inner (drop i v) ≡ comment_len inner (drop i u))
     × (comment_end inner v i ≡ comment_end inner u i)
 comment_same inner k u v i a h = found_same (comment_len inner)
@@ -252,7 +252,7 @@ find_looks w (x ∷ xs) c d r s h =
     (length (x ∷ xs ++ c ∷ r)) (length xs) (omega arith) (find_looks w xs c d r s)
     (omega arith)) h
 
--- A run of a smaller class is no longer.
+-- A run of a smaller class is not longer.
 fewer : (p q : ℕ → Bool) → ((c : ℕ) → p c ≡ true → q c ≡ true) → (v : List ℕ)
     → prefix_len p v ≤ prefix_len q v
 fewer p q only [] = omega arith
@@ -287,8 +287,8 @@ tag_in_junk u = by (is_ident_start (get_or u 1 0)) refl
     by false t = omega (arith, junk_on u (run_end is_digit u 1))
 
 -- The end of a tag is the same in both texts, by tests of the character there.
-tag_same : {told : Tests} {pairs : PairTests} → Asks told pairs → (k : ℕ) (u v : List ℕ)
-    → Alike told pairs k u v → 1 ≤ k → tag_end u ≤ k → tag_end v ≡ tag_end u
+tag_same : {tests : Tests} {pairs : PairTests} → Asks tests pairs → (k : ℕ) (u v : List ℕ)
+    → Alike tests pairs k u v → 1 ≤ k → tag_end u ≤ k → tag_end v ≡ tag_end u
 tag_same w k u v a some h =
     pick (λ n. n) (is_ident_start (get_or u 1 0)) (is_ident_start (get_or v 1 0))
     (run_end is_tag_cont u 1) 1 (run_end is_tag_cont v 1) 1 k
@@ -304,7 +304,7 @@ tag_in u = by (is_dollar_quote_start u)
     by false = tag_in_junk u
 
 -- A dollar-quoted string is the same in both texts.
-string_same : {told : Tests} {pairs : PairTests} (k : ℕ) (u v : List ℕ) → Alike told pairs k u v
+string_same : {tests : Tests} {pairs : PairTests} (k : ℕ) (u v : List ℕ) → Alike tests pairs k u v
     → tag_end v ≡ tag_end u → (dollar_string u).end ≤ k → dollar_string v ≡ dollar_string u
 string_same k u v a e h =
     let i = tag_end u + 1 in
@@ -324,8 +324,8 @@ string_same k u v a e h =
     ∙ ap (literal_until (DollarQuotedString (is_some (delimiter_end u)))) stops
 
 -- So is every token that begins with `$`.
-pub dollar_same : {told : Tests} {pairs : PairTests} → Asks told pairs → (k : ℕ) (u v : List ℕ)
-    → Alike told pairs k u v → 1 ≤ k → (dollar u).end ≤ k → dollar v ≡ dollar u
+pub dollar_same : {tests : Tests} {pairs : PairTests} → Asks tests pairs → (k : ℕ) (u v : List ℕ)
+    → Alike tests pairs k u v → 1 ≤ k → (dollar u).end ≤ k → dollar v ≡ dollar u
 dollar_same w k u v a some h =
     let within : tag_end u ≤ k = omega (arith, tag_in u) in
     let e : tag_end v ≡ tag_end u = tag_same w k u v a some within in

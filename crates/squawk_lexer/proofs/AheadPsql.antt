@@ -21,17 +21,17 @@ use Rattle.squawk_lexer.proofs.AheadClosed.{far, later, shorter, either_far}
 -- ---- the tests of psql commands
 
 -- The tests of the character after a command.
-pub record AsksPsql (told : Tests) : Type 0 where
-  pub line_end : told is_line_end
-  pub not_line_end : told is_not_line_end
-  pub blank : told is_blank
-  pub command_word : told is_command_char
-  pub ends : told ends_arguments
-  pub other : (x : ℕ) → is_line_end x ≡ false → told (λ c. eqb c x)
+pub record AsksPsql (tests : Tests) : Type 0 where
+  pub line_end : tests is_line_end
+  pub not_line_end : tests is_not_line_end
+  pub blank : tests is_blank
+  pub command_word : tests is_command_char
+  pub ends : tests ends_arguments
+  pub other : (x : ℕ) → is_line_end x ≡ false → tests (λ c. eqb c x)
 
 -- ---- quotes
 
--- A quote is no line end.
+-- A quote is not a line end.
 quote_plain : (q : ℕ) → is_quote q ≡ true → is_line_end q ≡ false
 quote_plain q t = grind (arith, nat_tests)
 
@@ -47,7 +47,7 @@ far_one : (o : Option ℕ) (j total : ℕ) → 1 ≤ j → 1 ≤ total
 far_one None j total p q = q
 far_one (Some m) j total p q = omega arith
 
--- A quote reads a character that is no line end.
+-- A quote reads a character that is not a line end.
 quote_far : (q c : ℕ) (cs : List ℕ) → is_line_end c ≡ false → 1 ≤ quote_len q (c ∷ cs)
 quote_far q c [] t = rw t (either_far (eqb c q) (Some 1) None 1 1 (omega arith) (omega arith))
 quote_far q c (d ∷ cs) t =
@@ -68,8 +68,8 @@ two_on : (q x y : ℕ) (v : List ℕ) → is_line_end x ≡ false → is_escape_
 two_on q x y v t p = rw (t, pair_plain q x y p) (omega arith)
 
 -- Where a quote is closed is decided by its characters and by tests of the next.
-close_looks : {told : Tests} {pairs : PairTests}
-    → AsksPsql told → (q : ℕ) → is_line_end q ≡ false → Looks told pairs (close_len q) (quote_len q)
+close_looks : {tests : Tests} {pairs : PairTests}
+    → AsksPsql tests → (q : ℕ) → is_line_end q ≡ false → Looks tests pairs (close_len q) (quote_len q)
 close_looks w q plain [] c d r s f h = by (is_line_end c) refl
   where
     by : (b : Bool) → is_line_end c ≡ b → close_len q (d ∷ s) ≡ close_len q (c ∷ r)
@@ -104,8 +104,8 @@ close_looks w q plain (x ∷ y ∷ xs) c d r s f h =
     (one_on x (y ∷ xs ++ c ∷ r) t) (close_looks w q plain (y ∷ xs) c d r s f) (omega arith)))) h
 
 -- So is the length of a quote,
-quote_looks : {told : Tests} {pairs : PairTests}
-    → AsksPsql told → (q : ℕ) → is_line_end q ≡ false → Looks told pairs (quote_len q) (quote_len q)
+quote_looks : {tests : Tests} {pairs : PairTests}
+    → AsksPsql tests → (q : ℕ) → is_line_end q ≡ false → Looks tests pairs (quote_len q) (quote_len q)
 quote_looks w q plain xs c d r s f h =
     ap (λ o. unwrap_or o (prefix_len is_not_line_end (xs ++ d ∷ s)))
     (close_looks w q plain xs c d r s f h) ∙ by (close_len q (xs ++ c ∷ r)) h
@@ -119,8 +119,8 @@ quote_looks w q plain xs c d r s f h =
 -- ---- parts and arguments
 
 -- The length of a part is decided so.
-part_looks : {told : Tests} {pairs : PairTests} → AsksPsql told
-    → (x : ℕ) → Looks told pairs (part_rest x) (part_rest x)
+part_looks : {tests : Tests} {pairs : PairTests} → AsksPsql tests
+    → (x : ℕ) → Looks tests pairs (part_rest x) (part_rest x)
 part_looks w x xs c d r s f h =
     branch (λ n. n) (is_quote x) (quote_len x (xs ++ c ∷ r)) 0 (quote_len x (xs ++ d ∷ s)) 0
     (length xs) (λ t k. quote_looks w x (quote_plain x t) xs c d r s f k) (λ t k. refl) h
@@ -132,8 +132,8 @@ args_far (suc i) [] h = absurd (omega arith)
 args_far (suc i) (c ∷ cs) h = omega (arith, args_far i cs (omega arith))
 
 -- The length of the arguments is decided so.
-args_looks : {told : Tests} {pairs : PairTests} → AsksPsql told
-    → (inside : ℕ) → Looks told pairs (arguments_len inside) (arguments_len inside)
+args_looks : {tests : Tests} {pairs : PairTests} → AsksPsql tests
+    → (inside : ℕ) → Looks tests pairs (arguments_len inside) (arguments_len inside)
 args_looks w (suc i) [] c d r s f h = absurd (omega arith)
 args_looks w zero [] c d r s f h =
     pick (λ n. n) (ends_arguments c) (ends_arguments d) 0 (1 + arguments_len (part_rest c r) r) 0
@@ -154,8 +154,8 @@ args_looks w (suc i) (x ∷ xs) c d r s f h =
     ap (λ n. 1 + n) (args_looks w i xs c d r s f (omega arith))
 
 -- The end of the arguments is the same in both texts.
-pub args_same : {told : Tests} {pairs : PairTests} → AsksPsql told → (k : ℕ) (u v : List ℕ) (i : ℕ)
-    → Alike told pairs k u v → arguments_end u i ≤ k → arguments_end v i ≡ arguments_end u i
+pub args_same : {tests : Tests} {pairs : PairTests} → AsksPsql tests → (k : ℕ) (u v : List ℕ) (i : ℕ)
+    → Alike tests pairs k u v → arguments_end u i ≤ k → arguments_end v i ≡ arguments_end u i
 args_same w k u v i a h =
     ap (λ n. i + n) (seen (arguments_len 0) (arguments_len 0) (args_looks w 0) k u v i a h)
 
@@ -170,8 +170,8 @@ inside_same xs r s (Some n) len h =
     ∙ sym (take-append-le (n - 1) xs r (omega arith)))
 
 -- So is the mark after a part.
-mark_same : {told : Tests} {pairs : PairTests} → AsksPsql told
-    → (mark : Option ℕ) (x : ℕ) (xs : List ℕ) (c d : ℕ) (r s : List ℕ) → Follows told pairs c d r s
+mark_same : {tests : Tests} {pairs : PairTests} → AsksPsql tests
+    → (mark : Option ℕ) (x : ℕ) (xs : List ℕ) (c d : ℕ) (r s : List ℕ) → Follows tests pairs c d r s
     → part_rest x (xs ++ c ∷ r) ≤ length xs
     → mark_after mark x (xs ++ d ∷ s) ≡ mark_after mark x (xs ++ c ∷ r)
 mark_same w mark x xs c d r s f h = by (eqb x 39) refl
@@ -215,9 +215,9 @@ blank_on x v t b = rw (t, blank_is_plain x b) (omega arith)
 
 -- The end of the first marked argument is decided by the characters up to it, or up to the end of
 -- the arguments where none is marked.
-marked_looks : {told : Tests} {pairs : PairTests}
-    → AsksPsql told → (inside : ℕ) (mark : Option ℕ)
-    → Looks told pairs (marked_len inside mark)
+marked_looks : {tests : Tests} {pairs : PairTests}
+    → AsksPsql tests → (inside : ℕ) (mark : Option ℕ)
+    → Looks tests pairs (marked_len inside mark)
     (λ v. unwrap_or (marked_len inside mark v) (arguments_len inside v))
 marked_looks w (suc i) mark [] c d r s f h =
     absurd (omega (
@@ -283,8 +283,8 @@ options_far u i None = omega arith
 options_far u i (Some n) = omega arith
 
 -- The end of the options, and the start and the end of the output, are the same in both texts.
-options_same : {told : Tests} {pairs : PairTests} → AsksPsql told → (k : ℕ) (u v : List ℕ) (i : ℕ)
-    → Alike told pairs k u v → options_end u i (marked_len_at u i) ≤ k
+options_same : {tests : Tests} {pairs : PairTests} → AsksPsql tests → (k : ℕ) (u v : List ℕ) (i : ℕ)
+    → Alike tests pairs k u v → options_end u i (marked_len_at u i) ≤ k
     → options_end v i (marked_len_at v i) ≡ options_end u i (marked_len_at u i)
 options_same z k u v i a h =
     let e : marked_len_at v i ≡ marked_len_at u i =
@@ -297,8 +297,8 @@ options_same z k u v i a h =
     by None h = args_same z k u v i a h
     by (Some n) h = run_same is_blank z.blank k u v (i + n) a h
 
-output_start_same : {told : Tests} {pairs : PairTests}
-    → AsksPsql told → (b : Bool) (k : ℕ) (u v : List ℕ) (i : ℕ) → Alike told pairs k u v
+output_start_same : {tests : Tests} {pairs : PairTests}
+    → AsksPsql tests → (b : Bool) (k : ℕ) (u v : List ℕ) (i : ℕ) → Alike tests pairs k u v
     → output_start b u i ≤ k → output_start b v i ≡ output_start b u i
 output_start_same z b k u v i a h =
     pick (λ n. n) (b && eqb (get_or u i 0) 40)
@@ -307,8 +307,8 @@ output_start_same z b k u v i a h =
     (ap (λ e. b && e) (test (λ c. eqb c 40) (z.other 40 refl) k u v i a
     (omega (arith, output_start_on b u i)))) (λ t e. options_same z k u v i a e) (λ t e. refl) h
 
-output_end_same : {told : Tests} {pairs : PairTests}
-    → AsksPsql told → (k : ℕ) (u v : List ℕ) (p : ℕ) → Alike told pairs k u v → output_end u p ≤ k
+output_end_same : {tests : Tests} {pairs : PairTests}
+    → AsksPsql tests → (k : ℕ) (u v : List ℕ) (p : ℕ) → Alike tests pairs k u v → output_end u p ≤ k
     → output_end v p ≡ output_end u p
 output_end_same z k u v p a h =
     pick (λ n. n) (eqb (get_or u p 0) 124) (eqb (get_or v p 0) 124) (line_end u p)
@@ -344,8 +344,8 @@ end_far w i u = by (takes_line w) (is_among pipe_words w)
     by false false = omega arith
 
 -- The end of the output, and that of the command, are the same in both texts.
-output_same : {told : Tests} {pairs : PairTests}
-    → AsksPsql told → (w : List ℕ) (k : ℕ) (u v : List ℕ) (i : ℕ) → Alike told pairs k u v
+output_same : {tests : Tests} {pairs : PairTests}
+    → AsksPsql tests → (w : List ℕ) (k : ℕ) (u v : List ℕ) (i : ℕ) → Alike tests pairs k u v
     → output_end u (output_at w i u) ≤ k → output_end v (output_at w i v)
     ≡ output_end u (output_at w i u)
 output_same z w k u v i a h =
@@ -359,8 +359,8 @@ output_same z w k u v i a h =
     ∙ ap (output_end v) (output_start_same z b k u v blanks a start)
     ∙ output_end_same z k u v p a h
 
-end_same : {told : Tests} {pairs : PairTests} → AsksPsql told
-    → (w : List ℕ) (k : ℕ) (u v : List ℕ) (i : ℕ) → Alike told pairs k u v → end_at w i u ≤ k
+end_same : {tests : Tests} {pairs : PairTests} → AsksPsql tests
+    → (w : List ℕ) (k : ℕ) (u v : List ℕ) (i : ℕ) → Alike tests pairs k u v → end_at w i u ≤ k
     → end_at w i v ≡ end_at w i u
 end_same z w k u v i a h =
     branch (λ n. n) (takes_line w) (line_end u i) _ (line_end v i) _ k
@@ -369,8 +369,8 @@ end_same z w k u v i a h =
     (λ s e. output_same z w k u v i a e) (λ s e. args_same z k u v i a e)) h
 
 -- A psql command is the same in both texts.
-pub psql_same : {told : Tests} {pairs : PairTests} → AsksPsql told → (k : ℕ) (u v : List ℕ)
-    → Alike told pairs k u v → (psql u).end ≤ k → psql v ≡ psql u
+pub psql_same : {tests : Tests} {pairs : PairTests} → AsksPsql tests → (k : ℕ) (u v : List ℕ)
+    → Alike tests pairs k u v → (psql u).end ≤ k → psql v ≡ psql u
 psql_same z k u v a h =
     pick end _ _ (lexeme_until (kinds.PsqlCommand false) 2) _
     (lexeme_until (kinds.PsqlCommand false) 2) _ k (second 92 refl) (λ t e. refl)

@@ -14,8 +14,8 @@ use Rattle.squawk_lexer.proofs.Ahead.{Tests, PairTests, Looks, branch, pick, Ali
 -- ---- runs
 
 -- The length of a run is decided by its characters and by the test of the next.
-pub prefix_looks : {told : Tests} {pairs : PairTests} (class : ℕ → Bool) → told class
-    → Looks told pairs (prefix_len class) (prefix_len class)
+pub prefix_looks : {tests : Tests} {pairs : PairTests} (class : ℕ → Bool) → tests class
+    → Looks tests pairs (prefix_len class) (prefix_len class)
 prefix_looks class t [] c d r s f h =
     pick (λ n. n) (class c) (class d) (1 + prefix_len class r) 0 (1 + prefix_len class s) 0 0
     (f.one class t) (λ e k. absurd (omega arith)) (λ e k. refl) h
@@ -25,16 +25,16 @@ prefix_looks class t (x ∷ xs) c d r s f h =
     (λ e k. ap (λ n. 1 + n) (prefix_looks class t xs c d r s f (omega arith))) (λ e k. refl) h
 
 -- The end of a run is the same in both texts.
-pub run_same : {told : Tests} {pairs : PairTests} (class : ℕ
-    → Bool) → told class → (k : ℕ) (u v : List ℕ) (i : ℕ) → Alike told pairs k u v
+pub run_same : {tests : Tests} {pairs : PairTests} (class : ℕ
+    → Bool) → tests class → (k : ℕ) (u v : List ℕ) (i : ℕ) → Alike tests pairs k u v
     → run_end class u i ≤ k → run_end class v i ≡ run_end class u i
 run_same class t k u v i a h =
     ap (λ n. i + n) (seen (prefix_len class) (prefix_len class) (prefix_looks class t) k u v i a h)
 
 -- The length of a run of digits is decided by its characters and by tests of the next two, since
 -- `_` (95) belongs to it only before a digit.
-digits_looks : {told : Tests} {pairs : PairTests} (digit : ℕ → Bool) → told digit
-    → pairs (λ c. eqb c 95) digit → Looks told pairs (digits_len digit) (digits_len digit)
+digits_looks : {tests : Tests} {pairs : PairTests} (digit : ℕ → Bool) → tests digit
+    → pairs (λ c. eqb c 95) digit → Looks tests pairs (digits_len digit) (digits_len digit)
 digits_looks digit t p [] c d r s f h =
     pick (λ n. n) _ _ (1 + digits_len digit r) 0 (1 + digits_len digit s) 0 0
     (ap (λ b. b || (eqb d 95 && digit (get_or s 0 0))) (f.one digit t)
@@ -53,40 +53,40 @@ digits_looks digit t p (x ∷ y ∷ xs) c d r s f h =
 -- ---- the tests of words and numbers
 
 -- The tests of the character after a word or a number, and of the two after it.
-pub record Asks (told : Tests) (pairs : PairTests) : Type 0 where
-  pub id_start : told is_ident_start
-  pub id_cont : told is_ident_cont
-  pub tag_cont : told is_tag_cont
-  pub digit : told is_digit
-  pub hex : told is_hex_digit
-  pub letters : (x y : ℕ) → 65 ≤ x → 65 ≤ y → told (λ c. eqb c x || eqb c y)
-  pub no_point : told (λ c. not (eqb c 46))
-  pub dollar : told (λ c. eqb c 36)
-  pub apostrophe : told (λ c. eqb c 39)
-  pub quotation : told (λ c. eqb c 34)
+pub record Asks (tests : Tests) (pairs : PairTests) : Type 0 where
+  pub id_start : tests is_ident_start
+  pub id_cont : tests is_ident_cont
+  pub tag_cont : tests is_tag_cont
+  pub digit : tests is_digit
+  pub hex : tests is_hex_digit
+  pub letters : (x y : ℕ) → 65 ≤ x → 65 ≤ y → tests (λ c. eqb c x || eqb c y)
+  pub no_point : tests (λ c. not (eqb c 46))
+  pub dollar : tests (λ c. eqb c 36)
+  pub apostrophe : tests (λ c. eqb c 39)
+  pub quotation : tests (λ c. eqb c 34)
   pub points : pairs (λ c. eqb c 46) (λ c. not (eqb c 46))
   pub signs : pairs is_sign is_digit
-  pub low_digit : pairs (λ c. eqb c 95) is_digit
-  pub low_hex : pairs (λ c. eqb c 95) is_hex_digit
+  pub underscore_digit : pairs (λ c. eqb c 95) is_digit
+  pub underscore_hex_digit : pairs (λ c. eqb c 95) is_hex_digit
   pub and_string : pairs (λ c. eqb c 38) (λ c. eqb c 39)
   pub and_ident : pairs (λ c. eqb c 38) (λ c. eqb c 34)
 
 -- The ends of runs of digits and of junk are the same in both texts.
-pub digits_same : {told : Tests} {pairs : PairTests}
-    → Asks told pairs → (k : ℕ) (u v : List ℕ) (i : ℕ) → Alike told pairs k u v → digits_end u i ≤ k
+pub digits_same : {tests : Tests} {pairs : PairTests}
+    → Asks tests pairs → (k : ℕ) (u v : List ℕ) (i : ℕ) → Alike tests pairs k u v → digits_end u i ≤ k
     → digits_end v i ≡ digits_end u i
 digits_same w k u v i a h =
     ap (λ n. i + n) (seen (digits_len is_digit) (digits_len is_digit)
-    (digits_looks is_digit w.digit w.low_digit) k u v i a h)
+    (digits_looks is_digit w.digit w.underscore_digit) k u v i a h)
 
-pub hex_same : {told : Tests} {pairs : PairTests} → Asks told pairs → (k : ℕ) (u v : List ℕ) (i : ℕ)
-    → Alike told pairs k u v → hex_digits_end u i ≤ k → hex_digits_end v i ≡ hex_digits_end u i
+pub hex_same : {tests : Tests} {pairs : PairTests} → Asks tests pairs → (k : ℕ) (u v : List ℕ) (i : ℕ)
+    → Alike tests pairs k u v → hex_digits_end u i ≤ k → hex_digits_end v i ≡ hex_digits_end u i
 hex_same w k u v i a h =
     ap (λ n. i + n) (seen (digits_len is_hex_digit) (digits_len is_hex_digit)
-    (digits_looks is_hex_digit w.hex w.low_hex) k u v i a h)
+    (digits_looks is_hex_digit w.hex w.underscore_hex_digit) k u v i a h)
 
-pub junk_same : {told : Tests} {pairs : PairTests}
-    → Asks told pairs → (k : ℕ) (u v : List ℕ) (i : ℕ) → Alike told pairs k u v → junk_end u i ≤ k
+pub junk_same : {tests : Tests} {pairs : PairTests}
+    → Asks tests pairs → (k : ℕ) (u v : List ℕ) (i : ℕ) → Alike tests pairs k u v → junk_end u i ≤ k
     → junk_end v i ≡ junk_end u i
 junk_same w k u v i a h =
     pick (λ n. n) (is_ident_start (get_or u i 0)) (is_ident_start (get_or v i 0))
@@ -97,8 +97,8 @@ junk_same w k u v i a h =
 -- ---- numbers
 
 -- So are the ends of an exponent and of the digits after a point,
-exponent_same : {told : Tests} {pairs : PairTests}
-    → Asks told pairs → (k : ℕ) (u v : List ℕ) (i : ℕ) → Alike told pairs k u v
+exponent_same : {tests : Tests} {pairs : PairTests}
+    → Asks tests pairs → (k : ℕ) (u v : List ℕ) (i : ℕ) → Alike tests pairs k u v
     → exponent_end u i ≤ k → exponent_end v i ≡ exponent_end u i
 exponent_same w k u v i a h =
     let within : i + 1 ≤ k = omega (arith, exponent_on u i) in
@@ -109,8 +109,8 @@ exponent_same w k u v i a h =
     (test is_digit w.digit k u v (i + 1) a within)
     (λ s e. digits_same w k u v (i + 1) a e) (λ s e. refl)) h
 
-fraction_same : {told : Tests} {pairs : PairTests}
-    → Asks told pairs → (k : ℕ) (u v : List ℕ) (i : ℕ) → Alike told pairs k u v
+fraction_same : {tests : Tests} {pairs : PairTests}
+    → Asks tests pairs → (k : ℕ) (u v : List ℕ) (i : ℕ) → Alike tests pairs k u v
     → fraction_end u i ≤ k → fraction_end v i ≡ fraction_end u i
 fraction_same w k u v i a h =
     pick (λ n. n) (is_digit (get_or u i 0)) (is_digit (get_or v i 0)) (digits_end u i) i
@@ -119,16 +119,16 @@ fraction_same w k u v i a h =
     (λ t e. digits_same w k u v i a e) (λ t e. refl) h
 
 -- integers, without and with a base prefix,
-int_same : {told : Tests} {pairs : PairTests} → Asks told pairs
-    → (base : Base) (empty : Bool) (k : ℕ) (u v : List ℕ) (n : ℕ) → Alike told pairs k u v
+int_same : {tests : Tests} {pairs : PairTests} → Asks tests pairs
+    → (base : Base) (empty : Bool) (k : ℕ) (u v : List ℕ) (n : ℕ) → Alike tests pairs k u v
     → (int base empty u n).end ≤ k → int base empty v n ≡ int base empty u n
 int_same w base empty k u v n a h =
-    let front = take_same k u v n a (omega (arith, junk_on u n)) in
+    let prefix = take_same k u v n a (omega (arith, junk_on u n)) in
     let end = junk_same w k u v n a h in
-    rw (front, end) refl
+    rw (prefix, end) refl
 
-based_same : {told : Tests} {pairs : PairTests}
-    → Asks told pairs → (base : Base) (k : ℕ) (u v : List ℕ) (n m : ℕ) → Alike told pairs k u v
+based_same : {tests : Tests} {pairs : PairTests}
+    → Asks tests pairs → (base : Base) (k : ℕ) (u v : List ℕ) (n m : ℕ) → Alike tests pairs k u v
     → (m ≤ k → n ≡ m) → (based_int base u m).end ≤ k → based_int base v n ≡ based_int base u m
 based_same w base k u v n m a same h =
     let e : n ≡ m = same (omega (arith, junk_on u m)) in
@@ -136,21 +136,21 @@ based_same w base k u v n m a same h =
     ∙ int_same w base (eqb m 2 && eqb (junk_end u m) m) k u v m a h
 
 -- and numbers with a point or an exponent.
-numeric_same : {told : Tests} {pairs : PairTests}
-    → Asks told pairs → (empty : Option ℕ) (k : ℕ) (u v : List ℕ) (n : ℕ) → Alike told pairs k u v
+numeric_same : {tests : Tests} {pairs : PairTests}
+    → Asks tests pairs → (empty : Option ℕ) (k : ℕ) (u v : List ℕ) (n : ℕ) → Alike tests pairs k u v
     → (numeric empty u n).end ≤ k → numeric empty v n ≡ numeric empty u n
 numeric_same w empty k u v n a h =
-    let front = take_same k u v n a (omega (arith, junk_on u n)) in
+    let prefix = take_same k u v n a (omega (arith, junk_on u n)) in
     let end = junk_same w k u v n a h in
-    rw (front, end) refl
+    rw (prefix, end) refl
 
-with_exponent_same : {told : Tests} {pairs : PairTests}
-    → Asks told pairs → (k : ℕ) (u v : List ℕ) (i : ℕ) → Alike told pairs k u v
+with_exponent_same : {tests : Tests} {pairs : PairTests}
+    → Asks tests pairs → (k : ℕ) (u v : List ℕ) (i : ℕ) → Alike tests pairs k u v
     → (with_exponent u i).end ≤ k → with_exponent v i ≡ with_exponent u i
 with_exponent_same w k u v i a h =
     let e = exponent_same w k u v i a (omega (arith, junk_on u (exponent_end u i))) in
-    let front = take_same k u v i a (omega (arith, with_exponent_on u i)) in
-    rw (e, front) (numeric_same w (cond (eqb (exponent_end u i) (i + 1))
+    let prefix = take_same k u v i a (omega (arith, with_exponent_on u i)) in
+    rw (e, prefix) (numeric_same w (cond (eqb (exponent_end u i) (i + 1))
     (Some (utf8_len (take i u))) None) k u v (exponent_end u i) a h)
 
 -- The digits after the point end within the number.
@@ -164,8 +164,8 @@ fraction_in_number u i = by (is_exponent_letter (get_or u (fraction_end u i) 0))
     by false = junk_on u (fraction_end u i)
 
 -- Every number is the same in both texts.
-pub fractional_same : {told : Tests} {pairs : PairTests}
-    → Asks told pairs → (k : ℕ) (u v : List ℕ) (i : ℕ) → Alike told pairs k u v
+pub fractional_same : {tests : Tests} {pairs : PairTests}
+    → Asks tests pairs → (k : ℕ) (u v : List ℕ) (i : ℕ) → Alike tests pairs k u v
     → (fractional u i).end ≤ k → fractional v i ≡ fractional u i
 fractional_same w k u v i a h =
     let n = fraction_end u i in
@@ -178,8 +178,8 @@ fractional_same w k u v i a h =
     (test is_exponent_letter (w.letters 101 69 (omega arith) (omega arith)) k u v n a within)
     (λ t e. with_exponent_same w k u v n a e) (λ t e. numeric_same w None k u v n a e) h)
 
-decimal_same : {told : Tests} {pairs : PairTests} → Asks told pairs → (k : ℕ) (u v : List ℕ) (i : ℕ)
-    → Alike told pairs k u v → (decimal_from u i).end ≤ k → decimal_from v i ≡ decimal_from u i
+decimal_same : {tests : Tests} {pairs : PairTests} → Asks tests pairs → (k : ℕ) (u v : List ℕ) (i : ℕ)
+    → Alike tests pairs k u v → (decimal_from u i).end ≤ k → decimal_from v i ≡ decimal_from u i
 decimal_same w k u v i a h =
     let within : i ≤ k = omega (arith, decimal_on u i) in
     pick (λ (x : Lexeme). x.end) _ _ (fractional u (i + 1)) _ (fractional v (i + 1)) _ k (pair
@@ -190,8 +190,8 @@ decimal_same w k u v i a h =
     (test is_exponent_letter (w.letters 101 69 (omega arith) (omega arith)) k u v i a within)
     (λ s e. with_exponent_same w k u v i a e) (λ s e. int_same w Decimal false k u v i a e)) h
 
-pub number_same : {told : Tests} {pairs : PairTests} → Asks told pairs → (k : ℕ) (u v : List ℕ)
-    → Alike told pairs k u v → (number u).end ≤ k → number v ≡ number u
+pub number_same : {tests : Tests} {pairs : PairTests} → Asks tests pairs → (k : ℕ) (u v : List ℕ)
+    → Alike tests pairs k u v → (number u).end ≤ k → number v ≡ number u
 number_same w k u v a h =
     pick (λ (x : Lexeme). x.end) _ _ (based_int Binary u (digits_end u 2)) _
     (based_int Binary v (digits_end v 2)) _ k (letter 98 66 (omega arith) (omega arith))
@@ -225,12 +225,12 @@ number_same w k u v a h =
     le_trans x y z p q = omega arith
 
 -- A positional parameter is the same in both texts.
-pub parameter_same : {told : Tests} {pairs : PairTests} → Asks told pairs → (k : ℕ) (u v : List ℕ)
-    → Alike told pairs k u v → (parameter u).end ≤ k → parameter v ≡ parameter u
+pub parameter_same : {tests : Tests} {pairs : PairTests} → Asks tests pairs → (k : ℕ) (u v : List ℕ)
+    → Alike tests pairs k u v → (parameter u).end ≤ k → parameter v ≡ parameter u
 parameter_same w k u v a h =
     let n = run_end is_digit u 1 in
     let within : n ≤ k = omega (arith, junk_on u n) in
     let e : run_end is_digit v 1 ≡ n = run_same is_digit w.digit k u v 1 a within in
-    let front = take_same k u v n a within in
+    let prefix = take_same k u v n a within in
     let end = junk_same w k u v n a h in
-    rw (e, front, end) refl
+    rw (e, prefix, end) refl

@@ -26,16 +26,16 @@ use Rattle.squawk_lexer.proofs.AheadPsql.{AsksPsql, psql_same}
 -- ---- words
 
 -- Strings and quoted identifiers are the same in both texts.
-string_same : {told : Tests} {pairs : PairTests}
-    → Asks told pairs → (kind : Bool → LiteralKind) (escapes : Bool) (k : ℕ) (u v : List ℕ) (i : ℕ)
-    → Alike told pairs k u v → (string kind escapes u i).end ≤ k
+string_same : {tests : Tests} {pairs : PairTests}
+    → Asks tests pairs → (kind : Bool → LiteralKind) (escapes : Bool) (k : ℕ) (u v : List ℕ) (i : ℕ)
+    → Alike tests pairs k u v → (string kind escapes u i).end ≤ k
     → string kind escapes v i ≡ string kind escapes u i
 string_same w kind escapes k u v i a h =
     let (found, ends) = quoted_same escapes apostrophe w.apostrophe k u v i a h in
     rw (ends, found) refl
 
-quoted_ident_same : {told : Tests} {pairs : PairTests}
-    → Asks told pairs → (uescape : Bool) (k : ℕ) (u v : List ℕ) (i : ℕ) → Alike told pairs k u v
+quoted_ident_same : {tests : Tests} {pairs : PairTests}
+    → Asks tests pairs → (uescape : Bool) (k : ℕ) (u v : List ℕ) (i : ℕ) → Alike tests pairs k u v
     → (quoted_ident uescape u i).end ≤ k → quoted_ident uescape v i ≡ quoted_ident uescape u i
 quoted_ident_same w uescape k u v i a h =
     let (found, ends) = quoted_same false quotation_mark w.quotation k u v i a h in
@@ -62,8 +62,8 @@ prefix_is c d e =
     ) refl
 
 -- The prefix is the same in both texts.
-prefix_same : {told : Tests} {pairs : PairTests} → Asks told pairs → (k : ℕ) (u v : List ℕ)
-    → Alike told pairs k u v → 1 ≤ k → prefix_of (get_or v 0 0) (get_or v 1 0) (get_or v 2 0)
+prefix_same : {tests : Tests} {pairs : PairTests} → Asks tests pairs → (k : ℕ) (u v : List ℕ)
+    → Alike tests pairs k u v → 1 ≤ k → prefix_of (get_or v 0 0) (get_or v 1 0) (get_or v 2 0)
     ≡ prefix_of (get_or u 0 0) (get_or u 1 0) (get_or u 2 0)
 prefix_same w k u v a some =
     let first : get_or v 0 0 ≡ get_or u 0 0 = read k u v 0 a (omega arith) in
@@ -84,8 +84,8 @@ prefix_same w k u v a some =
     ∙ sym (prefix_is (get_or u 0 0) (get_or u 1 0) (get_or u 2 0))
 
 -- So is the lexeme that it begins.
-prefixed_same : {told : Tests} {pairs : PairTests}
-    → Asks told pairs → (s : StringPrefix) (k : ℕ) (u v : List ℕ) → Alike told pairs k u v
+prefixed_same : {tests : Tests} {pairs : PairTests}
+    → Asks tests pairs → (s : StringPrefix) (k : ℕ) (u v : List ℕ) → Alike tests pairs k u v
     → (lexeme_of_prefix s u).end ≤ k → lexeme_of_prefix s v ≡ lexeme_of_prefix s u
 prefixed_same w National k u v a h = string_same w NationalStr false k u v 2 a h
 prefixed_same w Bit k u v a h = string_same w BitStr false k u v 2 a h
@@ -100,33 +100,33 @@ prefixed_same w NoPrefix k u v a h =
 
 -- The tests of what follows a token, for each form.
 abbrev pub AsksOf : Tests → PairTests → TokenForm → Type 0
-AsksOf told pairs Whitespace = told is_whitespace
-AsksOf told pairs LineComment = told is_not_line_end
-AsksOf told pairs BlockComment = ⊤
-AsksOf told pairs Psql = AsksPsql told
-AsksOf told pairs DotDot = ⊤
-AsksOf told pairs Symbol = ⊤
-AsksOf told pairs _ = Asks told pairs
+AsksOf tests pairs Whitespace = tests is_whitespace
+AsksOf tests pairs LineComment = tests is_not_line_end
+AsksOf tests pairs BlockComment = ⊤
+AsksOf tests pairs Psql = AsksPsql tests
+AsksOf tests pairs DotDot = ⊤
+AsksOf tests pairs Symbol = ⊤
+AsksOf tests pairs _ = Asks tests pairs
 
 -- The tests of every form, from those of each kind of token.
-pub asks_form : {told : Tests} {pairs : PairTests} → Asks told pairs → AsksPsql told
-    → told is_whitespace → told is_not_line_end → (s : TokenForm) → AsksOf told pairs s
-asks_form asks psql white line Whitespace = white
-asks_form asks psql white line LineComment = line
-asks_form asks psql white line BlockComment = tt
-asks_form asks psql white line String = asks
-asks_form asks psql white line QuotedIdent = asks
-asks_form asks psql white line Word = asks
-asks_form asks psql white line Dollar = asks
-asks_form asks psql white line Number = asks
-asks_form asks psql white line DotDot = tt
-asks_form asks psql white line Fraction = asks
-asks_form asks psql white line Psql = psql
-asks_form asks psql white line Symbol = tt
+pub asks_form : {tests : Tests} {pairs : PairTests} → Asks tests pairs → AsksPsql tests
+    → tests is_whitespace → tests is_not_line_end → (s : TokenForm) → AsksOf tests pairs s
+asks_form asks psql whitespace line Whitespace = whitespace
+asks_form asks psql whitespace line LineComment = line
+asks_form asks psql whitespace line BlockComment = tt
+asks_form asks psql whitespace line String = asks
+asks_form asks psql whitespace line QuotedIdent = asks
+asks_form asks psql whitespace line Word = asks
+asks_form asks psql whitespace line Dollar = asks
+asks_form asks psql whitespace line Number = asks
+asks_form asks psql whitespace line DotDot = tt
+asks_form asks psql whitespace line Fraction = asks
+asks_form asks psql whitespace line Psql = psql
+asks_form asks psql whitespace line Symbol = tt
 
 -- The lexeme of each form is the same in both texts.
-pub form_same : {told : Tests} {pairs : PairTests} (strings : Strings) (s : TokenForm)
-    → AsksOf told pairs s → (k : ℕ) (u v : List ℕ) → Alike told pairs k u v → 1 ≤ k
+pub form_same : {tests : Tests} {pairs : PairTests} (strings : Strings) (s : TokenForm)
+    → AsksOf tests pairs s → (k : ℕ) (u v : List ℕ) → Alike tests pairs k u v → 1 ≤ k
     → (lexeme_of_form strings s u).end ≤ k → lexeme_of_form strings s v ≡ lexeme_of_form strings s u
 form_same strings Whitespace w k u v a some h =
     ap (lexeme_until kinds.Whitespace) (run_same is_whitespace w k u v 0 a h)
@@ -153,9 +153,9 @@ abbrev pub first_form : List ℕ → TokenForm
 first_form u = token_form (get_or u 0 0) (get_or u 1 0)
 
 -- A token is the same in texts that are alike up to its end.
-pub lexeme_same : {told : Tests} {pairs : PairTests} (strings : Strings) (s : Bool) (k : ℕ)
-    (u v : List ℕ) → Alike told pairs k u v → first_form v ≡ first_form u
-    → AsksOf told pairs (first_form u) → (lexeme_at strings s u).end ≡ k
+pub lexeme_same : {tests : Tests} {pairs : PairTests} (strings : Strings) (s : Bool) (k : ℕ)
+    (u v : List ℕ) → Alike tests pairs k u v → first_form v ≡ first_form u
+    → AsksOf tests pairs (first_form u) → (lexeme_at strings s u).end ≡ k
     → lexeme_at strings s v ≡ lexeme_at strings s u
 lexeme_same strings s k u v a rows w e =
     pick (λ (x : Lexeme). x.end) _ _ (lexeme_until kinds.Whitespace 1) (lexeme_of strings u)
@@ -178,8 +178,8 @@ abbrev pub token_from : Lexeme → List ℕ → Token
 token_from x u = record { kind = x.kind; len = utf8_len (take x.end u) }
 
 -- So is its length in bytes.
-pub token_of : {told : Tests} {pairs : PairTests} (strings : Strings) (s : Bool) (k : ℕ)
-    (u v : List ℕ) → Alike told pairs k u v → (lexeme_at strings s u).end ≡ k
+pub token_of : {tests : Tests} {pairs : PairTests} (strings : Strings) (s : Bool) (k : ℕ)
+    (u v : List ℕ) → Alike tests pairs k u v → (lexeme_at strings s u).end ≡ k
     → lexeme_at strings s v ≡ lexeme_at strings s u → token_at strings s v ≡ token_at strings s u
 token_of strings s k u v a e same = ap (λ x. token_from x v) same ∙ ap (λ w. record {
   kind = (lexeme_at strings s u).kind;
@@ -211,8 +211,8 @@ any = record {
   quotation = tt;
   points = refl;
   signs = refl;
-  low_digit = refl;
-  low_hex = refl;
+  underscore_digit = refl;
+  underscore_hex_digit = refl;
   and_string = refl;
   and_ident = refl;
 }

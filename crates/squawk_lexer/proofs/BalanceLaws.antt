@@ -16,7 +16,7 @@ open_on : (p : CommentPart) (ps : List CommentPart) (n m k : ℕ) → n + opens_
 open_on p ps n m k e h =
     omega (arith, h, e, sum_by-cons opens_in p (take k ps), sum_by-cons closes_in p (take k ps))
 
--- The law with one more part in front, where n comments are open before it and m after it.
+-- The law with one more part before it, where n comments are open before it and m after it.
 more : (p : CommentPart) (ps : List CommentPart) (n m : ℕ) (o : Option ℕ) → 0 < n
     → n + opens_in p ≡ m + closes_in p → Ends m ps o
     → Ends n (p ∷ ps) (option_map (λ l. l + comment_part_len p) o)

@@ -9,7 +9,7 @@ use Rattle.squawk_lexer.specs.declared.classes.Class.{Class}
 use Rattle.squawk_lexer.specs.declared.classes.Class.TheVariants.{Whitespace, Blank, IdentCont, Digit, NotLineEnd, TagCont, CommandChar}
 use Rattle.squawk_lexer.specs.Classes.{class_test, is_ident_cont}
 use Rattle.squawk_lexer.specs.Bytes.{HasIdentCont}
-use Rattle.squawk_lexer.proofs.ByteRuns.{Flat}
+use Rattle.squawk_lexer.proofs.ByteRuns.{IsUniform}
 
 -- ---- the table
 
@@ -48,35 +48,35 @@ pub ident_cont_table : HasIdentCont ID_CONT
 unfolding agree_below
 ident_cont_table = record { len = refl; each = λ b lt. from_table ID_CONT b lt refl }
 
--- ---- flat classes
+-- ---- classes beyond ASCII
 
 -- Each class of the cursor holds all characters beyond ASCII, or none.
-flat_white : Flat (class_test Whitespace)
-flat_white b c p q = grind (arith, nat_tests)
+uniform_whitespace : IsUniform (class_test Whitespace)
+uniform_whitespace b c p q = grind (arith, nat_tests)
 
-flat_blank : Flat (class_test Blank)
-flat_blank b c p q = grind (arith, nat_tests)
+uniform_blank : IsUniform (class_test Blank)
+uniform_blank b c p q = grind (arith, nat_tests)
 
-flat_id_cont : Flat (class_test IdentCont)
-flat_id_cont b c p q = grind (arith, nat_tests)
+uniform_id_cont : IsUniform (class_test IdentCont)
+uniform_id_cont b c p q = grind (arith, nat_tests)
 
-flat_digit : Flat (class_test Digit)
-flat_digit b c p q = grind (arith, nat_tests)
+uniform_digit : IsUniform (class_test Digit)
+uniform_digit b c p q = grind (arith, nat_tests)
 
-flat_line : Flat (class_test NotLineEnd)
-flat_line b c p q = grind (arith, nat_tests)
+uniform_line : IsUniform (class_test NotLineEnd)
+uniform_line b c p q = grind (arith, nat_tests)
 
-flat_tag : Flat (class_test TagCont)
-flat_tag b c p q = grind (arith, nat_tests)
+uniform_tag : IsUniform (class_test TagCont)
+uniform_tag b c p q = grind (arith, nat_tests)
 
-flat_word : Flat (class_test CommandChar)
-flat_word b c p q = grind (arith, nat_tests)
+uniform_word : IsUniform (class_test CommandChar)
+uniform_word b c p q = grind (arith, nat_tests)
 
-pub flat_class : (class : Class) → Flat (class_test class)
-flat_class Whitespace = flat_white
-flat_class Blank = flat_blank
-flat_class IdentCont = flat_id_cont
-flat_class Digit = flat_digit
-flat_class NotLineEnd = flat_line
-flat_class TagCont = flat_tag
-flat_class CommandChar = flat_word
+pub uniform_class : (class : Class) → IsUniform (class_test class)
+uniform_class Whitespace = uniform_whitespace
+uniform_class Blank = uniform_blank
+uniform_class IdentCont = uniform_id_cont
+uniform_class Digit = uniform_digit
+uniform_class NotLineEnd = uniform_line
+uniform_class TagCont = uniform_tag
+uniform_class CommandChar = uniform_word

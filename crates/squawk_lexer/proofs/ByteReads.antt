@@ -1,4 +1,4 @@
--- What the bytes at an index tell about the characters there.
+-- The bytes at an index, and the characters there.
 use Rattle.std.proofs.Common.{◌≡◌, ℕ, zero, suc, ◌+◌, ◌<◌, ◌≤◌, false, List, [], ◌∷◌, ◌++◌, get_or, refl, sym, ◌∙◌, ap, subst, inl, inr, ◌⊎◌, eqb, arith, IsUtf8, add-zero}
 use Rattle.std.proofs.lemmas.Bool.{cases_lt}
 use Rattle.std.proofs.lemmas.Bool.Decides.{nat_tests}
@@ -139,7 +139,8 @@ prefix_lead c d x b e f first second third = by (cases_lt c 128) (cases_lt d 128
     by (inr big) other more = prefix_high b e f (subst
         (λ y. 128 ≤ y) (sym first) (lead_high c big)) ∙ sym (prefix_high c d x big)
 
--- A character beyond ASCII is no symbol, so the symbol by the first byte is that by the character.
+-- A character beyond ASCII is not a symbol, so its first byte has the same symbol as the character:
+-- `Unknown`.
 symbol_high : (c : ℕ) → 128 ≤ c → symbol c ≡ Unknown
 unfolding symbol
 symbol_high c big = grind (arith, nat_tests)

@@ -66,22 +66,22 @@ pub record IsCut (bs : List ℕ) (n : ℕ) : Type 0 where
 -- A text may be cut after any number of characters.
 pub cut_after : (bs : List ℕ) (n : ℕ) → IsUtf8 bs → IsCut bs n
 cut_after bs n utf8 =
-    let front = take n (chars bs) in
-    let back = drop n (chars bs) in
-    let both : bs ≡ encode_utf8_all front ++ encode_utf8_all back = sym (encodes-chars bs utf8)
-    ∙ ap encode_utf8_all (sym (take-append-drop n (chars bs))) ∙ encodes-append front back in
-    let len : length (encode_utf8_all front) ≡ utf8_len front = length_encodes front in
-    let back_utf8 : IsUtf8 (encode_utf8_all back) =
-    (back, (scalars_drop n (chars bs) (scalars-chars bs utf8), refl)) in
-    let same : drop (utf8_len front) bs ≡ encode_utf8_all back =
-    ap (λ m. drop m bs) (sym len) ∙ ap (drop (length (encode_utf8_all front))) both
-    ∙ drop-append_seam (encode_utf8_all front) (encode_utf8_all back) in
-    let rest_utf8 : IsUtf8 (drop (utf8_len front) bs) = subst IsUtf8 (sym same) back_utf8 in
+    let prefix = take n (chars bs) in
+    let suffix = drop n (chars bs) in
+    let both : bs ≡ encode_utf8_all prefix ++ encode_utf8_all suffix = sym (encodes-chars bs utf8)
+    ∙ ap encode_utf8_all (sym (take-append-drop n (chars bs))) ∙ encodes-append prefix suffix in
+    let len : length (encode_utf8_all prefix) ≡ utf8_len prefix = length_encodes prefix in
+    let back_utf8 : IsUtf8 (encode_utf8_all suffix) =
+    (suffix, (scalars_drop n (chars bs) (scalars-chars bs utf8), refl)) in
+    let same : drop (utf8_len prefix) bs ≡ encode_utf8_all suffix =
+    ap (λ m. drop m bs) (sym len) ∙ ap (drop (length (encode_utf8_all prefix))) both
+    ∙ drop-append_seam (encode_utf8_all prefix) (encode_utf8_all suffix) in
+    let rest_utf8 : IsUtf8 (drop (utf8_len prefix) bs) = subst IsUtf8 (sym same) back_utf8 in
     record {
       utf8 = rest_utf8;
-      rest = sym (chars_from_encodes back (drop (utf8_len front) bs) rest_utf8 (sym same));
+      rest = sym (chars_from_encodes suffix (drop (utf8_len prefix) bs) rest_utf8 (sym same));
       boundary = subst (IsCharBoundary bs) len
-          (IsCharBoundary-at_seam bs (encode_utf8_all front) (encode_utf8_all back) both back_utf8);
+          (IsCharBoundary-at_seam bs (encode_utf8_all prefix) (encode_utf8_all suffix) both back_utf8);
     }
 
 -- A token that begins at a character boundary ends at one.

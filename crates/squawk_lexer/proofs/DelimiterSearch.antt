@@ -43,17 +43,17 @@ parted d v k e =
 occurs : (d v : List ℕ) (k : ℕ) → starts_with nat_eq (drop k v) d ≡ true
     → OccursAt (encode_utf8_all v) (encode_utf8_all d) (utf8_len (take k v))
 occurs d v k e =
-    let front = encode_utf8_all (take k v) in
-    let back = encode_utf8_all d ++ encode_utf8_all (drop (length d) (drop k v)) in
-    let seam : encode_utf8_all v ≡ front ++ back = parted d v k e in
-    let n : length front ≡ utf8_len (take k v) = length_encodes (take k v) in
-    let all : length (encode_utf8_all v) ≡ length front + length back = ap length seam
-    ∙ length-append front back in
-    let rest : length back ≡ length (encode_utf8_all d)
+    let prefix = encode_utf8_all (take k v) in
+    let suffix = encode_utf8_all d ++ encode_utf8_all (drop (length d) (drop k v)) in
+    let seam : encode_utf8_all v ≡ prefix ++ suffix = parted d v k e in
+    let n : length prefix ≡ utf8_len (take k v) = length_encodes (take k v) in
+    let all : length (encode_utf8_all v) ≡ length prefix + length suffix = ap length seam
+    ∙ length-append prefix suffix in
+    let rest : length suffix ≡ length (encode_utf8_all d)
     + length (encode_utf8_all (drop (length d) (drop k v))) =
     length-append (encode_utf8_all d) _ in
-    let after : drop (utf8_len (take k v)) (encode_utf8_all v) ≡ back =
-    rw (← n) (ap (drop (length front)) seam ∙ drop-append_seam front back) in
+    let after : drop (utf8_len (take k v)) (encode_utf8_all v) ≡ suffix =
+    rw (← n) (ap (drop (length prefix)) seam ∙ drop-append_seam prefix suffix) in
     record {
       fits = omega arith;
       reads = at_reads 0 (encode_utf8_all v) (encode_utf8_all d) (utf8_len (take k v))
@@ -113,12 +113,12 @@ there t (c ∷ cs) b o = by (cases_eq b 0) (cases_lt b (length (encode_utf8 c)))
         → ((m : ℕ) → OccursAt (encode_utf8_all cs) (encode_utf8_all (36 ∷ t)) m → (k : ℕ)
         × IsThere (36 ∷ t) cs m k) → (k : ℕ) × IsThere (36 ∷ t) (c ∷ cs) b k
     by (inl e) inside more =
-        let front : drop 0 (encode_utf8_all (c ∷ cs))
+        let prefix : drop 0 (encode_utf8_all (c ∷ cs))
         ≡ encode_utf8_all (36 ∷ t) ++ drop (0 + length (encode_utf8_all (36 ∷ t)))
         (encode_utf8_all (c ∷ cs)) =
         at_from_reads 0 (encode_utf8_all (c ∷ cs)) (encode_utf8_all (36 ∷ t)) 0 (rw e at o.fits)
         (rw e at o.reads) in
-        let stands = prefix_chars (36 ∷ t) (c ∷ cs) _ front in
+        let stands = prefix_chars (36 ∷ t) (c ∷ cs) _ prefix in
         (0, record { is = e; within = omega arith; stands = stands })
     by (inr n) (inl inside) more = absurd (
         let some = some_needle t in
@@ -133,7 +133,7 @@ there t (c ∷ cs) b o = by (cases_eq b 0) (cases_lt b (length (encode_utf8 c)))
         omega arith)
     by (inr n) (inr past) more =
         let m = b - length (encode_utf8 c) in
-        let back : length (encode_utf8 c) + m ≡ b = omega arith in
+        let suffix : length (encode_utf8 c) + m ≡ b = omega arith in
         let all : length (encode_utf8_all (c ∷ cs))
         ≡ length (encode_utf8 c) + length (encode_utf8_all cs) =
         length-append (encode_utf8 c) (encode_utf8_all cs) in
@@ -225,11 +225,11 @@ needle_some t v b (first, here) =
     let whole : v ≡ (take k v ++ d) ++ rest = sym (take-append-drop k v)
     ∙ ap (λ x. take k v ++ x) goes ∙ sym (append_assoc (take k v) d rest) in
     let len : length (take k v) ≡ k = length-take-le k v (omega (arith, r.within)) in
-    let front : length (take k v ++ d) ≡ k + length d = length-append (take k v) d ∙ omega arith in
+    let prefix : length (take k v ++ d) ≡ k + length d = length-append (take k v) d ∙ omega arith in
     let all : length v ≡ length (take k v ++ d) + length rest = ap length whole
     ∙ length-append (take k v ++ d) rest in
     let taken : take (k + length d) v ≡ take k v ++ d = ap (take (k + length d)) whole
-    ∙ take_at (take k v ++ d) rest (k + length d) front in
+    ∙ take_at (take k v ++ d) rest (k + length d) prefix in
     let sum : utf8_len (take (k + length d) v) ≡ utf8_len (take k v) + utf8_len d =
     ap utf8_len taken ∙ sum_by-append len_utf8 (take k v) d in
     (k + length d, found, omega arith, omega (arith, sum, r.is, length_encodes d))

@@ -9,7 +9,7 @@ after_first : (digit : ℕ → Bool) (c : ℕ) (cs : List ℕ) (i k : ℕ) → i
 after_first digit c cs i k e = ap (is_digit_at digit (c ∷ cs)) e
     ∙ (let next : suc k + 1 ≡ suc (k + 1) = omega arith in rw next refl)
 
--- A run with one more digit in front.
+-- A run with one more digit before it.
 more : (digit : ℕ → Bool) (c : ℕ) (cs : List ℕ) (n : ℕ) → is_digit_at digit (c ∷ cs) 0 ≡ true
     → IsDigitRun digit cs n → IsDigitRun digit (c ∷ cs) (1 + n)
 more digit c cs n t run = record { within = omega (arith, run.within); all = each; stops = stop }

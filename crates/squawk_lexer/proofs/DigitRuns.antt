@@ -15,18 +15,18 @@ use Rattle.squawk_lexer.proofs.ByteRuns.{IsSkip, skip}
 use Rattle.squawk_lexer.proofs.ByteReads.{lead_ascii, lead_high, lead_first, read_ahead}
 
 -- A class that holds no character beyond ASCII.
-abbrev pub Low : (ℕ → Bool) → Type 0
-Low digit = (c : ℕ) → 128 ≤ c → digit c ≡ false
+abbrev pub IsAsciiOnly : (ℕ → Bool) → Type 0
+IsAsciiOnly digit = (c : ℕ) → 128 ≤ c → digit c ≡ false
 
 -- Both classes of digits are such.
-pub low_digit : Low is_digit
-low_digit c h = grind (arith, nat_tests)
+pub ascii_digit : IsAsciiOnly is_digit
+ascii_digit c h = grind (arith, nat_tests)
 
-pub low_hex : Low is_hex_digit
-low_hex c h = grind (arith, nat_tests)
+pub ascii_hex_digit : IsAsciiOnly is_hex_digit
+ascii_hex_digit c h = grind (arith, nat_tests)
 
 -- The first byte and the first character are tested alike.
-next_same : (digit : ℕ → Bool) → Low digit → (cs : List ℕ)
+next_same : (digit : ℕ → Bool) → IsAsciiOnly digit → (cs : List ℕ)
     → digit (get_or (encode_utf8_all cs) 0 0) ≡ digit (get_or cs 0 0)
 next_same digit low cs = by (cases_lt (get_or cs 0 0) 128)
   where
@@ -40,7 +40,7 @@ next_same digit low cs = by (cases_lt (get_or cs 0 0) 128)
         ∙ sym (low (get_or cs 0 0) big)
 
 -- A byte of at least 128 begins no run of digits.
-none_first : (digit : ℕ → Bool) → Low digit → (bs : List ℕ) → 128 ≤ get_or bs 0 0
+none_first : (digit : ℕ → Bool) → IsAsciiOnly digit → (bs : List ℕ) → 128 ≤ get_or bs 0 0
     → digits_len digit bs ≡ 0
 none_first digit low [] h = refl
 none_first digit low (b ∷ bs) h =
@@ -58,7 +58,7 @@ within digit (c ∷ cs) = each (digit c || (eqb c 95 && digit (get_or cs 0 0))) 
     each false h = omega arith
 
 -- A run of digits has as many bytes as characters.
-digit_bytes : (digit : ℕ → Bool) → Low digit → (cs : List ℕ)
+digit_bytes : (digit : ℕ → Bool) → IsAsciiOnly digit → (cs : List ℕ)
     → (digits_len digit (encode_utf8_all cs) ≡ digits_len digit cs)
     × (utf8_len (take (digits_len digit cs) cs) ≡ digits_len digit cs)
 digit_bytes digit low [] = (refl, refl)
@@ -92,7 +92,7 @@ digit_bytes digit low (c ∷ cs) = by (cases_lt c 128) (digit_bytes digit low cs
         (refl, refl)
 
 -- Skipping digits, in the form in which the code has it.
-pub passed_digits : (digit : ℕ → Bool) → Low digit → (token rest bs : List ℕ) (n : ℕ)
+pub passed_digits : (digit : ℕ → Bool) → IsAsciiOnly digit → (token rest bs : List ℕ) (n : ℕ)
     → IsRest token rest → n ≡ digits_len digit bs → bs ≡ rest
     → IsSkip token rest n
     (chars_before token rest + digits_len digit (drop (chars_before token rest) (chars token)))
@@ -106,7 +106,7 @@ passed_digits digit low token rest bs n r len same =
     rw (← count, ← r.is) (skip token rest (digits_len digit cs) r (within digit cs))
 
 -- The number of bytes skipped is the length of the run.
-pub digits_count : (digit : ℕ → Bool) → Low digit → (token rest bs : List ℕ) (n : ℕ)
+pub digits_count : (digit : ℕ → Bool) → IsAsciiOnly digit → (token rest bs : List ℕ) (n : ℕ)
     → IsRest token rest → n ≡ digits_len digit bs → bs ≡ rest
     → n ≡ digits_len digit (drop (chars_before token rest) (chars token))
 digits_count digit low token rest bs n r len same =

@@ -52,7 +52,7 @@ tag_is_run (c ∷ v) n = by (cases_eq c 36) (λ k. tag_is_run v k)
         each true false e m = absurd (cc)
         each false t e m = refl
 
--- A character that begins an identifier is no digit.
+-- A character that begins an identifier is not a digit.
 no_digit : (c : ℕ) → is_ident_start c ≡ true → is_digit c ≡ false
 no_digit c e = grind (arith, nat_tests)
 

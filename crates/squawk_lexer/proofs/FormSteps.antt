@@ -91,8 +91,8 @@ form_fits r c d e =
     (eqb c 92))
 
 -- White space begins with white space, and a form of two characters has a second one.
-pub form_white : (c d : ℕ) → Whitespace ≡ token_form c d → is_whitespace c ≡ true
-form_white c d e = form_fits Whitespace c d e
+pub form_whitespace : (c d : ℕ) → Whitespace ≡ token_form c d → is_whitespace c ≡ true
+form_whitespace c d e = form_fits Whitespace c d e
 
 form_line : (c d : ℕ) → LineComment ≡ token_form c d → 0 < d
 form_line c d e = let t = form_fits LineComment c d e in grind (arith, nat_tests)

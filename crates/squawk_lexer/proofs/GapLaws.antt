@@ -23,39 +23,39 @@ use Rattle.squawk_lexer.proofs.Ahead.{Alike}
 use Rattle.squawk_lexer.proofs.AheadRuns.{Asks}
 use Rattle.squawk_lexer.proofs.AheadPsql.{AsksPsql, psql_same}
 use Rattle.squawk_lexer.proofs.AheadTokens.{first_form, form_same}
-use Rattle.squawk_lexer.proofs.GapTests.{is_gap_start, gap_white, white_start, Calm, white_gap, CalmPair, calm_letters, IsOn, put, gap_within, on_read, gap_at, gap_pair}
+use Rattle.squawk_lexer.proofs.GapTests.{is_gap_start, gap_whitespace, whitespace_start, SameOnGapStarts, whitespace_gap, FailsOnGapStarts, letters_same_on_gap_starts, IsOn, put, gap_within, on_read, gap_at, gap_pair}
 
 -- ---- directly after
 
--- The tests of words and numbers are calm.
-asks_calm : Asks Calm CalmPair
+-- The tests of words and numbers say the same of all characters that may begin a gap.
+asks_calm : Asks SameOnGapStarts FailsOnGapStarts
 asks_calm = record {
   id_start = λ c t. grind (arith, nat_tests);
   id_cont = λ c t. grind (arith, nat_tests);
   tag_cont = λ c t. grind (arith, nat_tests);
   digit = λ c t. grind (arith, nat_tests);
   hex = λ c t. grind (arith, nat_tests);
-  letters = calm_letters;
+  letters = letters_same_on_gap_starts;
   no_point = λ c t. grind (arith, nat_tests);
   dollar = λ c t. grind (arith, nat_tests);
   apostrophe = λ c t. grind (arith, nat_tests);
   quotation = λ c t. grind (arith, nat_tests);
   points = λ c e t. grind (arith, nat_tests);
   signs = λ c e t. grind (arith, nat_tests);
-  low_digit = λ c e t. grind (arith, nat_tests);
-  low_hex = λ c e t. grind (arith, nat_tests);
+  underscore_digit = λ c e t. grind (arith, nat_tests);
+  underscore_hex_digit = λ c e t. grind (arith, nat_tests);
   and_string = λ c e t. grind (arith, nat_tests);
   and_ident = λ c e t. grind (arith, nat_tests);
 }
 
--- A form whose tokens are no trivia.
+-- A form whose tokens are not trivia.
 abbrev pub NoGap : TokenForm → Type 0
 NoGap Whitespace = ⊥
 NoGap LineComment = ⊥
 NoGap BlockComment = ⊥
 NoGap _ = ⊤
 
--- A lexeme that is no trivia has such a form.
+-- A lexeme that is not trivia has such a form.
 no_gap : (strings : Strings) (s : TokenForm) (u : List ℕ)
     → is_trivia (lexeme_of_form strings s u).kind ≡ false → NoGap s
 no_gap strings Whitespace u t = absurd (false≢true (sym t))
@@ -97,10 +97,10 @@ form_is c d = refl
 line_form : (c d : ℕ) → (eqb c 45 && eqb d 45) ≡ true → token_form c d ≡ LineComment
 unfolding token_form
 line_form c d t =
-    let white : is_whitespace c ≡ false = grind (arith, nat_tests) in
-    rw (white, t) refl
+    let whitespace : is_whitespace c ≡ false = grind (arith, nat_tests) in
+    rw (whitespace, t) refl
 
--- Before a gap, the first character alone decides a form that is no trivia.
+-- Before a gap, the first character alone decides a form that is not trivia.
 form_before : (c d : ℕ) → is_gap_start d ≡ true → NoGap (token_form c d)
     → token_form c d ≡ form_from c false false false false
 form_before c d t n =
@@ -113,9 +113,9 @@ form_before c d t n =
     form_is c d ∙ rw (line_end, block, dots, point) refl
 
 -- Before white space, the first character alone decides the form.
-form_before_white : (c g : ℕ) → is_whitespace g ≡ true
+form_before_whitespace : (c g : ℕ) → is_whitespace g ≡ true
     → token_form c g ≡ form_from c false false false false
-form_before_white c g t =
+form_before_whitespace c g t =
     let line_end : (eqb c 45 && eqb g 45) ≡ false = grind (arith, nat_tests) in
     let block : (eqb c 47 && eqb g 42) ≡ false = grind (arith, nat_tests) in
     let dots : (eqb c 46 && eqb g 46) ≡ false = grind (arith, nat_tests) in
@@ -247,7 +247,7 @@ pair_stays u v false false false e f h g on t crlf =
 
 -- The law, by the form of the token.
 pub tokens_stay : TokensStay
-tokens_stay strings s u g rest t gap white crlf = by (s && eqb (get_or u 0 0) byte_order_mark) refl
+tokens_stay strings s u g rest t gap whitespace crlf = by (s && eqb (get_or u 0 0) byte_order_mark) refl
   where
     k : ℕ
     k = (lexeme_at strings s u).end
@@ -267,16 +267,16 @@ tokens_stay strings s u g rest t gap white crlf = by (s && eqb (get_or u 0 0) by
     start_at : is_gap_start (get_or u k 0) ≡ true
     start_at = gap_at k u gap
 
-    calm : Alike Calm CalmPair k u v
-    calm = record {
+    same_on_gap_starts : Alike SameOnGapStarts FailsOnGapStarts k u v
+    same_on_gap_starts = record {
       left = on.within;
       right = on.right;
       same = on.same;
       follows = record {
-        one = λ p x. ap p on.at ∙ x g (white_start g (gap_white g white))
+        one = λ p x. ap p on.at ∙ x g (whitespace_start g (gap_whitespace g whitespace))
             ∙ sym (x (get_or u k 0) start_at);
-        two = λ p q x. x (get_or v k 0) _ (white_gap (get_or v k 0) _ (ap is_whitespace on.at
-            ∙ gap_white g white)) ∙ sym (x (get_or u k 0) _ (gap_pair k u gap));
+        two = λ p q x. x (get_or v k 0) _ (whitespace_gap (get_or v k 0) _ (ap is_whitespace on.at
+            ∙ gap_whitespace g whitespace)) ∙ sym (x (get_or u k 0) _ (gap_pair k u gap));
       };
     }
 
@@ -292,9 +292,9 @@ tokens_stay strings s u g rest t gap white crlf = by (s && eqb (get_or u 0 0) by
             sym (ap (λ n. is_gap_start (get_or u n 0)) one) ∙ start_at in
             let there : is_whitespace (get_or v 1 0) ≡ true =
             sym (ap (λ n. is_whitespace (get_or v n 0)) one) ∙ ap is_whitespace on.at
-            ∙ gap_white g white in
+            ∙ gap_whitespace g whitespace in
             ap (λ c. token_form c (get_or v 1 0)) first
-            ∙ form_before_white (get_or u 0 0) (get_or v 1 0) there
+            ∙ form_before_whitespace (get_or u 0 0) (get_or v 1 0) there
             ∙ sym (form_before (get_or u 0 0) (get_or u 1 0) here n)
 
     of_row : (r : TokenForm) → NoGap r → (lexeme_of_form strings r u).end ≡ k
@@ -305,21 +305,21 @@ tokens_stay strings s u g rest t gap white crlf = by (s && eqb (get_or u 0 0) by
     of_row Psql n e = pair_stays u v _ _ _ refl refl refl g (subst
         (λ m. IsOn m g u v) (sym e) on) (ap (λ m. begins_gap (drop m u)) e ∙ gap)
         (λ x. crlf (sym (ap (λ m. is_line_end (get_or u m 0)) e) ∙ x))
-    of_row String n e = form_same strings String asks_calm k u v calm some (omega (arith, e))
+    of_row String n e = form_same strings String asks_calm k u v same_on_gap_starts some (omega (arith, e))
     of_row QuotedIdent n e =
-        form_same strings QuotedIdent asks_calm k u v calm some (omega (arith, e))
-    of_row Word n e = form_same strings Word asks_calm k u v calm some (omega (arith, e))
-    of_row Dollar n e = form_same strings Dollar asks_calm k u v calm some (omega (arith, e))
-    of_row Number n e = form_same strings Number asks_calm k u v calm some (omega (arith, e))
-    of_row DotDot n e = form_same strings DotDot tt k u v calm some (omega (arith, e))
-    of_row Fraction n e = form_same strings Fraction asks_calm k u v calm some (omega (arith, e))
-    of_row Symbol n e = form_same strings Symbol tt k u v calm some (omega (arith, e))
+        form_same strings QuotedIdent asks_calm k u v same_on_gap_starts some (omega (arith, e))
+    of_row Word n e = form_same strings Word asks_calm k u v same_on_gap_starts some (omega (arith, e))
+    of_row Dollar n e = form_same strings Dollar asks_calm k u v same_on_gap_starts some (omega (arith, e))
+    of_row Number n e = form_same strings Number asks_calm k u v same_on_gap_starts some (omega (arith, e))
+    of_row DotDot n e = form_same strings DotDot tt k u v same_on_gap_starts some (omega (arith, e))
+    of_row Fraction n e = form_same strings Fraction asks_calm k u v same_on_gap_starts some (omega (arith, e))
+    of_row Symbol n e = form_same strings Symbol tt k u v same_on_gap_starts some (omega (arith, e))
 
     by : (b : Bool) → (s && eqb (get_or u 0 0) byte_order_mark) ≡ b
         → lexeme_at strings s v ≡ lexeme_at strings s u
     by true e =
-        let white_kind : is_trivia (lexeme_at strings s u).kind ≡ true = rw e refl in
-        absurd (false≢true (sym t ∙ white_kind))
+        let whitespace_kind : is_trivia (lexeme_at strings s u).kind ≡ true = rw e refl in
+        absurd (false≢true (sym t ∙ whitespace_kind))
     by false e =
         let is : lexeme_at strings s u ≡ lexeme_of strings u = rw e refl in
         let test : (s && eqb (get_or v 0 0) byte_order_mark) ≡ false =

@@ -22,7 +22,7 @@ use Rattle.squawk_lexer.proofs.GapLaws.{NoGap, form_is}
 
 -- ---- what begins a gap
 
--- Symbols and psql commands are no trivia.
+-- Symbols and psql commands are not trivia.
 symbol_plain : (c : ℕ) → is_trivia (symbol c) ≡ false
 unfolding symbol
 symbol_plain c = grind (arith, nat_tests)

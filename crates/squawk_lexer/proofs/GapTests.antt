@@ -25,42 +25,43 @@ gap_start : (u : List ℕ) → begins_gap u ≡ true → is_gap_start (get_or u 
 gap_start u t = grind (arith, nat_tests)
 
 -- What replaces a gap is white space,
-pub gap_white : (g : ℕ) → IsGap g → is_whitespace g ≡ true
-gap_white g (inl e) = rw e refl
-gap_white g (inr e) = rw e refl
+pub gap_whitespace : (g : ℕ) → IsGap g → is_whitespace g ≡ true
+gap_whitespace g (inl e) = rw e refl
+gap_whitespace g (inr e) = rw e refl
 
 -- which may begin a gap.
-pub white_start : (g : ℕ) → is_whitespace g ≡ true → is_gap_start g ≡ true
-white_start g t = rw t refl
+pub whitespace_start : (g : ℕ) → is_whitespace g ≡ true → is_gap_start g ≡ true
+whitespace_start g t = rw t refl
 
 -- A test that says the same of all characters that may begin a gap.
-abbrev pub Calm : (ℕ → Bool) → Type 0
-Calm p = (c : ℕ) → is_gap_start c ≡ true → p c ≡ p 10
+abbrev pub SameOnGapStarts : (ℕ → Bool) → Type 0
+SameOnGapStarts p = (c : ℕ) → is_gap_start c ≡ true → p c ≡ p 10
 
 -- Whether c and e begin a gap: white space, `--` or `/*` (42).
 abbrev pub is_gap : ℕ → ℕ → Bool
 is_gap c e = is_whitespace c || ((eqb c 45 && eqb e 45) || (eqb c 47 && eqb e 42))
 
 -- White space begins a gap.
-pub white_gap : (g e : ℕ) → is_whitespace g ≡ true → is_gap g e ≡ true
-white_gap g e t = rw t refl
+pub whitespace_gap : (g e : ℕ) → is_whitespace g ≡ true → is_gap g e ≡ true
+whitespace_gap g e t = rw t refl
 
 -- A pair of tests that no two characters that begin a gap pass.
-abbrev pub CalmPair : (ℕ → Bool) → (ℕ → Bool) → Type 0
-CalmPair p q = (c e : ℕ) → is_gap c e ≡ true → (p c && q e) ≡ false
+abbrev pub FailsOnGapStarts : (ℕ → Bool) → (ℕ → Bool) → Type 0
+FailsOnGapStarts p q = (c e : ℕ) → is_gap c e ≡ true → (p c && q e) ≡ false
 
--- The test for two letters is calm.
-pub calm_letters : (x y : ℕ) → 65 ≤ x → 65 ≤ y → Calm (λ c. eqb c x || eqb c y)
-calm_letters x y p q c t =
+-- The test for two letters is such.
+pub letters_same_on_gap_starts : (x y : ℕ) → 65 ≤ x → 65 ≤ y → SameOnGapStarts (λ c. eqb c x || eqb c y)
+letters_same_on_gap_starts x y p q c t =
     let here : (eqb c x || eqb c y) ≡ false = grind (arith, nat_tests) in
     let there : (eqb 10 x || eqb 10 y) ≡ false = grind (arith, nat_tests) in
     here ∙ sym there
 
 -- ---- after one more character
 
--- A pair of tests whose second one is calm. The first character is the same in both texts.
+-- A pair of tests whose second one says the same of all characters that may begin a gap. The first
+-- character is the same in both texts.
 abbrev Second : (ℕ → Bool) → (ℕ → Bool) → Type 0
-Second p q = Calm q
+Second p q = SameOnGapStarts q
 
 -- The tests of words and numbers are such,
 asks_second : Asks Any Second
@@ -77,8 +78,8 @@ asks_second = record {
   quotation = tt;
   points = λ c t. grind (arith, nat_tests);
   signs = λ c t. grind (arith, nat_tests);
-  low_digit = λ c t. grind (arith, nat_tests);
-  low_hex = λ c t. grind (arith, nat_tests);
+  underscore_digit = λ c t. grind (arith, nat_tests);
+  underscore_hex_digit = λ c t. grind (arith, nat_tests);
   and_string = λ c t. grind (arith, nat_tests);
   and_ident = λ c t. grind (arith, nat_tests);
 }
@@ -163,9 +164,9 @@ tokens_stay_before strings s u g rest t gap =
     here : get_or v k 0 ≡ get_or u k 0
     here = agrees_read (k + 1) u v k agrees (omega arith)
 
-    calm : (q : ℕ → Bool) → Calm q → q (get_or (drop (k + 1) v) 0 0)
+    same_on_gap_starts : (q : ℕ → Bool) → SameOnGapStarts q → q (get_or (drop (k + 1) v) 0 0)
         ≡ q (get_or (drop (k + 1) u) 0 0)
-    calm q c = ap q (after k v ∙ on.at) ∙ c g (white_start g (gap_white g gap))
+    same_on_gap_starts q c = ap q (after k v ∙ on.at) ∙ c g (whitespace_start g (gap_whitespace g gap))
         ∙ sym (c (get_or (drop (k + 1) u) 0 0) (gap_start (drop (k + 1) u) t))
 
     a : Alike Any Second k u v
@@ -176,7 +177,7 @@ tokens_stay_before strings s u g rest t gap =
       follows = record {
         one = λ p x. ap p here;
         two = λ p q x. ap (λ c. p c && q (get_or (drop (k + 1) v) 0 0)) here
-            ∙ ap (λ b. p (get_or u k 0) && b) (calm q x);
+            ∙ ap (λ b. p (get_or u k 0) && b) (same_on_gap_starts q x);
       };
     }
 

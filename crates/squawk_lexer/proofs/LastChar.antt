@@ -63,13 +63,13 @@ chars_end : (bs r : List ℕ) (c : ℕ) → IsUtf8 bs → bs ≡ r ++ encode_utf
     → chars bs ≡ chars r ++ c ∷ []
 chars_end bs r c utf8 e =
     let boundary = last_boundary bs r c e in
-    let front : take (length r) bs ≡ r = ap (take (length r)) e ∙ take-append_seam r (encode_utf8 c)
+    let prefix : take (length r) bs ≡ r = ap (take (length r)) e ∙ take-append_seam r (encode_utf8 c)
     in
-    let back : drop (length r) bs ≡ encode_utf8 c = ap (drop (length r)) e
+    let suffix : drop (length r) bs ≡ encode_utf8 c = ap (drop (length r)) e
     ∙ drop-append_seam r (encode_utf8 c) in
-    let front_utf8 : IsUtf8 r = subst IsUtf8 front (IsUtf8-take bs (length r) utf8 boundary) in
+    let front_utf8 : IsUtf8 r = subst IsUtf8 prefix (IsUtf8-take bs (length r) utf8 boundary) in
     let back_utf8 : IsUtf8 (encode_utf8 c) =
-    subst IsUtf8 back (IsUtf8-drop bs (length r) utf8 boundary) in
+    subst IsUtf8 suffix (IsUtf8-drop bs (length r) utf8 boundary) in
     let last : chars (encode_utf8 c) ≡ c ∷ [] =
     only (chars (encode_utf8 c)) c (encodes-chars (encode_utf8 c) back_utf8) in
     ap chars e ∙ chars-append r (encode_utf8 c) front_utf8 ∙ ap (λ x. chars r ++ x) last
@@ -97,12 +97,12 @@ last_taken u bs s t at k None utf8 is within e same none =
     let zero_len : length (take at u) ≡ 0 = ap length (sym is ∙ empty) in
     absurd (omega arith)
 last_taken u bs s t at k (Some c) utf8 is within e same ends =
-    let back = t.rest.now in
-    let cs : chars bs ≡ chars back ++ c ∷ [] = chars_end bs back c utf8 (sym same ∙ ends) in
+    let suffix = t.rest.now in
+    let cs : chars bs ≡ chars suffix ++ c ∷ [] = chars_end bs suffix c utf8 (sym same ∙ ends) in
     let len : length (take at u) ≡ at = length-take-le at u within in
-    let total : length (take at u) ≡ length (chars back) + 1 = ap length (sym is ∙ cs)
-    ∙ length-append (chars back) (c ∷ []) in
-    let place : k ≡ length (chars back) = omega arith in
-    let taken : take (k + 1) u ≡ chars back ++ c ∷ [] = rw (← e) (sym is ∙ cs) in
+    let total : length (take at u) ≡ length (chars suffix) + 1 = ap length (sym is ∙ cs)
+    ∙ length-append (chars suffix) (c ∷ []) in
+    let place : k ≡ length (chars suffix) = omega arith in
+    let taken : take (k + 1) u ≡ chars suffix ++ c ∷ [] = rw (← e) (sym is ∙ cs) in
     sym (sym (take_read u k) ∙ ap (λ x. slice_get x k) taken
-    ∙ ap (slice_get (chars back ++ c ∷ [])) place ∙ read_end (chars back) c)
+    ∙ ap (slice_get (chars suffix ++ c ∷ [])) place ∙ read_end (chars suffix) c)

@@ -5,7 +5,7 @@ use Rattle.std.specs.declared.cmp.Ordering.TheVariants as orderings
 use Rattle.std.specs.Ordering.{nat_cmp, bool_cmp, ordering_then}
 use Rattle.std.specs.Option.{option_cmp}
 use Rattle.std.specs.Cmp.Lexicographic.{slice_cmp}
-use Rattle.squawk_lexer.specs.Edges.{base_value, flag_key, offset_key, literal_cmp}
+use Rattle.squawk_lexer.specs.Order.{base_value, flag_key, offset_key, literal_cmp}
 use Rattle.squawk_lexer.specs.declared.token.Base.{Base}
 use Rattle.squawk_lexer.specs.declared.token.Base.TheVariants.{Binary, Octal, Decimal, Hexadecimal}
 use Rattle.squawk_lexer.specs.declared.token.LiteralKind.{LiteralKind}
@@ -18,7 +18,7 @@ then_equal orderings.Less = refl
 then_equal orderings.Equal = refl
 then_equal orderings.Greater = refl
 
--- bases are ordered by their values
+-- Bases are ordered by their numbers.
 base_order : (a b : Base) → base_ord.ghosts.cmp a b ≡ nat_cmp (base_value a) (base_value b)
 base_order Binary Binary = refl
 base_order Binary Octal = refl
@@ -37,14 +37,14 @@ base_order Hexadecimal Octal = refl
 base_order Hexadecimal Decimal = refl
 base_order Hexadecimal Hexadecimal = refl
 
--- flags with `false` before `true`
+-- Flags are ordered by their keys.
 bool_order : (a b : Bool) → bool_cmp a b ≡ nat_cmp (flag_key a) (flag_key b)
 bool_order false false = refl
 bool_order false true = refl
 bool_order true false = refl
 bool_order true true = refl
 
--- the order inside of one kind
+-- The order within one variant, by its fields.
 flag_order : (t t2 : Bool) → bool_cmp t t2
     ≡ slice_cmp nat_cmp (flag_key t ∷ []) (flag_key t2 ∷ [])
 flag_order t t2 = bool_order t t2 ∙ then_equal _
@@ -69,7 +69,7 @@ numeric_order (Some m) None j j2 = refl
 numeric_order (Some m) (Some n) j j2 =
     ap (ordering_then (nat_cmp m n)) (then_equal (nat_cmp j j2))
 
--- kinds of literals are ordered by their keys
+-- Kinds of literals are ordered by their keys.
 pub literal_order : (a b : LiteralKind)
     → literal_ord.ghosts.cmp a b ≡ literal_cmp a b
 literal_order (literals.Int b e j) (literals.Int b2 e2 j2) = int_order b b2 e e2 j j2

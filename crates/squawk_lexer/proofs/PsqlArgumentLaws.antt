@@ -25,7 +25,7 @@ is_close q c cs t = let same : c ≡ q = grind (arith, nat_tests) in
 no_piece : (q c : ℕ) (cs : List ℕ) → is_line_end c ≡ true → Closes q (c ∷ cs) None
 no_piece q c cs t = rw t (NoPiece (c ∷ cs))
 
--- The law with one more piece in front: a single character, or an escape pair.
+-- The law with one more piece before it: a single character, or an escape pair.
 one_piece : (q c : ℕ) (cs : List ℕ) (o : Option ℕ) → is_line_end c ≡ false → eqb c q ≡ false
     → begins_pair q (c ∷ cs) ≡ false → Closes q cs o → Closes q (c ∷ cs) (option_map (λ n. n + 1) o)
 one_piece q c cs None t s p more = rw t (OnePiece c cs (prefix_len is_not_line_end cs) t s p more)
@@ -37,7 +37,7 @@ one_piece q c cs (Some n) t s p (m, e, pieces, last) = (
       in rw next last,
 )
 
--- The second character of an escape pair is no line end.
+-- The second character of an escape pair is not a line end.
 pub pair_plain : (q c d : ℕ) → is_escape_pair q c d ≡ true → is_line_end d ≡ false
 pair_plain q c d p = grind (arith, nat_tests)
 
@@ -113,7 +113,7 @@ parts_inside ends zero cs h = omega arith
 parts_inside ends (suc k) [] h = absurd (omega arith)
 parts_inside ends (suc k) (c ∷ cs) h = omega (arith, parts_inside ends k cs (omega arith))
 
--- The empty sequence, and a sequence with one more part in front.
+-- The empty sequence, and a sequence with one more part before it.
 no_more : (ends : ℕ → Bool) (cs : List ℕ) → (0 < length cs → ends (get_or cs 0 0) ≡ true)
     → IsLongest ends cs 0
 no_more ends cs stops = record { parts = NoPart cs; stops = stops }

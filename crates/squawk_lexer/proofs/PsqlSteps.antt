@@ -93,7 +93,7 @@ quote_close q u i c s plain same = rw (after_some u i c s, drop_some u i c s) (a
     at [] = rw (eq-eqb c q same) refl
     at (d ∷ r) = rw (plain, eq-eqb c q same) refl
 
--- A line end is no quote.
+-- A line end is not a quote.
 quote_is_plain : (q c : ℕ) → is_quote q ≡ true → is_line_end c ≡ true → eqb c q ≡ false
 quote_is_plain q c h e = grind (arith, nat_tests)
 
@@ -369,7 +369,7 @@ marked_part mark u i c s more no_blank =
     (ap (λ o. option_map (λ n. i + n) (option_map (λ n. n + 1) o)) rest
     ∙ map_past (marked_len 0 m (drop (i + 1 + p) u)) i p)
 
--- A blank is no quote.
+-- A blank is not a quote.
 pub blank_is_plain : (c : ℕ) → is_blank c ≡ true → is_quote c ≡ false
 blank_is_plain c e = grind (arith, nat_tests)
 

@@ -15,7 +15,7 @@ Ends e q cs (Some n) = (m : ℕ) × (n ≡ m + 1) × IsItems e q cs m × (slice_
 some_eq : (a b : ℕ) → Some a ≡ Some b → a ≡ b
 some_eq a b h = cc
 
--- Another character is no quote.
+-- Another character is not a quote.
 not_next : (d q : ℕ) → eqb d q ≡ false → Some d ≢ Some q
 not_next d q t h = let same : d ≡ q = some_eq d q h in absurd (grind (arith, nat_tests))
 
@@ -29,7 +29,7 @@ ends_here : (e : Bool) (q c d : ℕ) (cs : List ℕ) → eqb c q ≡ true → eq
 ends_here e q c d cs t s = let same : c ≡ q = grind (arith, nat_tests) in
     (0, omega arith, NoItem (c ∷ d ∷ cs), ap Some same, not_next d q s)
 
--- The law with one more item in front: two quotes, an escape, and a single character.
+-- The law with one more item before it: two quotes, an escape, and a single character.
 two : (e : Bool) (q c d : ℕ) (cs : List ℕ) (o : Option ℕ) → eqb c q ≡ true → eqb d q ≡ true
     → Ends e q cs o → Ends e q (c ∷ d ∷ cs) (option_map (λ n. n + 2) o)
 two e q c d cs None t s h = tt

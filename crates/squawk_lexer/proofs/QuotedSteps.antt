@@ -47,13 +47,13 @@ quoted_pair e q u i some here next =
 -- A backslash that escapes.
 escaped_at : (q c : ℕ) (d : ℕ) (r : List ℕ) (i : ℕ) → eqb c q ≡ false → eqb c 92 ≡ true
     → Same true q (c ∷ d ∷ r) i r (i + 2)
-escaped_at q c d r i other back =
-    rw (other, back) (mapped (quoted_len true q r) (length r) _ i 2 (omega arith))
+escaped_at q c d r i other is_backslash =
+    rw (other, is_backslash) (mapped (quoted_len true q r) (length r) _ i 2 (omega arith))
 
 pub quoted_escaped : (q : ℕ) (u : List ℕ) (i c : ℕ) → Some c ≡ slice_get u i → eqb c q ≡ false
     → eqb c 92 ≡ true → (quoted_end true q u (position_after u (i + 1)) ≡ quoted_end true q u i)
     × (is_terminated true q u (position_after u (i + 1)) ≡ is_terminated true q u i)
-quoted_escaped q u i c s other back = by (cases_lt (i + 1) (length u))
+quoted_escaped q u i c s other is_backslash = by (cases_lt (i + 1) (length u))
   where
     by : (i + 1 < length u) ⊎ (length u ≤ i + 1)
         → (quoted_end true q u (position_after u (i + 1)) ≡ quoted_end true q u i)
@@ -61,7 +61,7 @@ quoted_escaped q u i c s other back = by (cases_lt (i + 1) (length u))
     by (inl h) =
         let two : i + 1 + 1 ≡ i + 2 = omega arith in
         rw (after_within u (i + 1) h, drop_some u i c s, drop_read u (i + 1) h, two)
-        (escaped_at q c _ (drop (i + 2) u) i other back)
+        (escaped_at q c _ (drop (i + 2) u) i other is_backslash)
     by (inr h) = rw (after_past u (i + 1) h, drop_some u i c s, drop_past u (i + 1) h, other)
         (omega arith, refl)
 
@@ -137,8 +137,8 @@ quoted_step_escaped false q o u i c which s other =
 quoted_step_escaped true q o u i c which s other =
     let j = stop_at q o u i in
     let first = quoted_passed true q u i in
-    let back : c ≡ 92 = stop_is q o u i c s other ∙ which in
-    let p = quoted_escaped q u j c s (ne_eqb c q other) (eq-eqb c 92 back) in
+    let is_backslash : c ≡ 92 = stop_is q o u i c s other ∙ which in
+    let p = quoted_escaped q u j c s (ne_eqb c q other) (eq-eqb c 92 is_backslash) in
     rw (after_some u j c s) (
       rw (← which) at (first.0) ∙ sym p.0,
       rw (← which) at (first.1) ∙ sym p.1,

@@ -32,7 +32,7 @@ use Rattle.squawk_lexer.proofs.AheadTokens.{token_from, lexeme_next}
 abbrev BeginsSemi : List ℕ → Type 0
 BeginsSemi u = (get_or u 0 0 ≡ 59) ⊎ ((get_or u 0 0 ≡ 92) × (get_or u 1 0 ≡ 59))
 
--- A lexeme of another kind is no semicolon.
+-- A lexeme of another kind is not a semicolon.
 unlike : (x : Lexeme) (A : Type 0) → IsOther x → x.kind ≡ kinds.Semi → A
 unlike x A n e = absurd (false≢true (sym n.other ∙ ap is_semi e))
 

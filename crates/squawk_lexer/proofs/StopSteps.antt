@@ -9,12 +9,12 @@ use Rattle.std.specs.List.{prefix_len}
 use Rattle.squawk_lexer.specs.Position.{position_after}
 use Rattle.squawk_lexer.specs.Runs.{run_end}
 use Rattle.squawk_lexer.specs.Stops.{is_neither, stop_at, is_neither_on_line, stop_on_line}
-use Rattle.squawk_lexer.proofs.ByteRuns.{Flat}
+use Rattle.squawk_lexer.proofs.ByteRuns.{IsUniform}
 use Rattle.squawk_lexer.proofs.Steps.{drop_read, drop_past, after_some, within_some, get_some}
 
 -- The class of all characters but two of ASCII holds all characters beyond ASCII.
-pub flat_other : (a b : ℕ) → a < 128 → b < 128 → Flat (is_neither a b)
-flat_other a b p q x y h k = grind (arith, nat_tests)
+pub uniform_neither : (a b : ℕ) → a < 128 → b < 128 → IsUniform (is_neither a b)
+uniform_neither a b p q x y h k = grind (arith, nat_tests)
 
 -- The character at an index within the text.
 pub some_read : (u : List ℕ) (i : ℕ) → i < length u → Some (get_or u i 0) ≡ slice_get u i
@@ -112,8 +112,8 @@ other_one a b c e = rw (← e) (ap not (or_same (eqb c a)))
 -- ---- within a line
 
 -- The class of all characters of a line but two of ASCII holds all characters beyond ASCII.
-pub flat_inside : (a b : ℕ) → a < 128 → b < 128 → Flat (is_neither_on_line a b)
-flat_inside a b p q x y h k = grind (arith, nat_tests)
+pub uniform_neither_on_line : (a b : ℕ) → a < 128 → b < 128 → IsUniform (is_neither_on_line a b)
+uniform_neither_on_line a b p q x y h k = grind (arith, nat_tests)
 
 -- A run within a run is the run of both classes.
 both_runs : (p q : ℕ → Bool) (bs : List ℕ) → prefix_len q (take (prefix_len p bs) bs)

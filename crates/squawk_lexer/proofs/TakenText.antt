@@ -25,30 +25,30 @@ taken token rest r =
     let all : IsUtf8 token = IsUtf8-from_is_utf8 token r.token_utf8 in
     let left : IsUtf8 rest = IsUtf8-from_is_utf8 rest r.rest_utf8 in
     let k = chars_before token rest in
-    let front = encode_utf8_all (take k (chars token)) in
+    let prefix = encode_utf8_all (take k (chars token)) in
     let rest_is : encode_utf8_all (drop k (chars token)) ≡ rest = ap encode_utf8_all (sym r.is)
     ∙ encodes-chars rest left in
-    let seam : token ≡ front ++ rest = sym (encodes-chars token all)
+    let seam : token ≡ prefix ++ rest = sym (encodes-chars token all)
     ∙ ap encode_utf8_all (sym (take-append-drop k (chars token)))
     ∙ encodes-append (take k (chars token)) (drop k (chars token))
-    ∙ ap (λ x. front ++ x) rest_is in
-    let lengths : length token ≡ length front + length rest = ap length seam
-    ∙ length-append front rest in
-    let at : length front ≡ before token rest = omega arith in
+    ∙ ap (λ x. prefix ++ x) rest_is in
+    let lengths : length token ≡ length prefix + length rest = ap length seam
+    ∙ length-append prefix rest in
+    let at : length prefix ≡ before token rest = omega arith in
     let boundary : IsCharBoundary token (before token rest) =
-    rw (← at) (IsCharBoundary-at_seam token front rest seam left) in
-    let front_is : take (before token rest) token ≡ front = ap (take (before token rest)) seam
-    ∙ take_at front rest (before token rest) at in
+    rw (← at) (IsCharBoundary-at_seam token prefix rest seam left) in
+    let front_is : take (before token rest) token ≡ prefix = ap (take (before token rest)) seam
+    ∙ take_at prefix rest (before token rest) at in
     let utf8 : IsUtf8 (take (before token rest) token) =
     IsUtf8-take token (before token rest) all boundary in
-    let front_utf8 : IsUtf8 front = rw (← front_is) utf8 in
-    let cut : chars token ≡ chars front ++ chars rest = ap chars seam
-    ∙ chars-append front rest front_utf8 in
-    let cut_lengths : length (chars token) ≡ length (chars front) + length (chars rest) =
-    ap length cut ∙ length-append (chars front) (chars rest) in
-    let chars_at : length (chars front) ≡ k = omega arith in
-    let prefix_chars : take k (chars token) ≡ chars front = ap (take k) cut
-    ∙ take_at (chars front) (chars rest) k chars_at in
+    let front_utf8 : IsUtf8 prefix = rw (← front_is) utf8 in
+    let cut : chars token ≡ chars prefix ++ chars rest = ap chars seam
+    ∙ chars-append prefix rest front_utf8 in
+    let cut_lengths : length (chars token) ≡ length (chars prefix) + length (chars rest) =
+    ap length cut ∙ length-append (chars prefix) (chars rest) in
+    let chars_at : length (chars prefix) ≡ k = omega arith in
+    let prefix_chars : take k (chars token) ≡ chars prefix = ap (take k) cut
+    ∙ take_at (chars prefix) (chars rest) k chars_at in
     let from_0 : before token rest - 0 ≡ before token rest = omega arith in
     record {
       within = omega arith;

@@ -29,7 +29,7 @@ use Rattle.squawk_lexer.specs.declared.token.TokenKind.TheVariants as kinds
 use Rattle.squawk_lexer.specs.Cut.{is_trivia}
 use Rattle.squawk_lexer.specs.Laws.{is_unknown}
 use Rattle.squawk_lexer.proofs.Steps.{drop_read}
-use Rattle.squawk_lexer.proofs.FormSteps.{form_white}
+use Rattle.squawk_lexer.proofs.FormSteps.{form_whitespace}
 
 -- The parts of a number end at or after their start.
 pub junk_on : (u : List ℕ) (i : ℕ) → i ≤ junk_end u i
@@ -142,7 +142,7 @@ psql_on u =
 form_on : (strings : Strings) (s : TokenForm) (u : List ℕ) → 0 < length u
     → s ≡ token_form (get_or u 0 0) (get_or u 1 0) → 1 ≤ (lexeme_of_form strings s u).end
 form_on strings Whitespace u h e =
-    rw (drop_read u 0 h, form_white (get_or u 0 0) (get_or u 1 0) e) (omega arith)
+    rw (drop_read u 0 h, form_whitespace (get_or u 0 0) (get_or u 1 0) e) (omega arith)
 form_on strings LineComment u h e = omega arith
 form_on strings BlockComment u h e = omega arith
 form_on strings String u h e = omega arith
@@ -200,7 +200,7 @@ pub record IsOther (x : Lexeme) : Type 0 where
   pub plain : is_trivia x.kind ≡ false
   pub known : is_unknown x.kind ≡ false
 
--- A psql command is no trivia.
+-- A psql command is not trivia.
 pub command_plain : (b : Bool) → is_trivia (kinds.PsqlCommand b) ≡ false
 command_plain true = refl
 command_plain false = refl

@@ -1,5 +1,4 @@
--- What the first byte of a character in UTF-8 tells about the character. A byte below 128 is an
--- ASCII character by itself.
+-- First bytes of characters in UTF-8. A byte below 128 is an ASCII character by itself.
 use Rattle.std.specs.Prelude.{◌≡◌, ℕ, ◌+◌, ◌<◌, ◌==◌, not, List, length, slice_index}
 use Rattle.std.specs.Char.{encode_utf8}
 use Rattle.squawk_lexer.specs.Classes.{is_ident_cont, comma}

@@ -27,7 +27,7 @@ token_ends at [] = []
 token_ends at (t ∷ ts) = (at + t.len) ∷ token_ends (at + t.len) ts
 
 -- The tokens cover `text`, a list of bytes, from offset `at` to its end without a gap: each has at
--- least one byte, is no `Eof`, and ends at a character boundary.
+-- least one byte, is not `Eof`, and ends on a character boundary.
 abbrev pub Tiles : List ℕ → ℕ → List Token → Type 0
 Tiles text at [] = at ≡ length text
 Tiles text at (t ∷ ts) = (0 < t.len) × (t.kind ≢ kinds.Eof) × IsCharBoundary text (at + t.len)

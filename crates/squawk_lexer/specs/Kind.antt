@@ -1,5 +1,5 @@
--- What the grammar says of the first token of a text: its kind with all flags, and its length in
--- characters.
+-- The first token of a text as the grammar determines it: its kind with all fields, and its length
+-- in characters.
 use Rattle.std.specs.Prelude.{ℕ}
 use Rattle.squawk_lexer.specs.declared.token.TokenKind.{TokenKind}
 use Rattle.squawk_lexer.specs.declared.token.TokenKind.TheVariants.{Literal}
@@ -10,10 +10,10 @@ pub record Lexeme : Type 0 where
   pub kind : TokenKind
   pub end : ℕ
 
--- A token of the kind that ends at the index.
+-- The lexeme of a kind that ends at an index.
 abbrev pub lexeme_until : TokenKind → ℕ → Lexeme
 lexeme_until kind end = record { kind = kind; end = end }
 
--- A literal of the kind that ends at the index.
+-- The lexeme of a literal that ends at an index.
 abbrev pub literal_until : LiteralKind → ℕ → Lexeme
 literal_until kind end = lexeme_until (Literal kind) end

@@ -10,7 +10,8 @@ pub mod QuotedLaws
 pub mod PsqlArguments
 pub mod Gaps
 pub mod Flags
--- The forms of tokens, which `Token` rests on.
+pub mod Order
+-- The parts of the grammar that `Token` is built from.
 pub mod Runs
 pub mod Quoted
 pub mod Comment
@@ -28,4 +29,3 @@ pub mod TokensModel
 pub mod PsqlQuotes
 pub mod Stops
 pub mod Digits
-pub mod Edges

@@ -1,6 +1,6 @@
 -- A token is decided by its own characters and the two after it. The tokens after a token, and
 -- those after a semicolon, do not depend on what comes before.
-use Rattle.std.specs.Prelude.{◌≡◌, ℕ, ◌+◌, ◌≤◌, Bool, false, List, [], ◌∷◌, ◌++◌, length, take, drop}
+use Rattle.std.specs.Prelude.{◌≡◌, ℕ, ◌+◌, ◌≤◌, ◌==◌, Bool, false, List, [], ◌∷◌, ◌++◌, length, take, drop}
 use Rattle.std.specs.List.{sum_by}
 use Rattle.std.specs.Str.{chars, IsUtf8, IsCharBoundary}
 use Rattle.squawk_lexer.specs.declared.token.Token.{Token}
@@ -46,35 +46,44 @@ StatementsStandAlone =
 
 -- ---- texts as bytes in UTF-8
 
--- Every text that begins with the bytes of the token t and the two characters after it, as `text`
--- does, has t as its first token.
+-- Every text that begins with the bytes of the token t (`own`) and the two characters after it, as
+-- `text` does, has t as its first token.
 abbrev pub IsDecided : Strings → Bool → List ℕ → Token → Type 0
 IsDecided strings at_start text t =
-    (front two rest other : List ℕ) → text ≡ front ++ (two ++ rest) → length front ≡ t.len
-    → IsUtf8 front → IsUtf8 two → 2 ≤ length (chars two)
-    → token_at strings at_start (chars (front ++ (two ++ other))) ≡ t
+    (own two rest other : List ℕ) → text ≡ own ++ (two ++ rest) → length own ≡ t.len
+    → IsUtf8 own → IsUtf8 two → 2 ≤ length (chars two)
+    → token_at strings at_start (chars (own ++ (two ++ other))) ≡ t
 
 -- The first token of every text is decided so.
 abbrev pub TextsLookAhead : Type 0
 TextsLookAhead = (strings : Strings) (at_start : Bool) (text : List ℕ)
     → IsDecided strings at_start text (token_at strings at_start (chars text))
 
--- The first token of a text has at least one byte, and ends at a character boundary.
+-- The first token of a text has at least one byte, and ends on a character boundary.
 abbrev pub TextsProgress : Type 0
 TextsProgress =
     (strings : Strings) (at_start : Bool) (text : List ℕ) → IsUtf8 text → 1 ≤ length text
     → (1 ≤ (token_at strings at_start (chars text)).len)
     × IsCharBoundary text (token_at strings at_start (chars text)).len
 
--- The tokens of a text are its first token, then those of the rest by itself, where a leading byte
--- order mark is not white space.
+-- The tokens of the text are t, then those of the rest by itself, where a leading byte order mark
+-- is not white space.
+abbrev pub IsFirstToken : Strings → Bool → List ℕ → Token → Type 0
+IsFirstToken strings at_start text t =
+    tokens_from strings 0 at_start (chars text)
+    ≡ t ∷ tokens_from strings 0 false (chars (drop t.len text))
+
+-- The tokens of a text are its first token, then those of the rest.
 abbrev pub TextsRestart : Type 0
-TextsRestart =
-    (strings : Strings) (at_start : Bool) (text : List ℕ) → IsUtf8 text → 1 ≤ length text
-    → tokens_from strings 0 at_start (chars text)
-    ≡ token_at strings at_start (chars text)
-    ∷ tokens_from strings 0 false (chars (drop (token_at strings at_start (chars text)).len
-    text))
+TextsRestart = (strings : Strings) (at_start : Bool) (text : List ℕ) → IsUtf8 text
+    → 1 ≤ length text → IsFirstToken strings at_start text (token_at strings at_start (chars text))
+
+-- The tokens of the text from offset `at` on are t, then those of the rest by itself. A byte order
+-- mark is white space only at offset 0.
+abbrev pub IsFirstTokenAt : Strings → List ℕ → ℕ → Token → Type 0
+IsFirstTokenAt strings text at t =
+    tokens_from strings 0 (at == 0) (chars (drop at text))
+    ≡ t ∷ tokens_from strings 0 false (chars (drop (at + t.len) text))
 
 -- Where n tokens end at offset `at`, the tokens after them are those of the text from `at` on by
 -- itself, where a leading byte order mark is not white space.
@@ -89,5 +98,5 @@ RestartsAt strings text at =
 abbrev pub SplitsAt : Strings → List ℕ → ℕ → Type 0
 SplitsAt strings text at =
     EndsWithSemi (tokens strings (chars (take at text)))
-    → tokens strings (chars text) ≡ tokens strings (chars (take at text))
-    ++ tokens_from strings 0 false (chars (drop at text))
+    → tokens strings (chars text)
+    ≡ tokens strings (chars (take at text)) ++ tokens_from strings 0 false (chars (drop at text))

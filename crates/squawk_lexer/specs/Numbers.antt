@@ -1,4 +1,4 @@
--- Numeric constants (the manual of PostgreSQL, 4.1.2.6) and positional parameters. The ends here
+-- Numeric constants (PostgreSQL manual, 4.1.2.6) and positional parameters. The ends here
 -- are indexes in characters; the offsets in kinds are in bytes.
 use Rattle.std.specs.Prelude.{ℕ, ◌+◌, Bool, false, not, ◌&&◌, ◌==◌, List, take, slice_index, Option, Some, None, if◌then◌else◌}
 use Rattle.squawk_lexer.specs.declared.token.Base.{Base}

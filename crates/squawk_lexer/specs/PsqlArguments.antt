@@ -21,7 +21,7 @@ pub data IsPieces (q : ℕ) : List ℕ → ℕ → Type 0 where
   PairPiece : (c d : ℕ) (cs : List ℕ) (n : ℕ) → is_escape_pair q c d ≡ true → IsPieces q cs n
       → IsPieces q (c ∷ d ∷ cs) (2 + n)
 
--- A quote is closed by the first q that is no part of an escape pair.
+-- A quote is closed by the first q that is not part of an escape pair.
 abbrev pub QuotesCloseFirst : Type 0
 QuotesCloseFirst = (q : ℕ) (cs : List ℕ) (n : ℕ) → close_len q cs ≡ Some n → (m : ℕ) × (n ≡ m + 1)
     × IsPieces q cs m × (slice_get cs m ≡ Some q)

@@ -1,6 +1,6 @@
--- The arguments of a psql command (psql's page, "Meta-Commands"): a sequence of parts on one line.
--- A part is a text in quotes, or a single character. Blanks outside quotes separate the arguments,
--- and a backslash outside quotes begins the next command.
+-- The arguments of a psql command (PostgreSQL manual, psql, "Meta-Commands"): a sequence of parts
+-- on one line. A part is a text in quotes, or a single character. Blanks outside quotes separate the
+-- arguments, and a backslash outside quotes begins the next command.
 use Rattle.std.specs.Prelude.{ℕ, ◌+◌, ◌-◌, zero, suc, Bool, false, not, ◌&&◌, ◌||◌, ◌==◌, List, [], ◌∷◌, take, drop, Option, Some, None, option_map, unwrap_or, if◌then◌else◌}
 use Rattle.std.specs.List.{prefix_len, last_or}
 use Rattle.std.specs.Option.{option_or}

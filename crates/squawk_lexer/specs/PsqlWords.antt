@@ -1,5 +1,5 @@
--- The words of psql's commands (psql's page, "Meta-Commands") that the grammar treats apart. A word
--- is what follows the backslash, in bytes.
+-- The psql commands (PostgreSQL manual, psql, "Meta-Commands") that have rules of their own. A word
+-- is the name of a command, without the backslash.
 use Rattle.std.specs.Prelude.{ℕ, Bool, ◌||◌, List, [], ◌∷◌, codes}
 use Rattle.std.specs.List.{list_any}
 use Rattle.std.specs.Str.{bytes_eq, str_eq_ignore_ascii_case}
@@ -8,16 +8,15 @@ use Rattle.std.specs.Str.{bytes_eq, str_eq_ignore_ascii_case}
 abbrev pub query_ending_words : List (List ℕ)
 query_ending_words =
     codes "g" ∷ codes "gx" ∷ codes "gdesc" ∷ codes "gexec" ∷ codes "gset" ∷ codes "getresults"
-    ∷ codes "crosstabview" ∷ codes "watch"
-    ∷ codes "parse" ∷ codes "close_prepared" ∷ codes "sendpipeline" ∷ codes "startpipeline"
-    ∷ codes "syncpipeline" ∷ codes "endpipeline"
+    ∷ codes "crosstabview" ∷ codes "watch" ∷ codes "parse" ∷ codes "close_prepared"
+    ∷ codes "sendpipeline" ∷ codes "startpipeline" ∷ codes "syncpipeline" ∷ codes "endpipeline"
     ∷ codes "flush" ∷ codes "flushrequest" ∷ codes "r" ∷ codes "reset" ∷ []
 
 -- Commands whose output may go to a pipe: a `|` takes the rest of the line.
 abbrev pub pipe_words : List (List ℕ)
 pipe_words = codes "g" ∷ codes "gx" ∷ codes "o" ∷ codes "out" ∷ codes "w" ∷ codes "write" ∷ []
 
--- Of these, the commands that take options in parentheses before the output.
+-- Those of `pipe_words` that take options in parentheses before the output.
 abbrev pub option_words : List (List ℕ)
 option_words = codes "g" ∷ codes "gx" ∷ []
 

@@ -1,4 +1,4 @@
--- The first token of a text that is not empty (the manual of PostgreSQL, 4.1, and
+-- The first token of a text that is not empty (PostgreSQL manual, 4.1, and
 -- `docs/GRAMMAR.md`).
 use Rattle.std.specs.Prelude.{ℕ, Bool, true, false, ◌&&◌, ◌==◌, List, take, slice_index, if◌then◌else◌}
 use Rattle.squawk_lexer.specs.declared.token.Token.{Token}

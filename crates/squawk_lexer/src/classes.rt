@@ -3,7 +3,7 @@ ghost use Rattle.std.specs.Prelude.{◌≡◌};
 ghost use Rattle.squawk_lexer.specs.Classes as spec;
 ghost use Rattle.squawk_lexer.specs.Digits.{digit_test};
 
-// A class over whose runs a cursor can skip.
+// A class of characters whose runs a cursor can skip.
 #[derive(Clone, Copy)]
 pub(crate) enum Class {
     Whitespace,
@@ -45,7 +45,7 @@ pub(crate) fn is_ident_start(c: char) -> bool
     matches!(c, 'a'..='z' | 'A'..='Z' | '_' | '\u{80}'..)
 }
 
-// What begins an identifier, a digit or `$`.
+// A character that begins an identifier, a digit or `$`.
 pub(crate) fn is_ident_cont(c: char) -> bool
     ensures { result ≡ spec.is_ident_cont c }
 {
@@ -64,7 +64,7 @@ pub(crate) fn is_hex_digit(c: char) -> bool
     c.is_ascii_hexdigit()
 }
 
-// Whether a byte, read as the character of its number, is a digit.
+// Whether `b` is an ASCII digit of this kind.
 pub(crate) fn is_digit_byte(digits: Digits, b: u8) -> bool
     ensures { result ≡ digit_test digits b }
 {
@@ -74,8 +74,8 @@ pub(crate) fn is_digit_byte(digits: Digits, b: u8) -> bool
     }
 }
 
-// Whether `class` has the ASCII character `b`, or the characters whose UTF-8 begins with `b`: it
-// has all characters beyond ASCII or none.
+// Whether a character whose UTF-8 begins with `b` is in `class`. The first byte decides, since each
+// class has all characters beyond ASCII or none.
 pub(crate) fn is_in(class: Class, b: u8) -> bool
     ensures { result ≡ spec.class_test class b }
 {

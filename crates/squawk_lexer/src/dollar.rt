@@ -1,5 +1,5 @@
-//! What a `$` begins: a dollar-quoted string (PostgreSQL manual, 4.1.2.4) or a positional parameter
-//! (4.2.2).
+//! Tokens that begin with `$`: dollar-quoted strings (PostgreSQL manual, 4.1.2.4) and positional
+//! parameters (4.2.2).
 ghost use Rattle.std.specs.Prelude.{◌≡◌, ◌+◌, slice_index};
 ghost use Rattle.squawk_lexer.specs.Kind.{lexeme_until};
 ghost use Rattle.squawk_lexer.specs.Classes.{is_ident_start, dollar_sign};
@@ -25,7 +25,7 @@ impl<'a> Cursor<'a> {
             return self.dollar_quoted_string();
         }
         if has_tag {
-            // No `$` ends the tag, so this is a parameter without digits, and the tag is its junk.
+            // No `$` follows the tag: this is a parameter without digits, and the tag is junk.
             return TokenKind::PositionalParam {
                 trailing_junk_start: 1,
             };
@@ -39,7 +39,7 @@ impl<'a> Cursor<'a> {
         requires at { self.old.at ≡ 1 }
         ensures text { self.new.text ≡ self.old.text }
         ensures at { self.new.at ≡ tag_end self.old.text }
-        ensures some { result ≡ is_ident_start (slice_index self.old.text 1) }
+        ensures found { result ≡ is_ident_start (slice_index self.old.text 1) }
     {
         if !is_ident_start(self.first()) {
             return false;

@@ -1,5 +1,5 @@
-//! Laws of the lexical grammar. Each is a clause of a function that does nothing, so that other
-//! crates can cite it; the definitions in the clauses hold for every text.
+//! Laws of the lexical grammar, for proofs. Each is a clause of a function that does nothing, which
+//! proofs in other crates can call, and holds for every text.
 ghost use Rattle.std.specs.Prelude.{◌≡◌, ◌&&◌, ◌==◌, ◌∷◌, [], true};
 ghost use Rattle.std.specs.Ordering.{nat_cmp};
 ghost use Rattle.squawk_lexer.specs.Laws as spec;
@@ -8,7 +8,7 @@ ghost use Rattle.squawk_lexer.specs.PsqlArguments as psql;
 ghost use Rattle.squawk_lexer.specs.Flags.{FlagsLieWithin, TokensAreCut};
 ghost use Rattle.squawk_lexer.specs.QuotedLaws.{QuotedEndsFirst, QuotedEndIsUnique, DigitsAreLongest};
 ghost use Rattle.squawk_lexer.specs.Gaps.{GapsAreSeen, TokensStay, TokensStayBefore};
-ghost use Rattle.squawk_lexer.specs.Edges.{base_value, literal_cmp};
+ghost use Rattle.squawk_lexer.specs.Order.{base_value, literal_cmp};
 ghost use Rattle.squawk_lexer.specs.declared.lexer.TheConstants.{BOM};
 
 use crate::token::{Base, LiteralKind, Strings, Token, TokenKind};
@@ -97,32 +97,33 @@ pub fn statements_stand_alone()
     ensures { ahead.StatementsStandAlone }
 {}
 
-/// Quoted text ends with the first quote that is neither doubled nor escaped.
+/// Quoted text ends with the first quote that is neither doubled nor escaped, and with no other.
 pub fn quoted_ends_first()
     ensures first { QuotedEndsFirst }
     ensures only { QuotedEndIsUnique }
 {}
 
-/// A run of digits, with `_` directly before some of them, is the longest.
+/// A run of digits, in which `_` may stand directly before a digit, is the longest.
 pub fn digits_are_longest()
     ensures { DigitsAreLongest }
 {}
 
-/// [`BOM`](crate::BOM) is U+FEFF in UTF-8.
+/// [`BOM`](crate::BOM) is the UTF-8 encoding of U+FEFF.
 pub fn bom_is_one_character()
     ensures { BOM.now ≡ 0xEF ∷ 0xBB ∷ 0xBF ∷ [] }
 {}
 
-/// White space or a comment after a token can be replaced by a space or LF without changing the
-/// token, both directly after it and after one more character.
+/// A gap, which is white space or a comment, can be replaced by a space or LF without changing the
+/// token before it. If the gap directly follows the token, the token must not be trivia, and only LF
+/// can replace a gap that begins with LF or CR. If it follows one character later, neither matters.
 pub fn tokens_stay()
     ensures seen { GapsAreSeen }
     ensures near { TokensStay }
     ensures before { TokensStayBefore }
 {}
 
-/// The offsets in the kind of a number or a parameter lie inside the token: an empty exponent
-/// begins before the trailing junk, and the trailing junk after the first byte, at the latest at
+/// The offsets in the kind of a number or a parameter lie in the token: an empty exponent begins
+/// before the trailing junk, and the trailing junk begins after the first byte and at the latest at
 /// the end of the token. Each token of a text is the first token of some text, so this holds for
 /// all of them.
 pub fn flags_lie_within()
@@ -130,7 +131,7 @@ pub fn flags_lie_within()
     ensures cut { TokensAreCut }
 {}
 
-/// The number of a base: 2, 8, 10 or 16.
+/// Returns `base as u8`, which is 2, 8, 10 or 16.
 pub fn base_number(base: Base) -> u8
     ensures { result ≡ base_value base }
 {
@@ -144,7 +145,8 @@ pub fn literals_are_ordered()
     ensures literals { (a b : LiteralKind) → ⟦<LiteralKind as Ord>⟧.cmp a b ≡ literal_cmp a b }
 {}
 
-/// Values that `==` takes for equal are the same. Tokens are compared by kind and length.
+/// Literal kinds, bases and settings that are `==` are the same value. Tokens are compared by kind
+/// and length.
 pub fn equal_values_are_the_same()
     ensures tokens { (a b : Token) → ⟦<Token as PartialEq>⟧.eq a b
         ≡ (⟦<TokenKind as PartialEq>⟧.eq a.kind b.kind && a.len == b.len) }

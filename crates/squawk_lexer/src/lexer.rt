@@ -6,8 +6,7 @@ ghost use Rattle.squawk_lexer.specs.Classes.{is_whitespace};
 ghost use Rattle.squawk_lexer.specs.Runs.{run_end};
 ghost use Rattle.squawk_lexer.specs.Symbols.{symbol};
 ghost use Rattle.squawk_lexer.specs.Token.{token_form, lexeme_of, lexeme_at, token_at};
-ghost use Rattle.squawk_lexer.specs.Edges.{IsFirstTokenAt};
-ghost use Rattle.squawk_lexer.specs.LookAhead.{IsDecided, RestartsAt, SplitsAt};
+ghost use Rattle.squawk_lexer.specs.LookAhead.{IsFirstTokenAt, IsDecided, RestartsAt, SplitsAt};
 
 use crate::classes::Class;
 use crate::cursor::Cursor;
@@ -17,7 +16,7 @@ use crate::token::{LiteralKind, Strings, Token, TokenKind, literal};
 /// token by itself. Anywhere else it is a letter, as every character from U+0080 on is.
 pub const BOM: &str = "\u{feff}";
 
-// The kind of a token of one character. `Unknown` is left for the control characters.
+// The kind of the one-character token `b`. The bytes that are not listed are control characters.
 #[tactic(auto, unfolding(crate::specs::Symbols::symbol))]
 fn symbol_kind(b: u8) -> TokenKind
     ensures { result ≡ symbol b }
@@ -54,7 +53,8 @@ fn symbol_kind(b: u8) -> TokenKind
     }
 }
 
-// The forms of tokens (`docs/GRAMMAR.md`, "Forms"), told apart by the first two characters.
+// The forms of tokens (`docs/GRAMMAR.md`, "Forms"). The first two characters of a token decide
+// which form it has.
 enum TokenForm {
     Whitespace,
     LineComment,
@@ -70,8 +70,8 @@ enum TokenForm {
     Symbol,
 }
 
-// The form of a token that begins with these bytes. The first bytes of the characters suffice,
-// since no form looks for a certain character beyond ASCII.
+// The form of a token, by the first bytes of its first two characters. These suffice, since all
+// characters beyond ASCII are alike here: they begin a word, and none is the second one of a form.
 #[tactic(auto, unfolding(crate::specs::Token::token_form))]
 fn token_form(first: u8, second: u8) -> TokenForm
     ensures { result ≡ token_form first second }
@@ -101,10 +101,10 @@ impl<'a> Cursor<'a> {
         token_form(self.peek_byte(0), self.peek_byte(1))
     }
 
-    // Consumes a token of one character.
+    // Consumes a token of one character: punctuation, an operator or an unknown character.
     fn symbol(&mut self) -> TokenKind
         requires at { self.old.at ≡ 0 }
-        requires some { 0 < length self.old.text }
+        requires not_empty { 0 < length self.old.text }
         ensures text { self.new.text ≡ self.old.text }
         ensures lexeme { lexeme_until result self.new.at
             ≡ lexeme_until (symbol (slice_index self.old.text 0)) 1 }
@@ -128,7 +128,7 @@ impl<'a> Cursor<'a> {
     #[tactic(auto, using(crate::proofs::FormSteps::form_steps))]
     fn advance_token(&mut self, strings: Strings) -> TokenKind
         requires at { self.old.at ≡ 0 }
-        requires some { 0 < length self.old.text }
+        requires not_empty { 0 < length self.old.text }
         ensures text { self.new.text ≡ self.old.text }
         ensures lexeme { lexeme_until result self.new.at ≡ lexeme_of strings self.old.text }
     {
@@ -179,13 +179,13 @@ impl<'a> Cursor<'a> {
     }
 }
 
-// Cuts the first token off a text, and returns it with the rest. `at_start` says that `text` is a
-// whole text, where a byte order mark is white space.
+// Cuts the first token off `text`, and returns it with the rest. `at_start` says that the input
+// begins here, so that a byte order mark is white space.
 pub(crate) fn cut(text: &str, at_start: bool, strings: Strings) -> (Token, &str)
-    requires some { 0 < length text.now }
+    requires not_empty { 0 < length text.now }
     requires fits { length text.now < 2 ^ 32 }
     ensures token { result.0 ≡ token_at strings at_start (chars text.now) }
-    ensures small { length result.1.now < 2 ^ 32 }
+    ensures rest_fits { length result.1.now < 2 ^ 32 }
     ensures utf8 { is_utf8 result.1.now ≡ true }
     ensures rest { chars result.1.now
         ≡ drop (lexeme_at strings at_start (chars text.now)).end (chars text.now) }
@@ -208,14 +208,15 @@ pub(crate) fn cut(text: &str, at_start: bool, strings: Strings) -> (Token, &str)
 /// [`Strings::Standard`].
 ///
 /// `at` is an offset in bytes. It must be less than the length of `input` and lie on a character
-/// boundary; `input` must have less than 2^32 bytes. `at` need not be the start of a token of
-/// `input`: inside of one, the token that is returned is that of the text that follows. A byte
-/// order mark is a token by itself only if `at` is 0.
+/// boundary; `input` must have fewer than 2^32 bytes. `at` need not be the start of a token of
+/// `input`: inside a token, the text from `at` on is read as if a token began there. A byte order
+/// mark is a token by itself only if `at` is 0.
 ///
 /// The token has at least one byte, ends on a character boundary and is never `Eof`. If two more
 /// characters follow it, no text after these can change it. If `at` is the end of a token of
-/// `input`, or if the last token of `input[..at]` is a `;`, then the tokens of `input[at..]`, read
-/// without the rule for the byte order mark, are those of `input` from `at` on. No memory is taken.
+/// `input`, or if the last token of `input[..at]` is `;` or `\;`, then the tokens of `input[at..]`,
+/// read without the rule for the byte order mark, are those of `input` from `at` on. Nothing is
+/// allocated.
 pub fn cut_at(input: &str, at: usize) -> Token
     requires inside { at < length input.now }
     requires boundary { IsCharBoundary input.now at }
@@ -232,11 +233,12 @@ pub fn cut_at(input: &str, at: usize) -> Token
     cut_at_in(input, at, Strings::Standard)
 }
 
-/// Returns the first token of `input[at..]`, by the rules of `docs/GRAMMAR.md`, as [`cut_at`] does.
-/// `strings` says how strings without a prefix are read.
+/// Returns the first token of `input[at..]`, by the rules of `docs/GRAMMAR.md`. `strings` says how
+/// strings without a prefix are read.
 ///
 /// `at` is an offset in bytes. It must be less than the length of `input` and lie on a character
-/// boundary; `input` must have less than 2^32 bytes.
+/// boundary; `input` must have fewer than 2^32 bytes. The token has the properties that [`cut_at`]
+/// states.
 pub fn cut_at_in(input: &str, at: usize, strings: Strings) -> Token
     requires inside { at < length input.now }
     requires boundary { IsCharBoundary input.now at }

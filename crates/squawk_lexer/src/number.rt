@@ -1,7 +1,7 @@
 //! Numeric constants (PostgreSQL manual, 4.1.2.6) and positional parameters (4.2.2).
 //!
 //! Each ends with its trailing junk: an identifier glued to the digits, which PostgreSQL reports as
-//! an error. It belongs to the token, and `trailing_junk_start` tells where it begins.
+//! an error. It belongs to the token, and `trailing_junk_start` is the offset at which it begins.
 ghost use Rattle.std.specs.Prelude.{◌≡◌, ◌+◌, ◌<◌, ◌==◌, slice_index, ◌&&◌, not, length, true};
 ghost use Rattle.squawk_lexer.specs.Kind.{lexeme_until};
 ghost use Rattle.squawk_lexer.specs.Numbers as spec;
@@ -118,7 +118,7 @@ impl<'a> Cursor<'a> {
         ensures lexeme { lexeme_until result self.new.at
             ≡ spec.decimal_from self.old.text self.old.at }
     {
-        // In `1..10` the dots are a `DotDot`, and no decimal point.
+        // In `1..10` the dots are a `DotDot`, not a decimal point.
         if self.first() == '.' && self.second() != '.' {
             self.bump();
             return self.eat_fractional();
@@ -152,8 +152,8 @@ impl<'a> Cursor<'a> {
         })
     }
 
-    // Consumes a number, whose first digit was consumed. As PostgreSQL's `scan.l`, but for the
-    // digits of `0b` and `0o`: any decimal digit is taken, so that `0b12` is one token.
+    // Consumes a number, whose first digit was consumed. The rules are those of PostgreSQL's
+    // `scan.l`, except that any decimal digit may follow `0b` and `0o`: `0b12` is one token.
     #[inline(never)]
     #[tactic(auto, using(crate::proofs::NumberSteps::number_steps))]
     pub(crate) fn number(&mut self, first: char) -> TokenKind

@@ -40,10 +40,10 @@ const QUERY_ENDING_WORDS: [&str; 18] = [
 // Commands whose output can go to a pipe.
 const PIPE_WORDS: [&str; 6] = ["g", "gx", "o", "out", "w", "write"];
 
-// Those of them that can have options in parentheses.
+// Those of `PIPE_WORDS` that can have options in parentheses.
 const OPTION_WORDS: [&str; 2] = ["g", "gx"];
 
-// Commands that take the rest of the line as it is, without `copy`.
+// Commands that take the rest of the line as it is. `copy` is another: see `is_copy`.
 const WHOLE_LINE_WORDS: [&str; 9] = ["!", "ef", "ev", "sf", "sf+", "sv", "sv+", "h", "help"];
 
 fn is_query_ending(word: &str) -> bool
@@ -70,7 +70,7 @@ fn is_whole_line_word(word: &str) -> bool
     WHOLE_LINE_WORDS.contains(&word)
 }
 
-// psql itself compares this name without case.
+// Like psql, compares this name ASCII case-insensitively.
 fn is_copy(word: &str) -> bool
     ensures { result ≡ str_eq_ignore_ascii_case (chars word.now) (codes "copy") }
 {
@@ -96,7 +96,7 @@ fn ends_arguments(c: char) -> bool
     is_line_end(c) || c == '\\'
 }
 
-// Whether a backslash `c` escapes `next`: in single quotes alone, and not at the end of a line.
+// Whether `c` is a backslash that escapes `next`: only in single quotes, and not before a line end.
 fn is_escape_pair(quote: char, c: char, next: char) -> bool
     ensures { result ≡ parts.is_escape_pair quote c next }
 {
@@ -113,8 +113,8 @@ fn is_parenthesis(mark: Option<char>) -> bool
 }
 
 impl<'a> Cursor<'a> {
-    // Consumes the token of a backslash, which was consumed: psql's separator `\\`, an escaped `;`
-    // or `:`, or a command.
+    // Consumes a token that begins with a backslash, which was consumed: psql's separator `\\`, an
+    // escaped `;` or `:`, or a command.
     #[inline(never)]
     pub(crate) fn psql_command(&mut self) -> TokenKind
         requires first { slice_index self.old.text 0 ≡ backslash }
@@ -157,7 +157,7 @@ impl<'a> Cursor<'a> {
         &self.consumed_text()[1..]
     }
 
-    // Consumes what belongs to the command `name` after that name.
+    // Consumes the arguments of the command `name`, by the rules for that name.
     fn eat_command_rest(&mut self, name: &str)
         requires name { chars name.now ≡ spec.command_word self.old.text }
         requires at { self.old.at ≡ spec.word_end self.old.text }
@@ -191,7 +191,7 @@ impl<'a> Cursor<'a> {
         }
     }
 
-    // Consumes where the output goes: a pipe, which takes the rest of the line, or arguments.
+    // Consumes the target of the output: a pipe, which takes the rest of the line, or arguments.
     fn eat_output(&mut self)
         ensures text { self.new.text ≡ self.old.text }
         ensures at { self.new.at ≡ spec.output_end self.old.text self.old.at }
@@ -312,14 +312,14 @@ impl<'a> Cursor<'a> {
     // Consumes a character inside quotes, with the one that it escapes. It is neither a line end
     // nor the quote.
     fn eat_psql_quoted_char(&mut self, quote: char)
-        requires some { self.old.at < length self.old.text }
+        requires inside { self.old.at < length self.old.text }
         requires plain { is_line_end (slice_index self.old.text self.old.at) ≡ false }
         requires other { slice_index self.old.text self.old.at ≢ quote }
         ensures text { self.new.text ≡ self.old.text }
         ensures close { close_end quote self.new.text self.new.at
             ≡ close_end quote self.old.text self.old.at }
         ensures line { line_end self.new.text self.new.at ≡ line_end self.old.text self.old.at }
-        ensures on { self.old.at < self.new.at }
+        ensures forward { self.old.at < self.new.at }
     {
         let c = self.first();
         self.bump();

@@ -5,7 +5,7 @@ ghost use Rattle.squawk_lexer.specs.Quoted.{quoted_end, is_terminated};
 
 use crate::cursor::Cursor;
 
-// What to search for beside `quote`: a backslash where it escapes, or else `quote` once more.
+// The second byte to search for in quoted text: the backslash if it escapes, or else `quote` again.
 pub(crate) fn escape_or_quote(quote: u8, escapes: bool) -> u8
     ensures { result ≡ (if escapes then backslash else quote) }
 {
@@ -27,7 +27,7 @@ impl<'a> Cursor<'a> {
         let escape = escape_or_quote(quote, escapes);
         while let Some(c) = self.eat_through2(quote, escape) {
             if c != quote as char {
-                // The character after a backslash ends nothing.
+                // The character after a backslash closes nothing.
                 self.bump();
                 continue;
             }

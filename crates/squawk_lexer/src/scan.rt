@@ -11,8 +11,8 @@ ghost use Rattle.squawk_lexer.specs.Bytes.{HasIdentCont};
 use crate::classes::{Class, Digits, is_digit_byte, is_in, is_whitespace};
 use memchr::{memchr, memchr2, memchr3};
 
-// The bytes of an identifier after its first character: an ASCII byte of it stands at its own
-// index, `*` at all from 0x80 on, and `,` at those that end an identifier.
+// The entry of a byte is `,` if the byte ends an identifier. Otherwise the byte continues one, and
+// its entry is itself if it is ASCII, or `*` from 0x80 on.
 static ID_CONT: [u8; 256] = *b"\
     ,,,,,,,,,,,,,,,,,,,,,,,,,,,,,,,,\
     ,,,,$,,,,,,,,,,,0123456789,,,,,,\
@@ -29,7 +29,7 @@ fn ident_cont_table() -> &'static [u8]
     &ID_CONT
 }
 
-// The length of the longest prefix of `class`.
+// The length of the longest prefix whose characters are all in `class`.
 pub(crate) fn run_len(class: Class, bytes: &[u8]) -> usize
     ensures { result ≡ prefix_len (class_test class) bytes.now }
 {
@@ -72,11 +72,11 @@ fn class_len(class: Class, bytes: &[u8]) -> usize
     len
 }
 
-// A call of `memchr` costs as much as a test of some bytes one by one. So the first bytes are
-// tested so, and `memchr` is called only if none of them ends the run.
+// A call of `memchr` costs about as much as testing this many bytes one by one. So the first bytes
+// are tested in a loop, and `memchr` is called only if none of them ends the run.
 const BYTES_BEFORE_MEMCHR: usize = 8;
 
-// The length up to the first `a` or `b`, or of all bytes.
+// The number of bytes before the first `a` or `b`, or of all bytes if there is none.
 pub(crate) fn len_until2(a: u8, b: u8, bytes: &[u8]) -> usize
     ensures { result ≡ prefix_len (is_neither a b) bytes.now }
 {
@@ -87,7 +87,7 @@ pub(crate) fn len_until2(a: u8, b: u8, bytes: &[u8]) -> usize
     len + memchr_len_until2(a, b, &bytes[len..])
 }
 
-// The same, but at most `BYTES_BEFORE_MEMCHR`.
+// The same within the first `BYTES_BEFORE_MEMCHR` bytes.
 fn short_len_until2(a: u8, b: u8, bytes: &[u8]) -> usize
     ensures within { result ≤ length bytes.now }
     ensures prefix { result + prefix_len (is_neither a b) (drop result bytes.now)
@@ -113,7 +113,7 @@ fn memchr_len_until2(a: u8, b: u8, bytes: &[u8]) -> usize
     found.unwrap_or(bytes.len())
 }
 
-// The length up to the first `a`, `b`, LF or CR, or of all bytes.
+// The number of bytes before the first `a`, `b`, LF or CR, or of all bytes if there is none.
 pub(crate) fn len_until2_on_line(a: u8, b: u8, bytes: &[u8]) -> usize
     ensures { result ≡ prefix_len (is_neither_on_line a b) bytes.now }
 {
@@ -124,7 +124,7 @@ pub(crate) fn len_until2_on_line(a: u8, b: u8, bytes: &[u8]) -> usize
     len + memchr_len_until2_on_line(a, b, &bytes[len..])
 }
 
-// The same, but at most `BYTES_BEFORE_MEMCHR`.
+// The same within the first `BYTES_BEFORE_MEMCHR` bytes.
 fn short_len_until2_on_line(a: u8, b: u8, bytes: &[u8]) -> usize
     ensures within { result ≤ length bytes.now }
     ensures prefix { result + prefix_len (is_neither_on_line a b) (drop result bytes.now)
@@ -145,7 +145,7 @@ fn is_neither_on_line(a: u8, b: u8, byte: u8) -> bool
     byte != a && byte != b && byte != b'\n' && byte != b'\r'
 }
 
-// The second search reads only what the first one skipped, so that both together are linear.
+// The second search reads only what the first one skipped, so both together are linear.
 #[inline(never)]
 fn memchr_len_until2_on_line(a: u8, b: u8, bytes: &[u8]) -> usize
     ensures { result ≡ prefix_len (is_neither_on_line a b) bytes.now }
@@ -154,7 +154,7 @@ fn memchr_len_until2_on_line(a: u8, b: u8, bytes: &[u8]) -> usize
     memchr(b'\r', &bytes[..len]).unwrap_or(len)
 }
 
-// The byte at an index, or NUL past the end, which is no digit.
+// The byte at `index`, or NUL past the end, which is not a digit.
 fn byte_or_nul(bytes: &[u8], index: usize) -> u8
     ensures { result ≡ slice_index bytes.now index }
 {

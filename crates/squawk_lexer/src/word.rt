@@ -25,16 +25,16 @@ enum StringPrefix {
     UnicodeString,
     // U&"
     UnicodeIdent,
-    // An identifier.
+    // None of these: the token is an identifier or a keyword.
     NoPrefix,
 }
 
-// The prefix of a token that begins with these bytes, of which the first begins an identifier.
+// The prefix of a token, by the first bytes of its first three characters.
 #[tactic(auto, unfolding(crate::specs::Token::prefix_of))]
 fn prefix_of(first: u8, second: u8, third: u8) -> StringPrefix
     ensures { result ≡ prefix_of first second third }
 {
-    // Most words have no prefix. The second byte tells that soonest.
+    // Most words have no prefix, and the second byte alone shows it.
     match second {
         b'\'' => match first {
             b'n' | b'N' => StringPrefix::National,
@@ -52,7 +52,7 @@ fn prefix_of(first: u8, second: u8, third: u8) -> StringPrefix
     }
 }
 
-// Consumes a string whose prefix has one more character, and returns it as a literal of the kind.
+// Consumes the last character of a prefix and the string after it, and returns the token kind.
 macro_rules! prefixed_literal {
     ($cursor:ident, $kind:ident, $escapes:literal) => {{
         let terminated = $cursor.prefixed_string($escapes);
@@ -70,8 +70,8 @@ impl<'a> Cursor<'a> {
         prefix_of(self.peek_byte(0), self.peek_byte(1), self.peek_byte(2))
     }
 
-    // Consumes one character of a prefix, a quote and the string, and returns whether the string is
-    // terminated.
+    // Consumes the last character of a prefix, the quote and the string. Returns whether the string
+    // is terminated.
     fn prefixed_string(&mut self, escapes: bool) -> bool
         ensures text { self.new.text ≡ self.old.text }
         ensures at { self.new.at ≡ quoted_end escapes apostrophe self.old.text

@@ -284,7 +284,9 @@ pub const PSQL_QUOTES: &[Row] = &[
     ),
     (
         "psql_long_quoted_arguments",
-        "\\echo 'A long single-quoted message with é漢𐐷' \"A long double-quoted message with é漢𐐷\" `printf 'A long backtick message with é漢𐐷'`\n\
+        "\\echo 'A long single-quoted message with é漢𐐷' \
+         \"A long double-quoted message with é漢𐐷\" \
+         `printf 'A long backtick message with é漢𐐷'`\n\
          select 1;",
         r#"
             "\\echo 'A long single-quoted message with é漢𐐷' \"A long double-quoted message with é漢𐐷\" `printf 'A long backtick message with é漢𐐷'`" PsqlCommand { ends_query: false }
@@ -298,7 +300,8 @@ pub const PSQL_QUOTES: &[Row] = &[
         "psql_unterminated_long_quoted_arguments",
         "\\echo 'A long single-quoted message with é漢𐐷\n\
          select 1;\n\
-         \\echo \"A long double-quoted message with é漢𐐷\rselect 2;\r\\echo `A long backtick message with é漢𐐷",
+         \\echo \"A long double-quoted message with é漢𐐷\rselect 2;\r\
+         \\echo `A long backtick message with é漢𐐷",
         r#"
             "\\echo 'A long single-quoted message with é漢𐐷" PsqlCommand { ends_query: false }
             "\n" Whitespace

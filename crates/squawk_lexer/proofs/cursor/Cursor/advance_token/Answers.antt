@@ -16,5 +16,5 @@ returns-in-String-clause-lexeme c =
       c.bump-in-String.ensures.text,
       c.bump-in-String.ensures.at,
       c.requires.at,
-      after_within c.args.self.now.text 0 c.requires.some,
+      after_within c.args.self.now.text 0 c.requires.not_empty,
     ) (sym is_row)

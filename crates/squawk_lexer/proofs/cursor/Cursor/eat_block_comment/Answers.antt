@@ -17,13 +17,13 @@ loop-c-preserved-then-opens_comment c =
 pub loop-c-smaller-then-opens_comment : goal.loop-c-smaller-then-opens_comment
 loop-c-smaller-then-opens_comment c =
     stop_smaller 47 42 c.loop-c.self.text c.loop-c.self.at c.in-Some.c _ _ _ c.in-Some.ensures.read
-    (c.bump.ensures.text ∙ c.in-Some.ensures.text) c.in-Some.ensures.at c.bump.ensures.on
+    (c.bump.ensures.text ∙ c.in-Some.ensures.text) c.in-Some.ensures.at c.bump.ensures.forward
 
 pub loop-c-smaller-then-closes_comment : goal.loop-c-smaller-then-closes_comment
 loop-c-smaller-then-closes_comment c =
     stop_smaller 47 42 c.loop-c.self.text c.loop-c.self.at c.in-Some.c _ _ _ c.in-Some.ensures.read
     (c.bump-then-closes_comment.ensures.text
-    ∙ c.in-Some.ensures.text) c.in-Some.ensures.at c.bump-then-closes_comment.ensures.on
+    ∙ c.in-Some.ensures.text) c.in-Some.ensures.at c.bump-then-closes_comment.ensures.forward
 
 pub loop-c-smaller : goal.loop-c-smaller
 loop-c-smaller c =

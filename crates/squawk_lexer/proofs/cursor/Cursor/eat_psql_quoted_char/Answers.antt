@@ -19,7 +19,7 @@ returns-then-is_escape_pair-clause-close c =
       c.bump.ensures.text,
       c.bump.ensures.at,
     )
-    (piece_two c.args.quote u i c.requires.some c.requires.plain c.requires.other pair)
+    (piece_two c.args.quote u i c.requires.inside c.requires.plain c.requires.other pair)
 
 pub returns-else-is_escape_pair-clause-close : goal.returns-else-is_escape_pair-clause-close
 returns-else-is_escape_pair-clause-close c =
@@ -32,4 +32,4 @@ returns-else-is_escape_pair-clause-close c =
     rw (← c.first-c.ensures, ← c.bump.ensures.at, ← c.bump.ensures.text, ← c.first.ensures) read
     in
     rw (c.bump.ensures.text, c.bump.ensures.at)
-    (piece_one c.args.quote u i c.requires.some c.requires.plain c.requires.other single)
+    (piece_one c.args.quote u i c.requires.inside c.requires.plain c.requires.other single)

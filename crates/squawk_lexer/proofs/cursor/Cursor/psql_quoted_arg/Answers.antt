@@ -38,8 +38,8 @@ returns-then-c-quote-clause-last c =
     c.last_char_since-last.ensures c.args.self.now.at c.loop-c.invariant.on start
     ∙ ap (λ x. last_before x c.args.self.now.at c.loop-c.self.at) c.loop-c.invariant.text ∙ e.1
 
-pub eat_psql_quoted_char-requires-clause-some : goal.eat_psql_quoted_char-requires-clause-some
-eat_psql_quoted_char-requires-clause-some c =
+pub eat_psql_quoted_char-requires-clause-inside : goal.eat_psql_quoted_char-requires-clause-inside
+eat_psql_quoted_char-requires-clause-inside c =
     within_some c.loop-c.self.text c.loop-c.self.at c.in-Some.c c.in-Some.ensures
 
 pub eat_psql_quoted_char-requires-clause-plain : goal.eat_psql_quoted_char-requires-clause-plain
@@ -57,7 +57,7 @@ loop-c-preserved c =
     let p = passed c.args.quote c.eat_psql_quoted_char.new.self.text c.eat_psql_quoted_char.new.self.at _ _
     c.eat_psql_quoted_text-in-loop-c.ensures.text c.eat_psql_quoted_text-in-loop-c.ensures.at in
     let on : c.args.self.now.at ≤ c.loop-c.self.at = c.loop-c.invariant.on in
-    let piece : c.loop-c.self.at < c.eat_psql_quoted_char.new.self.at = c.eat_psql_quoted_char.ensures.on in
+    let piece : c.loop-c.self.at < c.eat_psql_quoted_char.new.self.at = c.eat_psql_quoted_char.ensures.forward in
     let more : c.eat_psql_quoted_char.new.self.at ≤ c.eat_psql_quoted_text-in-loop-c.new.self.at = p.on in
     record {
       text = c.eat_psql_quoted_text-in-loop-c.ensures.text ∙ c.eat_psql_quoted_char.ensures.text
@@ -73,5 +73,5 @@ loop-c-smaller c =
     c.eat_psql_quoted_text-in-loop-c.ensures.text c.eat_psql_quoted_text-in-loop-c.ensures.at in
     smaller c.loop-c.self.text _ c.loop-c.self.at c.eat_psql_quoted_char.new.self.at _
     (c.eat_psql_quoted_text-in-loop-c.ensures.text
-    ∙ c.eat_psql_quoted_char.ensures.text) c.eat_psql_quoted_char.ensures.on p.on
+    ∙ c.eat_psql_quoted_char.ensures.text) c.eat_psql_quoted_char.ensures.forward p.on
     (within_some c.loop-c.self.text c.loop-c.self.at c.in-Some.c c.in-Some.ensures)

@@ -7,7 +7,7 @@ pub loop-c-smaller-then-c-quote : goal.loop-c-smaller-then-c-quote
 loop-c-smaller-then-c-quote c =
     stop_smaller c.args.quote c.escape_or_quote-escape.result c.loop-c.self.text c.loop-c.self.at
     c.in-Some.c _ _ _ c.in-Some.ensures.read (c.bump.ensures.text
-    ∙ c.in-Some.ensures.text) c.in-Some.ensures.at c.bump.ensures.on
+    ∙ c.in-Some.ensures.text) c.in-Some.ensures.at c.bump.ensures.forward
 
 pub loop-c-preserved-then-c-quote : goal.loop-c-preserved-then-c-quote
 loop-c-preserved-then-c-quote c =
@@ -34,4 +34,4 @@ pub loop-c-smaller : goal.loop-c-smaller
 loop-c-smaller c =
     stop_smaller c.args.quote c.escape_or_quote-escape.result c.loop-c.self.text c.loop-c.self.at
     c.in-Some.c _ _ _ c.in-Some.ensures.read (c.bump-in-Some.ensures.text
-    ∙ c.in-Some.ensures.text) c.in-Some.ensures.at c.bump-in-Some.ensures.on
+    ∙ c.in-Some.ensures.text) c.in-Some.ensures.at c.bump-in-Some.ensures.forward

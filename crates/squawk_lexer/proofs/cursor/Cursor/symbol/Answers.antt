@@ -8,4 +8,4 @@ returns-clause-lexeme c =
     let first = first_read c.args.self.now.text c.args.self.now.at c.peek_byte.result c.requires.at
     c.peek_byte.ensures in
     rw (c.symbol_kind-kind.ensures, symbol_lead _ _ first, c.bump.ensures.at, c.requires.at)
-    (rw (after_within c.args.self.now.text 0 c.requires.some) refl)
+    (rw (after_within c.args.self.now.text 0 c.requires.not_empty) refl)
