@@ -7,7 +7,7 @@ use Rattle.squawk_events.specs.Limit.{limit}
 use Rattle.squawk_events.specs.declared.error.FrontError.TheVariants.{TooLong, OutOfMemory}
 use Rattle.squawk_show.specs.Edge.{SourceView, SourceFaultRose, SinkFaultRose}
 use Rattle.squawk_show.specs.Outcome.{status_of_error}
-use Rattle.squawk_show.specs.Run.{Run, IsRefused, IsText, IsInvalidText, IsOverLimit, IsAll, IsInput, HasInput, OnInput, IsTreeOf}
+use Rattle.squawk_show.specs.Run.{Run, IsRunRefusal, IsText, IsInvalidText, IsOverLimit, IsAll, IsInput, HasInput, OnInput, IsTreeOf}
 use Rattle.squawk_show.specs.declared.command.Command.{Command}
 use Rattle.squawk_show.specs.declared.command.Command.TheVariants.{Report}
 use Rattle.squawk_show.specs.declared.error.RunError.{RunError}
@@ -49,7 +49,7 @@ over_taken P (Some left) (Some rest) taken within known h size =
     absurd (omega arith)
 
 -- `text_status`, `invalid_status`, `over_status`: the status of a refused run by its input
-pub text_status : (run : Run) (e : RunError) → IsRefused run e
+pub text_status : (run : Run) (e : RunError) → IsRunRefusal run e
     → HasInput IsText run.command run.source_before
     → ¬ (SourceFaultRose run.source_before run.source_after)
     → ¬ (SinkFaultRose run.out_before run.out_after)
@@ -69,7 +69,7 @@ text_status run (Front TooLong) h input calm sound =
 text_status run (Front OutOfMemory) h input calm sound = inr refl
 text_status run WriteFault h input calm sound = absurd (sound h.fault)
 
-pub invalid_status : (run : Run) (e : RunError) → IsRefused run e
+pub invalid_status : (run : Run) (e : RunError) → IsRunRefusal run e
     → HasInput IsInvalidText run.command run.source_before
     → ¬ (SourceFaultRose run.source_before run.source_after)
     → (status_of_error e ≡ 4) ⊎ (status_of_error e ≡ 6)
@@ -88,7 +88,7 @@ invalid_status run WriteFault h input calm =
     (known_input IsInvalidText run.command run.source_before input)
     (all_input run.command run.source_before h.prefix.1.0 h.prefix.1.1) h.prefix.1.2.text)
 
-pub over_status : (run : Run) (e : RunError) → IsRefused run e
+pub over_status : (run : Run) (e : RunError) → IsRunRefusal run e
     → HasInput IsOverLimit run.command run.source_before
     → ¬ (SourceFaultRose run.source_before run.source_after)
     → (status_of_error e ≡ 5) ⊎ (status_of_error e ≡ 6)

@@ -1,4 +1,4 @@
--- The report of a tree, as bytes: a line for each Enter and Token, and then one for each error.
+-- The report of a tree as bytes: a line for each `Enter` and `Token`, and then one for each error.
 use Rattle.std.specs.Prelude.{ℕ, ◌+◌, ◌-◌, List, [], ◌∷◌, ◌++◌, codes, decimal, flat_map, slice_get, unwrap_or}
 use Rattle.squawk_events.specs.Message.{message_of}
 use Rattle.squawk_events.specs.declared.steps.ParseError.{ParseError}
@@ -53,7 +53,7 @@ depth_after depth (Token kind start end) = depth
 depth_after depth Exit = depth - 1
 depth_after depth (Error number at) = depth
 
--- the lines of steps with these ranges, the first of which stands at a depth
+-- the lines of steps with these ranges; the first step is at `depth`
 abbrev pub step_lines : ℕ → List StrStep → List (ℕ × ℕ) → List ℕ
 step_lines depth [] spans = []
 step_lines depth (x ∷ xs) [] = []

@@ -114,8 +114,8 @@ fn push_short_line(
     Ok(())
 }
 
-// Appends the line of a node or a leaf. `last` is a number that was printed before: a line starts
-// mostly where the last one ended. Returns such a number for the next line.
+// Appends the line of a node or a leaf. `last` is a number with its digits, which are reused if the
+// line starts there, as most lines start where the one before ends. Returns the end for the next.
 #[inline(always)]
 pub(crate) fn push_line(
     out: &mut Vec<u8>,
