@@ -6,7 +6,7 @@ use Rattle.squawk_names.specs.Texts.{texts}
 use Rattle.squawk_names.specs.Offsets.{IsOffsets}
 use Rattle.squawk_names.proofs.row.Goals as goal
 
--- the distance of the two offsets of a short line
+-- the two offsets of a line of a short text are at most its length apart
 width : (bytes text : List ℕ) (start end : ℕ) → start < end → end ≤ length bytes
     → slice_range bytes start (end - 1) ≡ text → length text ≤ 39 → end - 1 - start ≤ 39
 width bytes text start end ordered within text_is short =
@@ -14,7 +14,7 @@ width bytes text start end ordered within text_is short =
     ap length text_is in
     omega (arith, length-take (end - 1 - start) (drop start bytes), length-drop start bytes)
 
--- a row of 64 bytes, begun four bytes before the text, has the text from its fifth byte on
+-- a row of 64 bytes from four bytes before the text on has the text at its offset 4
 from_fifth : (bytes text seen : List ℕ) (start end : ℕ) → seen ≡ bytes → 4 ≤ start
     → end - 1 - start ≤ 39 → slice_range bytes start (end - 1) ≡ text
     → text ≡ take (end - 1 - start)
@@ -22,12 +22,12 @@ from_fifth : (bytes text seen : List ℕ) (start end : ℕ) → seen ≡ bytes �
 from_fifth bytes text seen start end same low narrow text_is =
     rw same (
     let sizes : start + 60 - (start - 4) ≡ 4 + 60 = omega arith in
-    let places : (start - 4) + 4 ≡ start = omega arith in
+    let sum : (start - 4) + 4 ≡ start = omega arith in
     let rest : drop 4 (take (start + 60 - (start - 4)) (drop (start - 4) bytes))
     ≡ take 60 (drop start bytes) =
     ap (λ n. drop 4 (take n (drop (start - 4) bytes))) sizes
     ∙ drop-take 4 60 (drop (start - 4) bytes)
-    ∙ ap (take 60) (drop-drop 4 (start - 4) bytes ∙ ap (λ n. drop n bytes) places) in
+    ∙ ap (take 60) (drop-drop 4 (start - 4) bytes ∙ ap (λ n. drop n bytes) sum) in
     sym (ap (take (end - 1 - start)) rest
     ∙ take-take (end - 1 - start) 60 (drop start bytes) (omega (arith, narrow)) ∙ text_is))
 
