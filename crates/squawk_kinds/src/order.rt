@@ -1,5 +1,4 @@
-//! Proves that the kinds are numbered in the order of the list of kinds: `SyntaxKind::X` has the
-//! index of `X`.
+//! The number of each constant of `SyntaxKind` is its index in the list of kinds.
 ghost use Rattle.std.specs.Prelude.{◌≡◌};
 ghost use Rattle.squawk_kinds.specs.Kinds.{kinds};
 

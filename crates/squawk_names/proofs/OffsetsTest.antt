@@ -71,8 +71,8 @@ unfolding begins_with
 line_at bytes from ends [] k le ok lt = absurd (not-suc-le-zero lt)
 line_at bytes from [] (s ∷ ts) k le ok lt = cc
 line_at bytes from (end ∷ ends) (s ∷ ts) k le ok lt =
-    let test = (end == from + length s + 1) && bytes_eq (take (length s + 1) (drop from bytes)) (s
-    ++ line_feed ∷ []) in
+    let test = (end == from + length s + 1)
+    && bytes_eq (take (length s + 1) (drop from bytes)) (s ++ line_feed ∷ []) in
     let parts = and_parts (nat_le (length s) 39 && test) _ ok in
     let sized = and_parts (nat_le (length s) 39) test parts.0 in
     let head = and_parts (end == from + length s + 1)
@@ -88,8 +88,8 @@ line_at bytes from (end ∷ ends) (s ∷ ts) k le ok lt =
       | zero ↦ λ _. first
       | suc m ↦
           λ below. later_line from (end ∷ ends) bytes m (get_or ts m [])
-          (line_at bytes end ends ts m first.within (subst (λ l.
-          begins_with end l ends ts ≡ true) rest parts.1) (le_of_suc-le-suc below))
+          (line_at bytes end ends ts m first.within
+          (subst (λ l. begins_with end l ends ts ≡ true) rest parts.1) (le_of_suc-le-suc below))
     ] lt
 
 -- where all bytes pass the test, each is ASCII
@@ -125,8 +125,8 @@ are_offsets_true (from ∷ ends) bytes ts count ok =
       len = eqb-true _ _ second.0;
       each = λ k below.
           subst (λ n. IsLine (n ∷ ends) bytes k (get_or ts k [])) (sym (eqb-true from 0 first.0))
-          (line_at bytes 0 ends ts k zero-le third.1 (subst (λ n.
-          k < n) (sym (eqb-true _ _ second.0)) below));
+          (line_at bytes 0 ends ts k zero-le third.1
+          (subst (λ n. k < n) (sym (eqb-true _ _ second.0)) below));
     }
 
 -- unfolds the test where it is computed

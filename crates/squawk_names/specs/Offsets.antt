@@ -21,7 +21,7 @@ pub record IsOffsets (starts bytes : List ℕ) (ts : List (List ℕ)) (count : �
 
 -- the first text has less than 4 bytes before it, and the second has 4; text 2064 has 60 bytes from
 -- its offset on, and the next one has less
-pub record HasRows (starts bytes : List ℕ) : Type 0 where
+pub record HasWindows (starts bytes : List ℕ) : Type 0 where
   pub first : slice_index starts 0 < 4
   pub second : 4 ≤ slice_index starts 1
   pub last : slice_index starts 2064 + 60 ≤ length bytes

@@ -26,16 +26,16 @@ fn kinds_have_printed_texts(rt: HostRuntime) {
 }
 
 #[test]
-fn rows_hold_printed_texts(rt: HostRuntime) {
+fn windows_hold_printed_texts(rt: HostRuntime) {
     for number in 0..COUNT + 1 {
-        if let Some((bytes, len)) = row(number) {
+        if let Some((bytes, len)) = name_window(number) {
             assert_eq!(rt;
                 Some(&bytes[4..4 + len]),
                 name(number).map(|text| text.as_bytes()),
-                "row of kind {number}"
+                "window of kind {number}"
             );
         } else {
-            assert!(rt; number == 0 || number >= 2065, "no row of kind {number}");
+            assert!(rt; number == 0 || number >= 2065, "no window of kind {number}");
         }
     }
 }

@@ -35,8 +35,7 @@ decimal_four n low high =
     ∙ ap (λ d. (48 + d) ∷ (48 + n / 10 / 10 % 10) ∷ (48 + n / 10 % 10) ∷ (48 + n % 10) ∷ []) e
     ∙ ap (λ d. (48 + n / 1000) ∷ (48 + d % 10) ∷ (48 + n / 10 % 10) ∷ (48 + n % 10) ∷ []) f
 
--- the digits of a number with more than four are those of n / 10000, and then the last
--- four
+-- the digits of a number with more than four are those of n / 10000, and then the last four
 pub decimal_more : (n : ℕ) → 10000 ≤ n → n < 2 ^ 32
     → decimal n ≡ decimal (n / 10000) ++ last_four_digits (n % 10000)
 decimal_more n low high =
@@ -121,7 +120,8 @@ take_put at k n xs ys zs within same short =
     let post = post_of at k xs in
     let size = length-take-le at xs within in
     take-add at n (take at xs ++ (ys ++ post))
-    ∙ ap (λ ws. ws ++ take n (drop at (take at xs ++ (ys ++ post)))) (take_at (take at xs) (ys
-    ++ post) at size) ∙ ap (λ ws. take at xs
-    ++ take n ws) (drop_at (take at xs) (ys ++ post) at size ∙ ap (λ ws. ws ++ post) same)
+    ∙ ap (λ ws. ws ++ take n (drop at (take at xs ++ (ys ++ post))))
+    (take_at (take at xs) (ys ++ post) at size)
+    ∙ ap (λ ws. take at xs ++ take n ws)
+    (drop_at (take at xs) (ys ++ post) at size ∙ ap (λ ws. ws ++ post) same)
     ∙ ap (λ ws. take at xs ++ ws) (take-append-le n zs post short)

@@ -29,26 +29,29 @@ join_pieces start a b c d e f from to is_a is_b is_c is_d is_e is_f =
     ∙ append_assoc a (from ++ 46 ∷ 46 ∷ []) to in
     is_f ∙ ap (λ xs. xs ++ 10 ∷ []) (both ∙ ap (λ xs. xs ++ (from ++ (46 ∷ 46 ∷ []) ++ to)) is_a)
 
--- A row was appended to `out`, overwritten by `text`, and cut off after `count` bytes of it. `shape`
--- gives those bytes from the row as it was.
-pub row_overwritten : (shape : List ℕ
-    → List ℕ) (out row seen text post rest now : List ℕ) (old count total : ℕ)
+-- A window was appended to `out`, overwritten by `text`, and cut off after `count` bytes of it.
+-- These bytes are `shape` of the window as it was.
+pub window_overwritten : (shape : List ℕ → List ℕ)
+    (out window seen text post rest now : List ℕ) (old count total : ℕ)
     → now ≡ take (old + count) (take total ((take old seen ++ (text ++ post)) ++ rest))
-    → seen ≡ out ++ row → old ≡ length out → total ≡ old + 64 → length row ≡ 64
+    → seen ≡ out ++ window → old ≡ length out → total ≡ old + 64 → length window ≡ 64
     → length text ≡ length (take (length seen - old) (drop old seen)) → count ≤ 64
-    → take count text ≡ shape (take (length seen - old) (drop old seen)) → now ≡ out ++ shape row
-row_overwritten shape out row seen text post rest now old count total is_now is_seen is_old is_total
-    row_size text_size short written =
-    let before : take old seen ≡ out = ap (take old) is_seen ∙ take_at out row old (sym is_old) in
-    let rest_is : take (length seen - old) (drop old seen) ≡ row = take_rest seen old
-    ∙ ap (drop old) is_seen ∙ drop_at out row old (sym is_old) in
-    let size : length text ≡ 64 = text_size ∙ ap length rest_is ∙ row_size in
-    let line : take count text ≡ shape row = written ∙ ap shape rest_is in
+    → take count text ≡ shape (take (length seen - old) (drop old seen))
+    → now ≡ out ++ shape window
+window_overwritten shape out window seen text post rest now old count total is_now is_seen is_old
+    is_total window_size text_size short written =
+    let before : take old seen ≡ out =
+    ap (take old) is_seen ∙ take_at out window old (sym is_old) in
+    let rest_is : take (length seen - old) (drop old seen) ≡ window = take_rest seen old
+    ∙ ap (drop old) is_seen ∙ drop_at out window old (sym is_old) in
+    let size : length text ≡ 64 = text_size ∙ ap length rest_is ∙ window_size in
+    let line : take count text ≡ shape window = written ∙ ap shape rest_is in
     let all : (take old seen ++ (text ++ post)) ++ rest ≡ out ++ (text ++ (post ++ rest)) =
     ap (λ xs. (xs ++ (text ++ post)) ++ rest) before ∙ append_assoc out (text ++ post) rest
     ∙ ap (λ xs. out ++ xs) (append_assoc text post rest) in
-    is_now ∙ take-take (old + count) total ((take old seen ++ (text ++ post))
-    ++ rest) (omega (arith, is_total, short)) ∙ ap (take (old + count)) all
+    is_now
+    ∙ take-take (old + count) total ((take old seen ++ (text ++ post)) ++ rest)
+    (omega (arith, is_total, short)) ∙ ap (take (old + count)) all
     ∙ take-add old count (out ++ (text ++ (post ++ rest)))
     ∙ ap (λ xs. xs ++ take count (drop old (out ++ (text ++ (post ++ rest)))))
     (take_at out (text ++ (post ++ rest)) old (sym is_old))

@@ -7,7 +7,7 @@ use Rattle.squawk_events.specs.Limit.{limit}
 use Rattle.squawk_events.specs.declared.error.FrontError.TheVariants.{TooLong, OutOfMemory}
 use Rattle.squawk_show.specs.Edge.{SourceView, SourceFaultRose, SinkFaultRose}
 use Rattle.squawk_show.specs.Outcome.{status_of_error}
-use Rattle.squawk_show.specs.Run.{Run, IsRefused, IsText, IsInvalidText, IsOverLimit, IsAll, IsInput, HasInput, OnInput, IsTreeOf}
+use Rattle.squawk_show.specs.Run.{Run, IsRunRefusal, IsText, IsInvalidText, IsOverLimit, IsAll, IsInput, HasInput, OnInput, IsTreeOf}
 use Rattle.squawk_show.specs.declared.command.Command.{Command}
 use Rattle.squawk_show.specs.declared.command.Command.TheVariants.{Report}
 use Rattle.squawk_show.specs.declared.error.RunError.{RunError}
@@ -49,60 +49,60 @@ over_taken P (Some left) (Some rest) taken within known h size =
     absurd (omega arith)
 
 -- `text_status`, `invalid_status`, `over_status`: the status of a refused run by its input
-pub text_status : (run : Run) (e : RunError) → IsRefused run e
+pub text_status : (run : Run) (e : RunError) → IsRunRefusal run e
     → HasInput IsText run.command run.source_before
     → ¬ (SourceFaultRose run.source_before run.source_after)
     → ¬ (SinkFaultRose run.out_before run.out_after)
     → (status_of_error e ≡ 0) ⊎ (status_of_error e ≡ 6)
-text_status run BadWords h input calm sound =
+text_status run BadWords h input no_read_fault no_write_fault =
     absurd (command_named IsText run.command run.source_before input h)
-text_status run ReadFault h input calm sound = absurd (calm h.1)
-text_status run (NotUtf8 at) h input calm sound =
+text_status run ReadFault h input no_read_fault no_write_fault = absurd (no_read_fault h.1)
+text_status run (NotUtf8 at) h input no_read_fault no_write_fault =
     absurd (both_left IsText IsInvalidText run.source_before.left h.input.0
     (λ bs text bad. bad.invalid text.valid)
     (known_input IsText run.command run.source_before input)
     (all_input run.command run.source_before h.input.0 h.input.1) h.input.2)
-text_status run (Front TooLong) h input calm sound =
+text_status run (Front TooLong) h input no_read_fault no_write_fault =
     absurd (over_taken IsText run.source_before.left run.source_after.left h.1.0
     (λ bs text. text.within) (known_input IsText run.command run.source_before input)
     h.1.1.consumed h.1.2)
-text_status run (Front OutOfMemory) h input calm sound = inr refl
-text_status run WriteFault h input calm sound = absurd (sound h.fault)
+text_status run (Front OutOfMemory) h input no_read_fault no_write_fault = inr refl
+text_status run WriteFault h input no_read_fault no_write_fault = absurd (no_write_fault h.fault)
 
-pub invalid_status : (run : Run) (e : RunError) → IsRefused run e
+pub invalid_status : (run : Run) (e : RunError) → IsRunRefusal run e
     → HasInput IsInvalidText run.command run.source_before
     → ¬ (SourceFaultRose run.source_before run.source_after)
     → (status_of_error e ≡ 4) ⊎ (status_of_error e ≡ 6)
-invalid_status run BadWords h input calm =
+invalid_status run BadWords h input no_read_fault =
     absurd (command_named IsInvalidText run.command run.source_before input h)
-invalid_status run ReadFault h input calm = absurd (calm h.1)
-invalid_status run (NotUtf8 at) h input calm = inl refl
-invalid_status run (Front TooLong) h input calm =
+invalid_status run ReadFault h input no_read_fault = absurd (no_read_fault h.1)
+invalid_status run (NotUtf8 at) h input no_read_fault = inl refl
+invalid_status run (Front TooLong) h input no_read_fault =
     absurd (over_taken IsInvalidText run.source_before.left run.source_after.left h.1.0
     (λ bs bad. bad.within) (known_input IsInvalidText run.command run.source_before input)
     h.1.1.consumed h.1.2)
-invalid_status run (Front OutOfMemory) h input calm = inr refl
-invalid_status run WriteFault h input calm =
+invalid_status run (Front OutOfMemory) h input no_read_fault = inr refl
+invalid_status run WriteFault h input no_read_fault =
     absurd (both_left IsInvalidText IsText run.source_before.left h.prefix.1.0
     (λ bs bad text. bad.invalid text.valid)
     (known_input IsInvalidText run.command run.source_before input)
     (all_input run.command run.source_before h.prefix.1.0 h.prefix.1.1) h.prefix.1.2.text)
 
-pub over_status : (run : Run) (e : RunError) → IsRefused run e
+pub over_status : (run : Run) (e : RunError) → IsRunRefusal run e
     → HasInput IsOverLimit run.command run.source_before
     → ¬ (SourceFaultRose run.source_before run.source_after)
     → (status_of_error e ≡ 5) ⊎ (status_of_error e ≡ 6)
-over_status run BadWords h input calm =
+over_status run BadWords h input no_read_fault =
     absurd (command_named IsOverLimit run.command run.source_before input h)
-over_status run ReadFault h input calm = absurd (calm h.1)
-over_status run (NotUtf8 at) h input calm =
+over_status run ReadFault h input no_read_fault = absurd (no_read_fault h.1)
+over_status run (NotUtf8 at) h input no_read_fault =
     absurd (both_left IsOverLimit IsInvalidText run.source_before.left h.input.0
     (λ bs over bad. let small = bad.within in omega arith)
     (known_input IsOverLimit run.command run.source_before input)
     (all_input run.command run.source_before h.input.0 h.input.1) h.input.2)
-over_status run (Front TooLong) h input calm = inl refl
-over_status run (Front OutOfMemory) h input calm = inr refl
-over_status run WriteFault h input calm =
+over_status run (Front TooLong) h input no_read_fault = inl refl
+over_status run (Front OutOfMemory) h input no_read_fault = inr refl
+over_status run WriteFault h input no_read_fault =
     absurd (both_left IsOverLimit IsText run.source_before.left h.prefix.1.0
     (λ bs over text. let small = text.within in omega arith)
     (known_input IsOverLimit run.command run.source_before input)

@@ -13,9 +13,9 @@ depth_after_le depth Exit = omega arith
 depth_after_le depth (Error number at) = omega arith
 
 -- the lines of the first i steps, and then those of the rest, are all lines: one step more
-pub step_lines_push : (depth i : ℕ) (spans : List (ℕ
-    × ℕ)) (steps : List StrStep) (out all : List ℕ) (x : StrStep) (r : ℕ × ℕ) → i < length steps
-    → i < length spans → x ≡ get_or steps i x → r ≡ get_or spans i r
+pub step_lines_push : (depth i : ℕ) (spans : List (ℕ × ℕ)) (steps : List StrStep)
+    (out all : List ℕ) (x : StrStep) (r : ℕ × ℕ) → i < length steps → i < length spans
+    → x ≡ get_or steps i x → r ≡ get_or spans i r
     → out ++ step_lines depth (drop i steps) (drop i spans) ≡ all
     → (out ++ step_line depth x r)
     ++ step_lines (depth_after depth x) (drop (i + 1) steps) (drop (i + 1) spans) ≡ all

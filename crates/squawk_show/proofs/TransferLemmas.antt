@@ -13,8 +13,8 @@ pub appends_more : (a b c : Option (List ℕ)) (text : List ℕ) (done n : ℕ)
     → Appends b c (take n (take (length text - done) (drop done text)))
     → Appends a c (take (done + n) text)
 appends_more a b c text done n before piece =
-    let e = take-add done n text ∙ ap (λ ys. take done text
-    ++ take n ys) (sym (take_rest text done)) in
+    let e = take-add done n text
+    ∙ ap (λ ys. take done text ++ take n ys) (sym (take_rest text done)) in
     subst (Appends a c) (sym e) (Appends-trans a b c (take done text)
     (take n (take (length text - done) (drop done text))) before piece)
 

@@ -3,7 +3,7 @@ use Rattle.std.specs.Prelude.{ℕ, ◌≡◌, ◌+◌, ◌-◌, ◌^◌, ◌≤�
 use Rattle.std.specs.Io.KnownBytes.{Consumes, Appends}
 
 -- a source: the bytes left, where it is observable, its count of faults, and a count that a read
--- raises by one at most
+-- raises by at most one
 pub record SourceView : Type 0 where
   pub left : Option (List ℕ)
   pub faults : ℕ
@@ -14,11 +14,11 @@ pub record SinkView : Type 0 where
   pub taken : Option (List ℕ)
   pub faults : ℕ
 
--- a count one higher, up to the last value of a `u64`
+-- a count plus one, saturating at the largest `u64`
 abbrev pub next_count : ℕ → ℕ
 next_count n = min (n + 1) (2 ^ 64 - 1)
 
--- a count of faults rose, or stands at the last value of a `u64`
+-- a count of faults rose, or is at the largest `u64`
 abbrev pub FaultRose : (old new : ℕ) → Type 0
 FaultRose old new = next_count old ≤ new
 
@@ -28,12 +28,12 @@ SourceFaultRose old new = FaultRose old.faults new.faults
 abbrev pub SinkFaultRose : (old new : SinkView) → Type 0
 SinkFaultRose old new = FaultRose old.faults new.faults
 
--- a count of faults does not fall in a call, and rises where the call fails
+-- a count of faults does not fall in a call, and rises if the call fails, unless it is at the end
 pub record HasCause {T E : Type 0} (old new : ℕ) (result : Result T E) : Type 0 where
   pub later : old ≤ new
   pub failed : OnErr result (FaultRose old new)
 
--- a source was read: these bytes were taken, and each read but the last took at least one
+-- a source was read: these bytes were taken, by at most one read more than there are bytes
 pub record Takes (old new : SourceView) (bytes : List ℕ) : Type 0 where
   pub consumed : Consumes old.left new.left bytes
   pub progress : new.reads ≤ old.reads + length bytes + 1

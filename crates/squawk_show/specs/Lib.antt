@@ -1,4 +1,4 @@
--- What public contracts cite, from the edge inwards.
+-- What public contracts cite, from sources and sinks to whole runs.
 pub mod Edge
 pub mod Memory
 pub mod ReadWrite
@@ -7,5 +7,5 @@ pub mod Command
 pub mod Outcome
 pub mod Report
 pub mod Run
--- What private functions need.
+-- What the contracts of private functions cite.
 pub mod Digits

@@ -77,7 +77,7 @@ after_write n piece s =
 abbrev pub after_failed_write : SinkState → SinkState
 after_failed_write s = record s { calls = next_count s.calls; faults = next_count s.faults }
 
--- the errors that making a source or a sink in memory returns
+-- the errors of making a source or a sink in memory
 abbrev pub IsMemoryRefusal : FrontError → Type 0
 IsMemoryRefusal TooLong = ⊥
 IsMemoryRefusal OutOfMemory = ⊤

@@ -1,6 +1,7 @@
 -- The status of each error, and its line on standard error.
 use Rattle.std.specs.Prelude.{ℕ, List, [], ◌∷◌, ◌++◌, codes, decimal}
 use Rattle.squawk_events.specs.declared.error.FrontError.TheVariants.{TooLong, OutOfMemory}
+use Rattle.squawk_show.specs.Report.{line_feed}
 use Rattle.squawk_show.specs.declared.error.RunError.{RunError}
 use Rattle.squawk_show.specs.declared.error.RunError.TheVariants.{BadWords, ReadFault, NotUtf8, Front, WriteFault}
 
@@ -33,4 +34,4 @@ error_number WriteFault = []
 
 -- the line that `run` writes to `err` for an error
 abbrev pub error_line : RunError → List ℕ
-error_line e = error_message e ++ error_number e ++ 10 ∷ []
+error_line e = error_message e ++ error_number e ++ line_feed ∷ []

@@ -1,4 +1,4 @@
--- What reading a source to its end does.
+-- Reading a source to its end.
 use Rattle.std.specs.Prelude.{ℕ, ◌≢◌, ◌≤◌, ◌+◌, length, Vec, Result, Err, IfOk, OnOk, IfErr, ⊤}
 use Rattle.std.specs.Io.KnownBytes.{IsAtEnd}
 use Rattle.std.specs.declared.alloc.Global.{Global}
@@ -7,7 +7,7 @@ use Rattle.squawk_show.specs.Edge.{SourceView, SourceFaultRose, Takes, TakesExac
 use Rattle.squawk_show.specs.declared.error.RunError.{RunError}
 use Rattle.squawk_show.specs.declared.error.RunError.TheVariants.{BadWords, ReadFault, NotUtf8, Front, WriteFault}
 
--- the errors of reading at most so many bytes, and when each comes
+-- the errors of reading at most `most` bytes, and when each comes
 abbrev pub IsReadRefusal : ℕ → (old new : SourceView) → RunError → Type 0
 IsReadRefusal most old new BadWords = ⊥
 IsReadRefusal most old new ReadFault = SourceFaultRose old new
@@ -16,7 +16,7 @@ IsReadRefusal most old new (Front TooLong) = TakesExactly old new (most + 1)
 IsReadRefusal most old new (Front OutOfMemory) = ⊤
 IsReadRefusal most old new WriteFault = ⊥
 
--- a source was read to its end, as far as at most so many bytes
+-- a source was read to its end, for at most `most` bytes, and how that ended
 pub record ReadsAll (most : ℕ) (old new : SourceView) (result : Result (Vec ℕ Global) RunError)
     : Type 0 where
   pub bytes : IfOk result (λ bytes. Takes old new bytes.items)

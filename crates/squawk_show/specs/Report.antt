@@ -52,7 +52,7 @@ depth_after depth (Token kind start end) = depth
 depth_after depth Exit = depth - 1
 depth_after depth (Error number at) = depth
 
--- the lines of steps with these ranges, the first of which stands at a depth
+-- the lines of steps with these ranges; the first step is at `depth`
 abbrev pub step_lines : ℕ → List StrStep → List (ℕ × ℕ) → List ℕ
 step_lines depth [] spans = []
 step_lines depth (x ∷ xs) [] = []

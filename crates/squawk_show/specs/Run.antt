@@ -134,14 +134,14 @@ pub record IsCutOff (run : Run) : Type 0 where
       × AppendsPrefix run.out_before run.out_after (output_of run.command tree)
 
 -- the errors of a run, and when each comes
-abbrev pub IsRefused : Run → RunError → Type 0
-IsRefused run BadWords = IsErr run.command
-IsRefused run ReadFault = IsOk run.command × SourceFaultRose run.source_before run.source_after
-IsRefused run (NotUtf8 at) = IsInvalidAt at run.command run.source_before run.source_after
-IsRefused run (Front TooLong) = IsOk run.command
+abbrev pub IsRunRefusal : Run → RunError → Type 0
+IsRunRefusal run BadWords = IsErr run.command
+IsRunRefusal run ReadFault = IsOk run.command × SourceFaultRose run.source_before run.source_after
+IsRunRefusal run (NotUtf8 at) = IsInvalidAt at run.command run.source_before run.source_after
+IsRunRefusal run (Front TooLong) = IsOk run.command
     × TakesExactly run.source_before run.source_after (limit + 1)
-IsRefused run (Front OutOfMemory) = IsOk run.command
-IsRefused run WriteFault = IsCutOff run
+IsRunRefusal run (Front OutOfMemory) = IsOk run.command
+IsRunRefusal run WriteFault = IsCutOff run
 
 -- a run with this outcome, but for what it writes to `err`
 pub record EndsWith (run : Run) (outcome : Result Tree RunError) : Type 0 where
@@ -149,14 +149,14 @@ pub record EndsWith (run : Run) (outcome : Result Tree RunError) : Type 0 where
   pub tree : IfOk outcome (IsTreeOf run.command run.source_before)
   pub balanced : IfOk outcome IsTree
   pub end : OnOk outcome (IsReadToEnd run.command run.source_after)
-  pub refusals : IfErr outcome (IsRefused run)
+  pub refusals : IfErr outcome (IsRunRefusal run)
 
 -- a sink took the line of an error, or a prefix of it where it failed
 pub record WritesErrorLine (old new : SinkView) (e : RunError) : Type 0 where
   pub prefix : AppendsPrefix old new (error_line e)
   pub whole : ¬ (SinkFaultRose old new) → AppendsAll old new (error_line e)
 
--- Parts of a run
+-- What the contracts of private functions cite
 
 -- the errors of making the tree of bytes within the limit, and when each comes
 abbrev pub IsParseRefusal : List ℕ → RunError → Type 0

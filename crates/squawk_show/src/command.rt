@@ -7,11 +7,11 @@ use crate::RunError;
 /// A command of the program.
 #[derive(Clone, Copy, Debug, PartialEq, Eq)]
 pub enum Command {
-    /// Reads a text, and writes the report of its tree. It is named by no words.
+    /// Reads a text and writes the report of its tree: the command of an empty command line.
     Report,
 }
 
-// Reads the words of the command line, without the program's name.
+// Parses the words of the command line, which leave out the program's name.
 pub(crate) fn parse_command(words: &[String]) -> Result<Command, RunError>
     ensures { result ≡ command_of words.now }
 {

@@ -9,7 +9,7 @@ fn digit(n: u32) -> u8
     requires { n < 10 }
     ensures { result ≡ 48 + n }
 {
-    48 + n as u8
+    b'0' + n as u8
 }
 
 // The number of digits of a number.
@@ -29,7 +29,7 @@ fn digit_count(n: u32) -> usize
     }
 }
 
-// Four bytes that start with all digits of a number; the bytes after them do not matter.
+// Four bytes that start with all digits of a number. The bytes after them have no meaning.
 fn leading_bytes(n: u32) -> [u8; 4]
     requires { n < 10000 }
     ensures { take (length (decimal n)) result ≡ decimal n }
@@ -100,8 +100,8 @@ pub(crate) struct DigitTables {
     ghost trailing_digits: { spec.IsTrailingTable 10000 trailing.items },
 }
 
-// A number with its digits: `width` bytes of `leading`, and then bytes of `trailing` up to `len`
-// bytes in all.
+// A number with its digits in packed bytes: `width` digits from `leading`, and then digits from
+// `trailing` up to `len` digits in all.
 #[derive(Clone, Copy)]
 pub(crate) struct Number {
     pub(crate) value: u32,
@@ -168,7 +168,7 @@ impl DigitTables {
         }
     }
 
-    // As `number`, but reuses the digits of the last number if that is the same.
+    // As `number`, but reuses the digits of `last` if that is the same number.
     #[inline(always)]
     pub(crate) fn number_after(&self, last: Number, value: u32) -> Number
         requires { value < 100000000 }
@@ -181,7 +181,7 @@ impl DigitTables {
     }
 }
 
-// Writes four packed bytes at an offset. Callers count only a prefix of them: what follows it is
+// Writes four packed bytes at an offset. Callers need only a prefix of them; the rest is
 // overwritten later or cut off.
 #[inline(always)]
 fn put_u32(text: &mut [u8], at: usize, packed: u32)

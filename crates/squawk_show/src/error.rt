@@ -8,8 +8,7 @@ use squawk_events::FrontError;
 use std::alloc::{AllocError, AllocFailed};
 use thiserror::Error;
 
-/// Why a run ends without a report. Its displayed text is the line on standard error, without the
-/// LF.
+/// Why a run ends without a report. It is displayed as its line on standard error without the LF.
 #[derive(Clone, Copy, Debug, PartialEq, Eq, Error)]
 pub enum RunError {
     /// The words of the command line name no command.
@@ -84,7 +83,7 @@ impl<T: Drop> From<AllocFailed<T>> for RunError {
     }
 }
 
-/// Two errors are equal exactly if they are the same. For proofs: it does nothing.
+/// A law, for proofs: two errors are equal exactly if they are the same.
 pub fn run_errors_are_equal_if_same()
     ensures { (a b : RunError) → IsTrue (⟦<RunError as PartialEq>⟧.eq a b) ↔ (a ≡ b) }
 {}

@@ -8,7 +8,7 @@ ghost use Rattle.squawk_show.specs.Report as spec;
 use crate::digits::{DigitTables, Number, put_number};
 use crate::line_buffer::LineBuffer;
 use squawk_kinds::SyntaxKind;
-use squawk_names::row;
+use squawk_names::name_window;
 use std::alloc::AllocError;
 
 // Appends the line of a node or a leaf, whatever its depth and its range.
@@ -84,23 +84,24 @@ fn put_line(
     put_byte(text, at, b'\n')
 }
 
-// Appends a row of 64 bytes, which has the printed text from offset 4 on, and turns it into a line.
+// Appends a window of 64 bytes, in which the printed text starts at offset 4, and turns it into a
+// line.
 #[inline(always)]
 fn push_short_line(
     out: &mut Vec<u8>,
-    row: &[u8],
+    window: &[u8],
     depth: usize,
     letter: u8,
     len: usize,
     start: Number,
     end: Number,
 ) -> Result<(), AllocError>
-    requires { (length row.now ≡ 64) × ((len ≤ 39) × (depth < 10)) }
+    requires { (length window.now ≡ 64) × ((len ≤ 39) × (depth < 10)) }
     ensures { OnOk result (out.new.items ≡ out.old.items ++ spec.line_with_text depth letter
-        (take len (drop 4 row.now)) (start.value, end.value)) }
+        (take len (drop 4 window.now)) (start.value, end.value)) }
 {
     let old = out.len();
-    out.extend_from_slice(row)?;
+    out.extend_from_slice(window)?;
     let count = put_line(
         &mut out.as_mut_slice()[old..],
         depth,
@@ -113,8 +114,8 @@ fn push_short_line(
     Ok(())
 }
 
-// Appends the line of a node or a leaf. `last` is a number that was printed before: a line starts
-// mostly where the last one ended. Returns such a number for the next line.
+// Appends the line of a node or a leaf. `last` is a number with its digits, which are reused if the
+// line starts there, as most lines start where the one before ends. Returns the end for the next.
 #[inline(always)]
 pub(crate) fn push_line(
     out: &mut Vec<u8>,
@@ -130,10 +131,10 @@ pub(crate) fn push_line(
 {
     if let Some(tables) = tables {
         if depth < 10 && range.0 < 100_000_000 && range.1 < 100_000_000 {
-            if let Some((row, len)) = row(kind.to_raw()) {
+            if let Some((window, len)) = name_window(kind.to_raw()) {
                 let start = tables.number_after(last, range.0);
                 let end = tables.number(range.1);
-                push_short_line(out, row, depth, letter, len, start, end)?;
+                push_short_line(out, window, depth, letter, len, start, end)?;
                 return Ok(end);
             }
         }

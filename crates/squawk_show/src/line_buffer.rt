@@ -4,11 +4,11 @@ ghost use Rattle.std.specs.Prelude.{◌≡◌, ◌≤◌, ◌+◌, ◌++◌, [],
 use itoa::write_digits;
 use std::marker::Model;
 
-// The most bytes of a line.
+// The most bytes of a line. The longest line of a report has fewer than 110.
 const CAPACITY: usize = 128;
 
 // A line of at most 128 bytes, built from its end to its start, so that digits need no second copy.
-// It takes no memory.
+// It allocates nothing.
 #[derive(Drop)]
 pub(crate) struct LineBuffer {
     bytes: [u8; CAPACITY],

@@ -1,4 +1,4 @@
-//! The program: the report of the text on standard input.
+//! The program: it writes the report of the syntax tree of the SQL on standard input.
 #![tactic(auto)]
 
 mod command;
@@ -30,7 +30,7 @@ pub use writing::write_whole;
 // The status if there is not enough memory for the words of the command line.
 const OUT_OF_MEMORY: u8 = 6;
 
-// The status if the system refuses the words for another cause, as where one is not UTF-8.
+// The status if the system refuses the words for another reason, such as one that is not UTF-8.
 const WORDS_REFUSED: u8 = 11;
 
 fn main(rt: HostRuntime) -> ExitCode {

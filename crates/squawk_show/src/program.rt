@@ -3,7 +3,7 @@ ghost use Rattle.std.specs.Prelude.{◌⊎◌, ◌≡◌, ◌≢◌, ◌≤◌, 
 ghost use Rattle.squawk_events.specs.Limit.{limit};
 ghost use Rattle.squawk_show.specs.Command.{command_of};
 ghost use Rattle.squawk_show.specs.Edge.{TakesAtMost, SourceFaultRose, SinkFaultRose};
-ghost use Rattle.squawk_show.specs.Run.{Writes, IsReadToEnd, IsText, IsInvalidText, IsOverLimit, HasInput, IsTreeOf, HasLeavesOf, IsDivided, IsRefused, EndsWith, WritesErrorLine, status_of, IsParsed, IsParseRefusal, IsReported, IsReportRefusal};
+ghost use Rattle.squawk_show.specs.Run.{Writes, IsReadToEnd, IsText, IsInvalidText, IsOverLimit, HasInput, IsTreeOf, HasLeavesOf, IsDivided, IsRunRefusal, EndsWith, WritesErrorLine, status_of, IsParsed, IsParseRefusal, IsReported, IsReportRefusal};
 ghost use Rattle.squawk_tree.specs.Tree.{IsTree};
 
 use crate::command::parse_command;
@@ -37,7 +37,7 @@ fn parse_bytes(alloc: Global, bytes: &[u8]) -> Result<Parse, RunError>
     }
 }
 
-// Reads the input to its end, and makes its tree and the whole report.
+// Reads the source to its end, and makes the tree of its text and the whole report.
 fn prepare_report<S: Source>(alloc: Global, source: &mut S) -> Result<(Parse, Vec<u8>), RunError>
     ensures reported { IfOk result (λ r.
         IsReported (S.view source.old) (S.view source.new) r.0 r.1.items) }
@@ -103,10 +103,9 @@ fn run_command<S: Source, K: Sink>(
 /// Runs the program: reads the source to its end, writes the report of its tree to `out`, and
 /// returns how that ended.
 ///
-/// `words` are those of the command line without the program's name. Words that name no command are
-/// refused, and then nothing is read. The whole report is made before its first byte is written,
-/// and writing takes no memory. After an error its line is written to `err`, whose faults change
-/// nothing.
+/// `words` are those of the command line without the program's name. If they name no command,
+/// nothing is read. The whole report is made before its first byte is written, and writing
+/// allocates nothing. After an error its line is written to `err`, whose faults change nothing.
 pub fn run<S: Source, K: Sink, E: Sink>(
     alloc: Global,
     words: &[String],
@@ -130,7 +129,7 @@ pub fn run<S: Source, K: Sink, E: Sink>(
     ensures children { IfOk result.outcome (IsDivided (command_of words.now) (S.view source.old)) }
 
     // When each error comes.
-    ensures refusals { IfErr result.outcome (IsRefused (record {
+    ensures refusals { IfErr result.outcome (IsRunRefusal (record {
       command = command_of words.now;
       source_before = S.view source.old;
       source_after = S.view source.new;
@@ -145,9 +144,9 @@ pub fn run<S: Source, K: Sink, E: Sink>(
     ensures untouched { IfErr result.outcome (λ e. e ≢ RunError.WriteFault → out.new ≡ out.old) }
     ensures error_line { IfErr result.outcome (WritesErrorLine (E.view err.old) (E.view err.new)) }
 
-    // Without a fault of the source, its bytes decide the status, unless there is not enough
-    // memory: a text within the limit, if `out` has no fault either; bytes within the limit that
-    // are not UTF-8; more bytes.
+    // Without a fault of the source, its bytes decide the status unless memory runs out. Each
+    // clause has one case: a text within the limit, where `out` has no fault either; bytes within
+    // the limit that are not UTF-8; more bytes than the limit.
     ensures complete { HasInput IsText (command_of words.now) (S.view source.old)
         → ¬ (SourceFaultRose (S.view source.old) (S.view source.new))
         → ¬ (SinkFaultRose (K.view out.old) (K.view out.new))

@@ -13,9 +13,9 @@ const CHUNK: usize = 65536;
 
 /// Reads a source to its end, and returns its bytes, of which there are at most `limit`.
 ///
-/// Each read but the last takes at least one byte. `ReadFault` comes only where the source failed,
-/// and `Front(TooLong)` exactly where `limit + 1` bytes were taken; more are never taken. The only
-/// other refusal is lack of memory.
+/// There is at most one read more than there are bytes taken. `ReadFault` comes only if the source
+/// failed, and `Front(TooLong)` exactly if `limit + 1` bytes were taken; more are never taken. The
+/// only other error is `Front(OutOfMemory)`. What was taken before an error is lost.
 pub fn read_all<S: Source>(alloc: Global, source: &mut S, limit: u64) -> Result<Vec<u8>, RunError>
     requires { limit ≤ 4294967295 }
     ensures bytes { IfOk result (λ b. Takes (S.view source.old) (S.view source.new) b.items) }
@@ -36,7 +36,7 @@ fn make_buffer(alloc: Global, size: usize) -> Result<Vec<u8>, AllocError>
     vec![in alloc; 0u8; size]
 }
 
-// Reads a source to its end by reads into a buffer.
+// Reads a source to its end. Each read fills a part of `chunk`.
 fn read_by_chunks<S: Source>(
     alloc: Global,
     source: &mut S,

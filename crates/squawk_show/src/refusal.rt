@@ -1,4 +1,4 @@
-//! The line on standard error.
+//! The line that `run` writes to `err` after an error.
 ghost use Rattle.std.specs.Prelude.{◌≡◌, ◌≤◌, ◌+◌, ◌++◌, ◌∷◌, [], length};
 ghost use Rattle.squawk_show.specs.Outcome.{error_line, error_number};
 ghost use Rattle.squawk_show.specs.Run.{WritesErrorLine};
@@ -18,7 +18,7 @@ fn prepend_error_number(line: &mut LineBuffer, error: RunError)
     }
 }
 
-// The line on standard error for an error.
+// The line for an error.
 fn error_line(error: RunError) -> LineBuffer
     ensures { result ≡ error_line error }
 {
@@ -29,7 +29,7 @@ fn error_line(error: RunError) -> LineBuffer
     line
 }
 
-// Writes the line of an error, without taking memory. A fault of the sink is ignored: a prefix of
+// Writes the line for an error, and allocates nothing. A fault of the sink is ignored; a prefix of
 // the line was written then.
 pub(crate) fn write_error_line<E: Sink>(err: &mut E, error: RunError)
     ensures { WritesErrorLine (E.view err.old) (E.view err.new) error }

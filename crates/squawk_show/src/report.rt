@@ -12,10 +12,10 @@ use std::alloc::{AllocError, Global};
 const MIN_STEPS_FOR_TABLES: usize = 16384;
 
 // The average length of a line, in bytes.
-const USUAL_LINE: usize = 34;
+const AVERAGE_LINE_LEN: usize = 34;
 
-// Appends the line of a step, if it has one. Returns the depth after it, and the last printed
-// number.
+// Appends the line of a step, if it has one. Returns the depth after it, and the number where the
+// next line probably starts: the end of a leaf, while the first child of a node starts with it.
 #[inline(always)]
 fn push_step(
     out: &mut Vec<u8>,
@@ -43,12 +43,12 @@ fn push_step(
     }
 }
 
-// An empty report with room for its lines. Without memory for that much it grows as needed.
+// An empty report with room for its lines. If that much memory cannot be had, it grows as needed.
 fn make_room(alloc: Global, steps: usize) -> Vec<u8>
     ensures { result.items ≡ [] }
 {
     let mut out = Vec::new(alloc);
-    let _ = out.reserve(steps.saturating_mul(USUAL_LINE));
+    let _ = out.reserve(steps.saturating_mul(AVERAGE_LINE_LEN));
     out
 }
 
@@ -60,10 +60,9 @@ fn make_tables(alloc: Global, steps: usize) -> Result<Option<DigitTables>, Alloc
     Ok(Some(DigitTables::new(alloc)?))
 }
 
-/// Returns the report of a tree: a line for each node and leaf, in order.
+/// Returns the report of a tree as UTF-8: a line for each node and leaf, in order.
 ///
-/// It takes time and memory in proportion to the report's length. The only refusal is lack of
-/// memory.
+/// Time and memory are linear in the length of the report. Fails only if memory runs out.
 pub fn make_report(alloc: Global, parse: &Parse) -> Result<Vec<u8>, AllocError>
     ensures { IfOk result (λ text. text.items ≡ report_of parse.now) }
 {

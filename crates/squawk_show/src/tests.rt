@@ -1,4 +1,4 @@
-//! What no clause says: worked examples with ample memory, a fault at each call, and streams of std.
+//! What no clause says: worked examples with ample memory, a fault at each call, streams of std.
 use crate::{
     Failed, MemorySink, MemorySource, ReadSource, RunError, Sink, Source, WriteSink, read_all, run,
     run_streams,
@@ -149,8 +149,8 @@ fn runs_without_words(rt: HostRuntime) -> Result<(), Fail> {
     Ok(())
 }
 
-// Four calls read the input, and three write the report. A fault at one of them ends the run, and
-// one after them does not come.
+// Four calls read the input, and three write the report. A fault at one of them ends the run; one
+// that is set for a later call never comes.
 #[test]
 fn a_fault_at_each_call(rt: HostRuntime) -> Result<(), Fail> {
     for (failing, read_status, write_status, written) in [
@@ -326,7 +326,7 @@ fn refusals_are_displayed_as_their_lines(rt: HostRuntime) -> Result<(), Fail> {
         (RunError::WriteFault, "cannot write the output"),
     ] {
         let text = format!(in rt.alloc(); "{error}")?;
-        assert_eq!(rt; text.as_str(), expected);
+        assert_eq!(rt; text.as_str(), expected, "{expected}");
     }
     Ok(())
 }

@@ -35,15 +35,17 @@ IsKeywordOf kind category = Contains category kind → Contains all_keywords kin
 module _ {X : Type 0} (a b c d : X) where
   all_four : (P : X → Type 0) → P a → P b → P c → P d → All P (a ∷ b ∷ c ∷ d ∷ [])
   all_four P at_a at_b at_c at_d =
-      All-cons P a (b ∷ c ∷ d ∷ []) at_a (All-cons P b (c ∷ d
-      ∷ []) at_b (All-cons P c (d ∷ []) at_c (All-cons P d [] at_d (All-nil P))))
+      All-cons P a (b ∷ c ∷ d ∷ []) at_a
+      (All-cons P b (c ∷ d ∷ []) at_b
+      (All-cons P c (d ∷ []) at_c
+      (All-cons P d [] at_d (All-nil P))))
 
   pairs_of_four : (R : X → X → Type 0) → R a b → R a c → R a d → R b c → R b d → R c d
       → AllPairs R (a ∷ b ∷ c ∷ d ∷ [])
   pairs_of_four R ab ac ad bc bd cd =
       AllPairs-cons R a (b ∷ c ∷ d ∷ [])
-      (All-cons (R a) b (c ∷ d ∷ []) ab (All-cons (R a) c (d
-      ∷ []) ac (All-cons (R a) d [] ad (All-nil (R a)))))
+      (All-cons (R a) b (c ∷ d ∷ []) ab
+      (All-cons (R a) c (d ∷ []) ac (All-cons (R a) d [] ad (All-nil (R a)))))
       (AllPairs-cons R b (c ∷ d ∷ [])
       (All-cons (R b) c (d ∷ []) bc (All-cons (R b) d [] bd (All-nil (R b))))
       (AllPairs-cons R c (d ∷ []) (All-cons (R c) d [] cd (All-nil (R c)))
@@ -144,8 +146,8 @@ module _ (flags : List ℕ) (has : HasFlags flags) (ok : list_all is_sum flags �
       ↔ Any (λ category. Contains category kind) categories
   categories_union kind = (
     category_of kind,
-    λ some. keyword_if kind some.0 some.1 some.2 (subst (λ category.
-        Contains category kind) (sym some.3) some.4),
+    λ some. keyword_if kind some.0 some.1 some.2
+        (subst (λ category. Contains category kind) (sym some.3) some.4),
   )
 
   -- no kind is of two categories

@@ -13,8 +13,8 @@ flagged bit n [] [] = true
 flagged bit n [] (m ∷ ms) = false
 flagged bit n (f ∷ fs) [] = (bit_at f bit == 0) && flagged bit (suc n) fs []
 flagged bit n (f ∷ fs) (m ∷ ms) =
-    (bit_at f bit == (if m == n then 1 else 0)) && flagged bit (suc n) fs (if m == n then ms
-    else m ∷ ms)
+    (bit_at f bit == (if m == n then 1 else 0))
+    && flagged bit (suc n) fs (if m == n then ms else m ∷ ms)
 
 -- one of two tests
 abbrev pick : Bool → Bool → Bool → Bool
@@ -31,8 +31,7 @@ unfolding has
 has_same m ms k same =
     elim (eqb_tells m k) [
       | inl here ↦ ap (pick true (has ms k)) here.0
-      | inr other ↦ absurd
-          (other.1 same)
+      | inr other ↦ absurd (other.1 same)
     ]
 
 -- where the first number is another, the rest decides
@@ -41,8 +40,7 @@ unfolding has
 has_other m ms k differs =
     elim (eqb_tells m k) [
       | inl here ↦ absurd (differs here.1)
-      | inr other ↦ ap
-          (pick true (has ms k)) other.0
+      | inr other ↦ ap (pick true (has ms k)) other.0
     ]
 
 -- the list contains a number that it has
@@ -69,8 +67,8 @@ has_at (m ∷ ms) k (suc i) lt at =
 
 -- what the test says where the first kind is the first member
 flagged_same : (bit n f : ℕ) (fs : List ℕ) (m : ℕ) (ms : List ℕ) → m ≡ n
-    → flagged bit n (f ∷ fs) (m ∷ ms) ≡ true → (bit_at f bit ≡ 1)
-    × (flagged bit (suc n) fs ms ≡ true)
+    → flagged bit n (f ∷ fs) (m ∷ ms) ≡ true
+    → (bit_at f bit ≡ 1) × (flagged bit (suc n) fs ms ≡ true)
 unfolding flagged
 flagged_same bit n f fs m ms same ok =
     let first = λ (b : Bool). (bit_at f bit == (if b then 1 else 0))
@@ -85,8 +83,8 @@ flagged_same bit n f fs m ms same ok =
 
 -- what it says where the first member is a later kind
 flagged_other : (bit n f : ℕ) (fs : List ℕ) (m : ℕ) (ms : List ℕ) → (m ≡ n → ⊥)
-    → flagged bit n (f ∷ fs) (m ∷ ms) ≡ true → (bit_at f bit ≡ 0)
-    × (flagged bit (suc n) fs (m ∷ ms) ≡ true)
+    → flagged bit n (f ∷ fs) (m ∷ ms) ≡ true
+    → (bit_at f bit ≡ 0) × (flagged bit (suc n) fs (m ∷ ms) ≡ true)
 unfolding flagged
 flagged_other bit n f fs m ms differs ok =
     let first = λ (b : Bool). (bit_at f bit == (if b then 1 else 0))
@@ -110,8 +108,9 @@ flagged_low bit n (f ∷ fs) (m ∷ ms) k ok lt =
       | inl here ↦
           has_other m ms k (λ e. not_lt_self k (omega (arith, e, here.1)))
           ∙ flagged_low bit (suc n) fs ms k (flagged_same bit n f fs m ms here.1 ok).1 (omega arith)
-      | inr other ↦ flagged_low bit (suc n) fs (m
-          ∷ ms) k (flagged_other bit n f fs m ms other.1 ok).1 (omega arith)
+      | inr other ↦
+          let rest = (flagged_other bit n f fs m ms other.1 ok).1 in
+          flagged_low bit (suc n) fs (m ∷ ms) k rest (omega arith)
     ]
   where
     not_lt_self : (x : ℕ) → x < x → ⊥
@@ -139,8 +138,8 @@ flagged_at bit n (f ∷ fs) (m ∷ ms) zero ok lt =
           ∙ ap one_if (sym (has_same m ms (n + 0) (omega (arith, here.1))))
       | inr other ↦
           let parts = flagged_other bit n f fs m ms other.1 ok in
-          parts.0 ∙ ap one_if (sym (flagged_low bit (suc n) fs (m
-          ∷ ms) (n + 0) parts.1 (omega arith)))
+          parts.0
+          ∙ ap one_if (sym (flagged_low bit (suc n) fs (m ∷ ms) (n + 0) parts.1 (omega arith)))
     ]
 flagged_at bit n (f ∷ fs) (m ∷ ms) (suc k) ok lt =
     let moved : suc n + k ≡ n + suc k = omega arith in
@@ -166,9 +165,9 @@ IsFlag : (flags ms : List ℕ) (bit kind : ℕ)
     → flagged bit 0 flags ms ≡ true → kind < length flags
     → (bit_at (slice_index flags kind) bit ≡ 1) ↔ Contains ms kind
 IsFlag flags ms bit kind ok lt =
+    let from_zero : 0 + kind ≡ kind = omega arith in
     let at : bit_at (slice_index flags kind) bit ≡ one_if (has ms kind) =
-    flagged_at bit 0 flags ms kind ok lt ∙ ap (λ j. one_if (has ms j)) (let h : 0 + kind ≡ kind =
-    omega arith in h) in (
+    flagged_at bit 0 flags ms kind ok lt ∙ ap (λ j. one_if (has ms j)) from_zero in (
       λ set. has_true ms kind (one_if_true (has ms kind) (sym at ∙ set)),
       λ member. at ∙ ap one_if (has_at ms kind member.0 member.1 member.2),
     )
@@ -188,16 +187,14 @@ flagged_within bit n (f ∷ fs) (m ∷ ms) ok k d lt =
             | suc j ↦ λ below.
                 omega (arith, flagged_within bit (suc n) fs ms rest j d (le_of_suc-le-suc below))
           ] lt
-      | inr other ↦ omega (
-        arith,
-        flagged_within bit (suc n) fs (m
-            ∷ ms) (flagged_other bit n f fs m ms other.1 ok).1 k d lt,
-      )
+      | inr other ↦
+          let rest = (flagged_other bit n f fs m ms other.1 ok).1 in
+          omega (arith, flagged_within bit (suc n) fs (m ∷ ms) rest k d lt)
     ]
 
 -- the tests of all sets together
-pub HasFlags_from : (flags : List ℕ) → ((set : Set)
-    → flagged (bit_of set) 0 flags (members_of set) ≡ true) → HasFlags flags
+pub HasFlags_from : (flags : List ℕ)
+    → ((set : Set) → flagged (bit_of set) 0 flags (members_of set) ≡ true) → HasFlags flags
 HasFlags_from flags each =
     record {
       each = λ set kind lt. IsFlag flags (members_of set) (bit_of set) kind (each set) lt;

@@ -48,8 +48,8 @@ kind_of_at (kind ∷ kinds) text zero d lt before is =
     kind_of_first (word_of kind) kind (pairs_of kinds) text is
 kind_of_at (kind ∷ kinds) text (suc i) d lt before is =
     kind_of_rest (word_of kind) kind (pairs_of kinds) text (before 0 (zero-lt-suc _))
-    ∙ kind_of_at kinds text i d (le_of_suc-le-suc lt) (λ j below.
-    before (suc j) (suc-le-suc below)) is
+    ∙ kind_of_at kinds text i d (le_of_suc-le-suc lt)
+    (λ j below. before (suc j) (suc-le-suc below)) is
 
 -- no kind's word equals the text
 pub kind_of_missing : (kinds text : List ℕ) (d : ℕ)
@@ -117,8 +117,8 @@ found_passes : (test : List ℕ × ℕ → Bool) (pairs : List (List ℕ × ℕ)
     → list_all test pairs ≡ true
     → (found : HasWord pairs text kind) → test found.1 ≡ true
 found_passes test pairs text kind all found =
-    subst (λ pair.
-    test pair ≡ true) found.3 (AllPass-from_list_all test pairs all found.0 found.1 found.2)
+    subst (λ pair. test pair ≡ true) found.3
+    (AllPass-from_list_all test pairs all found.0 found.1 found.2)
 
 -- whether the kind of the pair prints as its word between backquotes
 abbrev pub prints : List ℕ × ℕ → Bool
@@ -190,8 +190,8 @@ found_other pairs text (Some k) e all =
 
 -- what is known of a kind that was looked up
 module _ (pairs : List (List ℕ × ℕ)) (text : List ℕ) where
-  pub found_none : (kind : Option ℕ) → kind ≡ kind_of pairs text → IsNone kind
-      ↔ HasNoWord pairs text
+  pub found_none : (kind : Option ℕ) → kind ≡ kind_of pairs text
+      → IsNone kind ↔ HasNoWord pairs text
   found_none kind e = (
     λ none. kind_of_none_back pairs text (sym (ap is_some e) ∙ none),
     λ all. ap is_some (e ∙ kind_of_none pairs text all),

@@ -75,8 +75,8 @@ module _ (kinds starts : List ℕ) (table : IsWordTable kinds starts) where
             ∙ ap ordering_reverse rise in
             cc
         | inr ge ↦
-            differs_if word text Less less refl (ap (λ n.
-            word_of (slice_index kinds n)) (le_antisymm ge le) ∙ same)
+            differs_if word text Less less refl
+            (ap (λ n. word_of (slice_index kinds n)) (le_antisymm ge le) ∙ same)
       ]
 
   -- a word at or after one that is greater than the text differs from it
@@ -94,12 +94,12 @@ module _ (kinds starts : List ℕ) (table : IsWordTable kinds starts) where
             let clash : Less ≡ Greater = sym rise ∙ above in
             cc
         | inr ge ↦
-            differs_if word text Greater greater refl (ap (λ n.
-            word_of (slice_index kinds n)) (le_antisymm le ge) ∙ same)
+            differs_if word text Greater greater refl
+            (ap (λ n. word_of (slice_index kinds n)) (le_antisymm le ge) ∙ same)
       ]
 
-  module _ (text : List ℕ) (index : ℕ) (listed : length text + 1
-      < length starts) (low : slice_index starts (length text) ≤ index)
+  module _ (text : List ℕ) (index : ℕ) (listed : length text + 1 < length starts)
+      (low : slice_index starts (length text) ≤ index)
       (high : index < slice_index starts (length text + 1)) where
     -- the table has this index, and its word is as long as the text
     pub index_within : index < length kinds
@@ -113,8 +113,8 @@ module _ (kinds starts : List ℕ) (table : IsWordTable kinds starts) where
         (str_to_ascii_lowercase text) ≡ Less
         → (i : ℕ) → i ≤ index → word_of (slice_index kinds i) ≢ str_to_ascii_lowercase text
     none_below less i le =
-        lower_differs index i (str_to_ascii_lowercase text) le index_within (len_at
-        ∙ sym (length-map text _)) less
+        lower_differs index i (str_to_ascii_lowercase text) le index_within
+        (len_at ∙ sym (length-map text _)) less
 
     -- where it is greater, no word from it on does
     pub none_above : slice_cmp nat_cmp (word_of (slice_index kinds index))
@@ -122,8 +122,8 @@ module _ (kinds starts : List ℕ) (table : IsWordTable kinds starts) where
         → (i : ℕ) → index ≤ i → i < length kinds
         → word_of (slice_index kinds i) ≢ str_to_ascii_lowercase text
     none_above greater i le lt =
-        higher_differs index i (str_to_ascii_lowercase text) le lt (len_at
-        ∙ sym (length-map text _)) greater
+        higher_differs index i (str_to_ascii_lowercase text) le lt
+        (len_at ∙ sym (length-map text _)) greater
 
   -- where no word of the text's length equals it, no word does
   pub look_up_none : (text : List ℕ) → length text + 1 < length starts

@@ -19,7 +19,8 @@ module _ (starts text offsets : List ℕ) (total : ℕ) where
   -- it has the words of the kinds, at the indices from `index` on
   unfoldable pub are_spelled : ℕ → List ℕ → Bool
   are_spelled index [] = true
-  are_spelled index (kind ∷ kinds) = is_spelled (word_of kind) index && are_spelled (suc index) kinds
+  are_spelled index (kind ∷ kinds) =
+      is_spelled (word_of kind) index && are_spelled (suc index) kinds
 
   -- what the tests say
   is_spelled_true : (word : List ℕ) (index : ℕ) → length text ≡ total → is_spelled word index ≡ true
@@ -35,25 +36,25 @@ module _ (starts text offsets : List ℕ) (total : ℕ) where
         has_offset = ltb-true _ _ first.0;
         has_start = ltb-true _ _ second.0;
         low = leb-true _ _ third.0;
-        within = subst (λ n. word_start starts offsets (length word) index + length word
-            ≤ n) (sym size) (leb-true _ _ fourth.0);
+        within = subst (λ n. word_start starts offsets (length word) index + length word ≤ n)
+            (sym size) (leb-true _ _ fourth.0);
         word_is = (bytes_eq-Decides _ _).0 fourth.1;
       }
 
-  are_spelled_at : (index : ℕ) (kinds : List ℕ) → length text ≡ total → are_spelled index kinds ≡ true
-      → (i d : ℕ) → i < length kinds
+  are_spelled_at : (index : ℕ) (kinds : List ℕ) → length text ≡ total
+      → are_spelled index kinds ≡ true → (i d : ℕ) → i < length kinds
       → IsSpelledAt starts text offsets (word_of (get_or kinds i d)) (index + i)
   unfolding are_spelled
   are_spelled_at index [] size ok i d lt = absurd (not-suc-le-zero lt)
   are_spelled_at index (kind ∷ kinds) size ok zero d lt =
       let parts = and_parts (is_spelled (word_of kind) index) (are_spelled (suc index) kinds) ok in
-      subst (IsSpelledAt starts text offsets (word_of kind)) (let h : index ≡ index + 0 =
-      omega arith in h)
+      let here : index ≡ index + 0 = omega arith in
+      subst (IsSpelledAt starts text offsets (word_of kind)) here
       (is_spelled_true (word_of kind) index size parts.0)
   are_spelled_at index (kind ∷ kinds) size ok (suc i) d lt =
       let parts = and_parts (is_spelled (word_of kind) index) (are_spelled (suc index) kinds) ok in
-      subst (IsSpelledAt starts text offsets (word_of (get_or kinds i d))) (let h : suc index + i
-      ≡ index + suc i = omega arith in h)
+      let later : suc index + i ≡ index + suc i = omega arith in
+      subst (IsSpelledAt starts text offsets (word_of (get_or kinds i d))) later
       (are_spelled_at (suc index) kinds size parts.1 i d (le_of_suc-le-suc lt))
 
   pub IsSpelled_from : (kinds : List ℕ) → length text ≡ total → are_spelled 0 kinds ≡ true
@@ -61,7 +62,7 @@ module _ (starts text offsets : List ℕ) (total : ℕ) where
   IsSpelled_from kinds size ok =
       record {
         each = λ i d lt.
-            subst (IsSpelledAt starts text offsets (word_of (get_or kinds i d))) (let h : 0 + i
-            ≡ i = omega arith in h)
+            let at : 0 + i ≡ i = omega arith in
+            subst (IsSpelledAt starts text offsets (word_of (get_or kinds i d))) at
             (are_spelled_at 0 kinds size ok i d lt);
       }

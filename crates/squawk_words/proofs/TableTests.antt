@@ -38,8 +38,8 @@ is_sorted_above word (kind ∷ kinds) ok (suc k) d lt =
     (is_sorted (word_of kind) kinds) ok in
     let next = word_of kind in
     let far = word_of (get_or kinds k d) in
-    nat_list_cmp_total.trans (length word ∷ word) (length next ∷ next) (length far
-    ∷ far) (less_if _ parts.0)
+    nat_list_cmp_total.trans (length word ∷ word) (length next ∷ next) (length far ∷ far)
+    (less_if _ parts.0)
     (is_sorted_above next kinds parts.1 k d (le_of_suc-le-suc lt))
 
 -- each word comes before every later one
@@ -75,8 +75,7 @@ is_non_decreasing_above low (start ∷ starts) ok (suc j) d lt =
     omega (
       arith,
       leb-true low start parts.0,
-      is_non_decreasing_above start starts parts.1 j d
-          (le_of_suc-le-suc lt),
+      is_non_decreasing_above start starts parts.1 j d (le_of_suc-le-suc lt),
     )
 
 is_non_decreasing_ordered : (low : ℕ) (starts : List ℕ) → is_non_decreasing low starts ≡ true
@@ -87,13 +86,12 @@ is_non_decreasing_ordered low (start ∷ starts) ok zero zero d before lt = omeg
 is_non_decreasing_ordered low (start ∷ starts) ok (suc i) zero d before lt =
     absurd (not-suc-le-zero before)
 is_non_decreasing_ordered low (start ∷ starts) ok zero (suc j) d before lt =
-    is_non_decreasing_above start starts (and_parts (nat_le low start)
-    (is_non_decreasing start starts) ok).1 j d
-    (le_of_suc-le-suc lt)
+    let rest = (and_parts (nat_le low start) (is_non_decreasing start starts) ok).1 in
+    is_non_decreasing_above start starts rest j d (le_of_suc-le-suc lt)
 is_non_decreasing_ordered low (start ∷ starts) ok (suc i) (suc j) d before lt =
-    is_non_decreasing_ordered start starts (and_parts (nat_le low start)
-    (is_non_decreasing start starts) ok).1 i j d
-    (le_of_suc-le-suc before) (le_of_suc-le-suc lt)
+    let rest = (and_parts (nat_le low start) (is_non_decreasing start starts) ok).1 in
+    is_non_decreasing_ordered start starts rest i j d (le_of_suc-le-suc before)
+    (le_of_suc-le-suc lt)
 
 -- the index lies in the range of the words of this length
 unfoldable pub is_in_range : List ℕ → ℕ → ℕ → Bool
@@ -131,13 +129,13 @@ are_in_ranges_at starts index (kind ∷ kinds) ok zero d lt =
     let here = is_in_range_true starts _ index
     (and_parts (is_in_range starts (length (word_of kind)) index)
     (are_in_ranges starts (suc index) kinds) ok).0 in
-    subst (IsInRange starts (length (word_of kind))) (let h : index ≡ index + 0 = omega arith in
-    h) here
+    let from_index : index ≡ index + 0 = omega arith in
+    subst (IsInRange starts (length (word_of kind))) from_index here
 are_in_ranges_at starts index (kind ∷ kinds) ok (suc i) d lt =
     let rest = (and_parts (is_in_range starts (length (word_of kind)) index)
     (are_in_ranges starts (suc index) kinds) ok).1 in
-    subst (IsInRange starts (length (word_of (get_or kinds i d)))) (let h : suc index + i
-    ≡ index + suc i = omega arith in h)
+    let later : suc index + i ≡ index + suc i = omega arith in
+    subst (IsInRange starts (length (word_of (get_or kinds i d)))) later
     (are_in_ranges_at starts (suc index) kinds rest i d (le_of_suc-le-suc lt))
 
 -- the word of the kind is lowercase
@@ -152,22 +150,23 @@ pub IsWordTable_from : (kinds starts : List ℕ) → list_all (λ kind. nat_lt k
     → are_in_ranges starts 0 kinds ≡ true → IsWordTable kinds starts
 IsWordTable_from kinds starts numbers lower rise climb within index =
     record {
-      numbers = λ k d lt. ltb-true _ _ (AllPass-from_list_all (λ kind.
-          nat_lt kind 2068) kinds numbers k d lt);
+      numbers = λ k d lt.
+          ltb-true _ _ (AllPass-from_list_all (λ kind. nat_lt kind 2068) kinds numbers k d lt);
       lowercase = λ k d lt.
           (bytes_eq-Decides _ _).0 (AllPass-from_list_all is_lower kinds lower k d lt);
       sorted = sorted_pairs [] kinds rise;
       starts_sorted = is_non_decreasing_ordered 0 starts climb;
-      starts_within = λ k d lt. leb-true _ _ (AllPass-from_list_all (λ start.
-          nat_le start (length kinds)) starts within k d lt);
+      starts_within = λ k d lt.
+          leb-true _ _
+          (AllPass-from_list_all (λ start. nat_le start (length kinds)) starts within k d lt);
       ranges = λ i d lt.
           subst (IsInRange starts (length (word_of (get_or kinds i d))))
           (let h : 0 + i ≡ i = omega arith in h) (are_in_ranges_at starts 0 kinds index i d lt);
     }
 
 -- kinds that are sorted by their words, as pairs
-pub sorted_pairs_of : (kinds : List ℕ) → AllPairs (λ a b.
-    word_cmp (word_of a) (word_of b) ≡ Less) kinds
+pub sorted_pairs_of : (kinds : List ℕ)
+    → AllPairs (λ a b. word_cmp (word_of a) (word_of b) ≡ Less) kinds
     → AllPairs (λ a b. word_cmp a.0 b.0 ≡ Less) (pairs_of kinds)
 sorted_pairs_of kinds rise i j d before lt =
     let size : length (pairs_of kinds) ≡ length kinds =

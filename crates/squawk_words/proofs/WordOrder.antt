@@ -37,17 +37,18 @@ word_cmp_bytes a b same =
     ap (λ o. ordering_then o (slice_cmp nat_cmp a b)) (cmp_same (length a) (length b) same)
 
 -- of two words that agree up to p, where one ends at p, the lengths decide the comparison
-pub cmp_at_end : (p : ℕ) (w t : List ℕ) → p ≤ length w → p ≤ length t → (length w ≤ p) ⊎ (length t ≤ p)
+pub cmp_at_end : (p : ℕ) (w t : List ℕ) → p ≤ length w → p ≤ length t
+    → (length w ≤ p) ⊎ (length t ≤ p)
     → nat_cmp (length w) (length t)
     ≡ slice_cmp nat_cmp (drop p w) (str_to_ascii_lowercase (drop p t))
 cmp_at_end zero [] [] lw lt e = refl
 cmp_at_end zero [] (y ∷ ts) lw lt e = cmp_less (length ts)
 cmp_at_end zero (x ∷ ws) [] lw lt e = cmp_greater (length ws)
-cmp_at_end zero (x ∷ ws) (y ∷ ts) lw lt e = ⊎_elim (λ h. absurd (not-suc-le-zero h)) (λ h.
-    absurd (not-suc-le-zero h)) e
+cmp_at_end zero (x ∷ ws) (y ∷ ts) lw lt e =
+    ⊎_elim (λ h. absurd (not-suc-le-zero h)) (λ h. absurd (not-suc-le-zero h)) e
 cmp_at_end (suc p) [] ts lw lt e = absurd (not-suc-le-zero lw)
 cmp_at_end (suc p) (x ∷ ws) [] lw lt e = absurd (not-suc-le-zero lt)
 cmp_at_end (suc p) (x ∷ ws) (y ∷ ts) lw lt e =
     cmp_suc (length ws) (length ts)
-    ∙ cmp_at_end p ws ts (le_of_suc-le-suc lw) (le_of_suc-le-suc lt) (⊎_elim (λ h.
-    inl (le_of_suc-le-suc h)) (λ h. inr (le_of_suc-le-suc h)) e)
+    ∙ cmp_at_end p ws ts (le_of_suc-le-suc lw) (le_of_suc-le-suc lt)
+    (⊎_elim (λ h. inl (le_of_suc-le-suc h)) (λ h. inr (le_of_suc-le-suc h)) e)

@@ -307,8 +307,8 @@ type_keywords =
     kind.XMLSERIALIZE_KW ∷ kind.XMLTABLE_KW ∷ kind.YEAR_KW ∷ kind.YES_KW ∷ kind.ZONE_KW ∷
     []
 
--- keywords that may be a column label without `AS`: all but those that PostgreSQL's appendix C marks
--- "requires `AS`"
+-- keywords that may be a column label without `AS`: all but those that PostgreSQL's appendix C
+-- marks "requires `AS`"
 unfoldable pub bare_label_keywords : List SyntaxKind
 bare_label_keywords =
     kind.ABORT_KW ∷ kind.ABSENT_KW ∷ kind.ABSOLUTE_KW ∷ kind.ACCESS_KW ∷ kind.ACTION_KW ∷ kind.ADD_KW ∷

@@ -42,8 +42,9 @@ set_of count =
 -- so the members of a set determine it
 pub set_of_members : (set : Set) → set_of (length (members_of set)) ≡ set
 unfolding punctuation operators contextual_keywords column_or_table_keywords type_keywords
-    col_name_keyword_first type_func_name_keywords all_keywords bare_label_keywords unreserved_keywords
-    reserved_keywords plpgsql_reserved_keywords plpgsql_reserved_contextual_keywords
+    col_name_keyword_first type_func_name_keywords all_keywords bare_label_keywords
+    unreserved_keywords reserved_keywords plpgsql_reserved_keywords
+    plpgsql_reserved_contextual_keywords
 set_of_members Punctuation = refl
 set_of_members Operators = refl
 set_of_members ContextualKeywords = refl

@@ -12,12 +12,16 @@ use squawk_kinds::SyntaxKind;
 pub trait KindClass {
     ghost use Rattle.std.specs.Prelude.{◌↔◌, IsTrue};
 
+    /// What `is_keyword` decides, in contracts.
     ghost keyword: { Self → Type 0 };
 
+    /// What `is_operator` decides, in contracts.
     ghost operator: { Self → Type 0 };
 
+    /// What `is_punctuation` decides, in contracts.
     ghost punctuation: { Self → Type 0 };
 
+    /// What `is_trivia` decides, in contracts.
     ghost trivia: { Self → Type 0 };
 
     /// Whether it is a keyword or a contextual keyword.

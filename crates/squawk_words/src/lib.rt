@@ -48,8 +48,8 @@ pub fn from_keyword(ident: &str) -> Option<SyntaxKind>
 
 /// Returns the kind of the contextual keyword that `ident` spells, or `None` where it spells none.
 ///
-/// A contextual keyword, as `loop`, is a keyword in the bodies of PL/pgSQL alone. The comparison
-/// is that of `from_keyword`.
+/// A contextual keyword, such as `loop`, is a keyword in the bodies of PL/pgSQL alone. It is
+/// compared as in `from_keyword`.
 #[tactic(auto, unfolding(crate::specs::KindOf::keyword_of, crate::specs::KindOf::contextual_keyword_of))]
 pub fn from_contextual_keyword(ident: &str) -> Option<SyntaxKind>
     ensures kind { result ≡ contextual_keyword_of ident.now }

@@ -28,7 +28,8 @@ pub(crate) struct Words {
 pub(crate) fn words_in(table: Table) -> Words
     ensures same { pairs_of result.kinds.now ≡ pairs_in table }
     ensures table { IsWordTable result.kinds.now result.starts.now }
-    ensures spelled { IsSpelled result.kinds.now result.starts.now result.text.now result.offsets.now }
+    ensures spelled { IsSpelled result.kinds.now result.starts.now result.text.now
+        result.offsets.now }
 {
     match table {
         Table::Keywords => Words {

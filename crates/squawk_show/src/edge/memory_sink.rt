@@ -41,9 +41,9 @@ impl Model for MemorySink {
 }
 
 impl MemorySink {
-    /// An empty sink with room for so many bytes. A write takes at most `largest` of them, and the
+    /// An empty sink with room for `room` bytes. A write takes at most `largest` of them, and the
     /// calls with the numbers in `failing` fail; the first call has the number 1. All room is
-    /// allocated here, so that writing takes no memory. The only refusal is `OutOfMemory`.
+    /// allocated here, so writing allocates nothing. The only error is `OutOfMemory`.
     pub fn new(
         alloc: Global,
         room: usize,
@@ -71,7 +71,7 @@ impl MemorySink {
         &self.taken
     }
 
-    /// How often a write has failed, up to the last value of a `u64`.
+    /// How often a write has failed, saturating at `u64::MAX`.
     pub fn faults(&self) -> u64
         ensures { result ≡ self.now.faults }
     {

@@ -40,8 +40,7 @@ impl Model for MemorySource {
 
 impl MemorySource {
     /// A source of these bytes. A read returns at most `largest` of them, and the calls with the
-    /// numbers in `failing` fail; the first call has the number 1. The only refusal is
-    /// `OutOfMemory`.
+    /// numbers in `failing` fail; the first call has the number 1. The only error is `OutOfMemory`.
     pub fn new(
         alloc: Global,
         bytes: &[u8],
@@ -69,7 +68,7 @@ impl MemorySource {
         &self.bytes[self.at..]
     }
 
-    /// How often a read has failed, up to the last value of a `u64`.
+    /// How often a read has failed, saturating at `u64::MAX`.
     pub fn faults(&self) -> u64
         ensures { result ≡ self.now.faults }
     {
@@ -77,7 +76,7 @@ impl MemorySource {
     }
 }
 
-// Copies as many bytes to the start of a buffer as fit in it and in a call, and returns how many.
+// Copies at most `largest` bytes to the start of a buffer, as many as it holds. Returns how many.
 fn copy_next(left: &[u8], largest: usize, into: &mut [u8]) -> usize
     ensures count { result ≡ min (min largest (length into.old)) (length left.now) }
     ensures same_length { length into.new ≡ length into.old }

@@ -1,4 +1,4 @@
-//! Sources and sinks over readers and writers of std: the trusted edge.
+//! Sources and sinks over readers and writers of std. What the system's streams do is trusted.
 ghost use Rattle.std.specs.Prelude.{◌≡◌, ◌<◌, ◌≤◌, ◌+◌, take, length, IfOk, MatchResult};
 ghost use Rattle.std.specs.Io.{ReadsAtMost, WritesAtMost};
 ghost use Rattle.std.specs.Io.KnownBytes.{Appends, ReadConsumes};

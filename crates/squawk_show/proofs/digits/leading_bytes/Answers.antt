@@ -17,8 +17,8 @@ returns-then-n-lt100 c =
     let b = c.digit-then-n-lt100-2.ensures in
     let e : decimal c.args.n ≡ c.digit-then-n-lt100.result ∷ c.digit-then-n-lt100-2.result ∷ [] = cc
     in
-    take_digits c.args.n (c.digit-then-n-lt100.result ∷ c.digit-then-n-lt100-2.result ∷ []) (48 ∷ 48
-    ∷ []) e
+    take_digits c.args.n (c.digit-then-n-lt100.result ∷ c.digit-then-n-lt100-2.result ∷ [])
+    (48 ∷ 48 ∷ []) e
 
 pub returns-then-n-lt1000 : goal.returns-then-n-lt1000
 returns-then-n-lt1000 c =

@@ -15,12 +15,12 @@ returns-in-Ok-clause-children g c = let t = c.in-Ok.ensures.ends.tree in
     (g.S.Source.view c.args.source.now) t.0 t.1 t.2.children_of
 
 pub returns-in-Ok-clause-invalid : goal.returns-in-Ok-clause-invalid
-returns-in-Ok-clause-invalid g c = λ input calm.
+returns-in-Ok-clause-invalid g c = λ input no_read_fault.
     absurd (invalid_no_tree (command_of c.args.words.now)
     (g.S.Source.view c.args.source.now) c.in-Ok.parse c.in-Ok.ensures.ends.tree input)
 
 pub returns-in-Ok-clause-over_limit : goal.returns-in-Ok-clause-over_limit
-returns-in-Ok-clause-over_limit g c = λ input calm.
+returns-in-Ok-clause-over_limit g c = λ input no_read_fault.
     absurd (over_no_tree (command_of c.args.words.now)
     (g.S.Source.view c.args.source.now) c.in-Ok.parse c.in-Ok.ensures.ends.tree input)
 

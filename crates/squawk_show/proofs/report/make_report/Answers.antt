@@ -20,7 +20,6 @@ loop-i-preserved c =
       depth = omega (
         arith,
         c.in_ok-next.ensures.depth,
-        depth_after_le c.loop-i.depth
-            c.step-item.result,
+        depth_after_le c.loop-i.depth c.step-item.result,
       );
     }

@@ -3,8 +3,8 @@ use Rattle.std.specs.Str.{str_to_ascii_lowercase}
 use Rattle.squawk_words.specs.WordTable.{word_of}
 use Rattle.squawk_words.proofs.search.binary_search.Given as goal
 
--- `low` and `high` lie in the range of the text's length; no word of the range below `low`, and none
--- from `high` on, equals the text
+-- `low` and `high` lie in the range of the text's length; no word of the range below `low` equals
+-- the text, nor one from `high` on
 abbrev pub invariant-loop-low : goal.invariant-loop-low
 invariant-loop-low l =
     record {

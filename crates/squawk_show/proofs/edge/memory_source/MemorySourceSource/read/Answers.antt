@@ -16,9 +16,10 @@ split_left left bytes seen into at n is seen_is copied =
 pub returns-clause-bytes : goal.returns-clause-bytes
 returns-clause-bytes c =
     let at = c.self.inside.at in
-    let bytes = c.self.inside.bytes.items in (
-      split_left _ bytes _ _ at c.copy_next-n.result (ap (λ (s : SourceState).
-          s.left) c.self.view_is) c.deref-2.ensures.value c.copy_next-n.ensures.bytes,
-      λ none room.
-          drop_all (at + c.copy_next-n.result) bytes (let size = length-drop at bytes in omega arith),
+    let bytes = c.self.inside.bytes.items in
+    let size = length-drop at bytes in (
+      split_left _ bytes _ _ at c.copy_next-n.result
+          (ap (λ (s : SourceState). s.left) c.self.view_is) c.deref-2.ensures.value
+          c.copy_next-n.ensures.bytes,
+      λ none room. drop_all (at + c.copy_next-n.result) bytes (omega arith),
     )

@@ -4,9 +4,9 @@ use Rattle.std.proofs.lemmas.List.{drop-take, take-take}
 use Rattle.std.proofs.lemmas.Option.{slice_get-get_or}
 use Rattle.squawk_names.specs.Texts.{texts}
 use Rattle.squawk_names.specs.Offsets.{IsOffsets}
-use Rattle.squawk_names.proofs.row.Goals as goal
+use Rattle.squawk_names.proofs.name_window.Goals as goal
 
--- the distance of the two offsets of a short line
+-- the two offsets of a line of a short text are at most its length apart
 width : (bytes text : List ℕ) (start end : ℕ) → start < end → end ≤ length bytes
     → slice_range bytes start (end - 1) ≡ text → length text ≤ 39 → end - 1 - start ≤ 39
 width bytes text start end ordered within text_is short =
@@ -14,7 +14,7 @@ width bytes text start end ordered within text_is short =
     ap length text_is in
     omega (arith, length-take (end - 1 - start) (drop start bytes), length-drop start bytes)
 
--- a row of 64 bytes, begun four bytes before the text, has the text from its fifth byte on
+-- a window of 64 bytes from four bytes before the text on has the text at its offset 4
 from_fifth : (bytes text seen : List ℕ) (start end : ℕ) → seen ≡ bytes → 4 ≤ start
     → end - 1 - start ≤ 39 → slice_range bytes start (end - 1) ≡ text
     → text ≡ take (end - 1 - start)
@@ -22,12 +22,12 @@ from_fifth : (bytes text seen : List ℕ) (start end : ℕ) → seen ≡ bytes �
 from_fifth bytes text seen start end same low narrow text_is =
     rw same (
     let sizes : start + 60 - (start - 4) ≡ 4 + 60 = omega arith in
-    let places : (start - 4) + 4 ≡ start = omega arith in
+    let sum : (start - 4) + 4 ≡ start = omega arith in
     let rest : drop 4 (take (start + 60 - (start - 4)) (drop (start - 4) bytes))
     ≡ take 60 (drop start bytes) =
     ap (λ n. drop 4 (take n (drop (start - 4) bytes))) sizes
     ∙ drop-take 4 60 (drop (start - 4) bytes)
-    ∙ ap (take 60) (drop-drop 4 (start - 4) bytes ∙ ap (λ n. drop n bytes) places) in
+    ∙ ap (take 60) (drop-drop 4 (start - 4) bytes ∙ ap (λ n. drop n bytes) sum) in
     sym (ap (take (end - 1 - start)) rest
     ∙ take-take (end - 1 - start) 60 (drop start bytes) (omega (arith, narrow)) ∙ text_is))
 
@@ -80,7 +80,7 @@ returns-then-start-lt4-clause-none c = (
         absurd (omega (
           arith,
           c.if-start-lt4.true,
-          c.tables.ensures.rows.second,
+          c.tables.ensures.windows.second,
           offsets_apart _ _ _ _ c.tables.ensures.offsets 1 (c.args.number - 1) c.args.number
               (omega (arith, later)) (omega arith),
         ))
@@ -97,7 +97,7 @@ returns-then-bytes-start-clause-none c = (
           arith,
           c.if-bytes-start.true,
           ap length c.as_bytes-bytes.ensures.value,
-          c.tables.ensures.rows.last,
+          c.tables.ensures.windows.last,
           offsets_apart _ _ _ _ c.tables.ensures.offsets c.args.number (2064 - c.args.number) 2064
               (omega (arith, earlier)) (omega arith),
         ))
@@ -106,7 +106,7 @@ returns-then-bytes-start-clause-none c = (
   λ _. refl,
 )
 
--- a row that is found is none of the first and the last
+-- a window that is found is not that of the first kind or the last ones
 pub returns-clause-none : goal.returns-clause-none
 returns-clause-none c = (
   λ none. cc,
@@ -115,7 +115,7 @@ returns-clause-none c = (
         absurd (omega (
           arith,
           c.if-start-lt4.false,
-          c.tables.ensures.rows.first,
+          c.tables.ensures.windows.first,
           ap (slice_index c.tables.result.0.now) first,
         ))
     | inr past ↦
@@ -123,7 +123,7 @@ returns-clause-none c = (
           arith,
           c.if-bytes-start.false,
           ap length c.as_bytes-bytes.ensures.value,
-          c.tables.ensures.rows.past,
+          c.tables.ensures.windows.past,
           offsets_apart _ _ _ _ c.tables.ensures.offsets 2065 (c.args.number - 2065) c.args.number
               (omega (arith, past)) (omega arith),
         ))
