@@ -23,6 +23,6 @@ exits_of (Error number ∷ xs) = exits_of xs
 abbrev pub depth_of : List Step → ℕ
 depth_of steps = enters_of steps - exits_of steps
 
--- the depth of steps; no more nodes end than start
+-- this is the depth of the steps, in which no more nodes end than start
 abbrev pub IsDepth : ℕ → List Step → Type 0
 IsDepth depth steps = (depth + exits_of steps ≡ enters_of steps) × (depth ≡ depth_of steps)

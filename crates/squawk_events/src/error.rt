@@ -1,17 +1,17 @@
-//! What the front end may refuse.
+//! The errors of the front end.
 ghost use Rattle.std.specs.Prelude.{◌≡◌, ◌↔◌, IsTrue};
 ghost use Rattle.squawk_events.specs.declared.error.FrontError.TheVariants.{OutOfMemory};
 
 use std::alloc::{AllocError, AllocFailed};
 use thiserror::Error;
 
-/// Why the front end gives no answer.
+/// Why a call of the front end failed.
 #[derive(Clone, Copy, Debug, PartialEq, Eq, Error)]
 pub enum FrontError {
-    /// The text has more bytes than a `u32` counts.
+    /// The text has more than 4294967295 bytes, so its offsets do not fit in a `u32`.
     #[error("too long")]
     TooLong,
-    /// There was no memory for the answer.
+    /// An allocation failed.
     #[error("out of memory")]
     OutOfMemory,
 }
@@ -32,7 +32,8 @@ impl<T: Drop> From<AllocFailed<T>> for FrontError {
     }
 }
 
-/// Two errors are equal exactly if they are the same variant. For proofs: it does nothing.
+/// Two errors are equal exactly if they are the same variant. For proofs: the function does
+/// nothing.
 pub fn front_errors_are_equal_if_same()
     ensures { (a b : FrontError) → IsTrue (⟦<FrontError as PartialEq>⟧.eq a b) ↔ (a ≡ b) }
 {}

@@ -10,22 +10,22 @@ use std::alloc::Global;
 
 /// Turns the kinds of a text, without trivia, into the steps of its tree.
 ///
-/// An implementation names the steps that it produces, to contracts alone, and shows that they are
+/// An implementation states, for contracts only, which steps it produces, and proves that they are
 /// lawful: balanced, with the kinds as their tokens in order, and with error numbers from 1 to 10.
 pub trait Grammar {
-    /// The steps for a list of kinds.
+    /// The steps that the grammar produces for a list of kinds.
     ghost told: { Self → List ℕ → List steps.Step };
 
     /// Appends the steps for the kinds of `input` to the empty `output`.
     ///
-    /// Fails only where memory runs out; the output then holds some steps and is of no use.
+    /// Fails only if memory runs out; what `output` then holds is unspecified.
     fn run(&self, input: &Input, output: &mut Output) -> Result<(), FrontError>
         requires empty { output.old ≡ [] }
         requires no_trivia { IsTrue (has_no_trivia input.now) }
         ensures ok { OnOk result (output.new ≡ told self.now input.now) }
         ensures refusals { IfErr result IsOutOfMemory };
 
-    /// These steps are lawful for kinds without trivia.
+    /// The proof that these steps are lawful.
     ghost lawful: { (g : Self) (kinds : List ℕ) → IsTrue (has_no_trivia kinds)
         → IsLawful kinds (told g kinds) };
 }
@@ -38,7 +38,8 @@ pub enum EntryPoint {
 }
 
 impl EntryPoint {
-    /// Runs a grammar on an input and returns its lawful output. Fails only where memory runs out.
+    /// Runs a grammar on an input without trivia and returns its output, which is lawful. Fails
+    /// only if memory runs out.
     pub fn parse<G: Grammar>(
         &self,
         alloc: Global,

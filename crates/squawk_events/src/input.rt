@@ -23,7 +23,7 @@ impl Model for Input {
 }
 
 impl Input {
-    /// Returns an empty list. Takes no memory.
+    /// Returns an empty list, without allocating.
     pub fn new(alloc: Global) -> Input
         ensures { result ≡ [] }
     {
@@ -32,7 +32,7 @@ impl Input {
         }
     }
 
-    /// Appends a kind. Where memory runs out, the list stays as it was.
+    /// Appends a kind. Fails only if memory runs out, and then leaves the list unchanged.
     pub fn push(&mut self, kind: SyntaxKind) -> Result<(), FrontError>
         ensures ok { OnOk result (self.new ≡ self.old ++ kind ∷ []) }
         ensures err { OnErr result (self.new ≡ self.old) }
@@ -42,7 +42,7 @@ impl Input {
         Ok(())
     }
 
-    /// The kind at index `i`; `EOF` where `i` is not below `len`.
+    /// Returns the kind at index `i`, or `EOF` if `i` is not below `len`.
     pub fn kind(&self, i: usize) -> SyntaxKind
         ensures { result ≡ slice_index_or self.now i EOF }
     {
@@ -52,14 +52,14 @@ impl Input {
         }
     }
 
-    /// The number of kinds.
+    /// Returns the number of kinds.
     pub fn len(&self) -> usize
         ensures { result ≡ length self.now }
     {
         self.kinds.len()
     }
 
-    /// The kinds, in order.
+    /// Returns the kinds, in order.
     pub fn kinds(&self) -> &[SyntaxKind]
         ensures { result.now ≡ self.now }
     {

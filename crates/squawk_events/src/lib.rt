@@ -1,4 +1,5 @@
-//! The steps and the errors of a syntax tree, and what the front end may refuse.
+//! The steps and errors of a syntax tree, the traits that produce and receive them, and the errors
+//! of the front end.
 #![tactic(auto)]
 
 mod error;
@@ -11,6 +12,7 @@ mod sink;
 mod steps;
 #[cfg(test)]
 mod tests;
+mod trivia;
 
 pub use error::{FrontError, front_errors_are_equal_if_same};
 pub use grammar::{EntryPoint, Grammar};
@@ -20,3 +22,4 @@ pub use messages::message;
 pub use output::Output;
 pub use sink::StepSink;
 pub use steps::{ParseError, Step, StrStep};
+pub use trivia::is_trivia;

@@ -4,7 +4,8 @@ ghost use Rattle.squawk_events.specs.Message.{message_of};
 
 /// Returns the message with this number, from 1 to 10. It has at most 40 bytes.
 ///
-/// The numbers 1 to 9 are faults of tokens; 10 is a statement whose opening is unknown.
+/// The numbers 1 to 9 are faults of tokens; 10 is a statement that no row of the opening table
+/// fits.
 pub fn message(number: u8) -> &'static str
     requires from_one { 1 ≤ number }
     requires to_ten { number ≤ 10 }

@@ -11,7 +11,7 @@ use std::marker::Model;
 
 /// A growing list of steps: the output of a grammar.
 ///
-/// The calls that append a step fail only where memory runs out, and then leave the list as it was.
+/// Calls that append a step fail only if memory runs out, and then leave the list unchanged.
 #[derive(Drop)]
 pub struct Output {
     steps: Vec<Step>,
@@ -32,7 +32,7 @@ impl Model for Output {
 
 #[tactic(auto, using(crate::proofs::DepthLemmas::enters_of_append, crate::proofs::DepthLemmas::exits_of_append, crate::proofs::DepthLemmas::enters_of_le))]
 impl Output {
-    /// Returns an empty list. Takes no memory.
+    /// Returns an empty list, without allocating.
     pub fn new(alloc: Global) -> Output
         ensures { result ≡ [] }
     {
@@ -65,7 +65,7 @@ impl Output {
         Ok(())
     }
 
-    /// Appends the end of the innermost open node. There has to be one.
+    /// Appends the end of the innermost open node. `depth` must not be 0.
     pub fn exit(&mut self) -> Result<(), FrontError>
         requires { 0 < depth_of self.old }
         ensures ok { OnOk result (self.new ≡ self.old ++ Exit ∷ []) }
@@ -91,14 +91,14 @@ impl Output {
         Ok(())
     }
 
-    /// The number of open nodes.
+    /// Returns the number of open nodes.
     pub fn depth(&self) -> usize
         ensures { result ≡ depth_of self.now }
     {
         self.depth
     }
 
-    /// The steps, in order.
+    /// Returns the steps, in order.
     pub fn steps(&self) -> &[Step]
         ensures { result.now ≡ self.now }
     {

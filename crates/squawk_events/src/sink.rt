@@ -11,10 +11,10 @@ pub trait StepSink {
     /// The steps received so far.
     ghost steps: { Self → List steps.StrStep };
 
-    /// The errors that it holds besides; no step changes them.
+    /// The errors that it also holds; no step changes them.
     ghost errors: { Self → List errors.ParseError };
 
-    /// Receives the next step. Fails only where memory runs out, and then keeps the steps so far.
+    /// Receives the next step. Fails only if memory runs out, and then keeps the steps so far.
     fn step(&mut self, step: StrStep) -> Result<(), FrontError>
         ensures ok { OnOk result (steps self.new ≡ steps self.old ++ step ∷ []) }
         ensures err { OnErr result (steps self.new ≡ steps self.old) }

@@ -1,4 +1,4 @@
-//! Displayed texts, conversions of errors, and the lists of kinds and steps.
+//! Displayed texts, conversions of errors, trivia, and the lists of kinds and steps.
 ghost use Rattle.std.specs.Prelude.{IsOkUnless};
 
 use super::*;
@@ -51,6 +51,13 @@ fn messages_have_texts(rt: HostRuntime) {
         let (number, text) = *row;
         assert_eq!(rt; message(number), text);
     }
+}
+
+#[test]
+fn trivia(rt: HostRuntime) {
+    assert_eq!(rt; is_trivia(SyntaxKind::WHITESPACE), true);
+    assert_eq!(rt; is_trivia(SyntaxKind::COMMENT), true);
+    assert_eq!(rt; is_trivia(SyntaxKind::SEMICOLON), false);
 }
 
 #[test]

@@ -8,26 +8,28 @@ use Rattle.squawk_lexer.specs.declared.token.TokenKind.{TokenKind}
 use Rattle.squawk_lexer.specs.declared.token.TokenKind.TheVariants as token
 use Rattle.squawk_lexer.specs.Flags.{FlagsWithin, LiteralFlagsWithin, FlagsLieWithin, IsCut, ExponentBefore}
 use Rattle.squawk_lexed.specs.declared.fault.Fault.{Fault}
-use Rattle.squawk_lexed.specs.Faults.{fault, row, exponent_row, literal_faults, kind_faults, faults, faults_within}
+use Rattle.squawk_lexed.specs.Faults.{fault, fault_if, exponent_fault, literal_faults, kind_faults, faults, faults_within}
 
--- ---- a token that was cut has flags that lie in it
+-- ---- the flags of a token that the lexer cut lie in it
 
 pub record IsFlagged (t : Token) : Type 0 where
   pub some : 1 ≤ t.len
   pub flags : FlagsWithin t.kind t.len
 
+-- by the law of the lexer
 pub flagged : FlagsLieWithin → (t : Token) → IsCut t → IsFlagged t
 flagged law t cut =
     let at = law cut.strings cut.at_start cut.text cut.some in
     subst IsFlagged (sym cut.same) (record { some = at.0; flags = at.1 })
 
--- ---- its faults
+-- ---- its faults, from one to those of each kind of token
 
 -- at most n faults, within a length
 record Good (n len : ℕ) (fs : List Fault) : Type 0 where
   few : length fs ≤ n
   within : faults_within len fs ≡ true
 
+-- one fault, none, a fault under a test, those of two such lists, and a bound that is raised
 one_good : (number start end len : ℕ) → 1 ≤ number → number ≤ 9 → start < end → end ≤ len
     → Good 1 len (fault number start end ∷ [])
 one_good number start end len p q r s = record {
@@ -40,7 +42,8 @@ none_good : (n len : ℕ) → Good n len []
 none_good n len = record { few = omega arith; within = refl }
 
 row_good : (test : Bool) (number start end len : ℕ) → 1 ≤ number → number ≤ 9
-    → (test ≡ true → (start < end) × (end ≤ len)) → Good 1 len (row test (fault number start end))
+    → (test ≡ true → (start < end) × (end ≤ len))
+    → Good 1 len (fault_if test (fault number start end))
 row_good true number start end len p q h = one_good number start end len p q (h refl).0 (h refl).1
 row_good false number start end len p q h = none_good 1 len
 
@@ -52,30 +55,31 @@ both_good len (f ∷ g ∷ fs) gs p q = absurd (omega (arith, p.few))
 more_good : (len : ℕ) (fs : List Fault) → Good 1 len fs → Good 2 len fs
 more_good len fs p = record { few = omega (arith, p.few); within = p.within }
 
--- of the whole token
+-- a fault of the whole token, of its trailing junk, and of an exponent
 whole_good : (test : Bool) (number len : ℕ) → 1 ≤ number → number ≤ 9 → 1 ≤ len
-    → Good 2 len (row test (fault number 0 len))
+    → Good 2 len (fault_if test (fault number 0 len))
 whole_good test number len p q some =
     more_good len _ (row_good test number 0 len len p q (λ t. (omega arith, omega arith)))
 
 junk_good : (number junk len : ℕ) → 1 ≤ number → number ≤ 9
-    → Good 1 len (row (nat_lt junk len) (fault number junk len))
+    → Good 1 len (fault_if (nat_lt junk len) (fault number junk len))
 junk_good number junk len p q = row_good (nat_lt junk len) number junk len len p q (λ t.
     (grind (arith, nat_tests), omega arith))
 
-exponent_good : (place : Option ℕ) (junk len : ℕ) → ExponentBefore place junk → junk ≤ len
-    → Good 1 len (exponent_row place junk)
+exponent_good : (start : Option ℕ) (junk len : ℕ) → ExponentBefore start junk → junk ≤ len
+    → Good 1 len (exponent_fault start junk)
 exponent_good None junk len h le = none_good 1 len
-exponent_good (Some place) junk len h le =
-    one_good 6 place junk len (omega arith) (omega arith) h le
+exponent_good (Some start) junk len h le =
+    one_good 6 start junk len (omega arith) (omega arith) h le
 
+-- those of a literal, and of each kind of token
 literal_good : (kind : LiteralKind) (len : ℕ) → 1 ≤ len → LiteralFlagsWithin kind len
     → Good 2 len (literal_faults kind len)
 literal_good (Int base empty junk) len some flags =
     both_good len _ _ (row_good empty 5 0 len len (omega arith) (omega arith) (λ t.
     (omega arith, omega arith))) (junk_good 7 junk len (omega arith) (omega arith))
-literal_good (Numeric place junk) len some flags =
-    both_good len _ _ (exponent_good place junk len flags.0 flags.1.1)
+literal_good (Numeric start junk) len some flags =
+    both_good len _ _ (exponent_good start junk len flags.0 flags.1.1)
     (junk_good 7 junk len (omega arith) (omega arith))
 literal_good (Str terminated) len some flags =
     whole_good (not terminated) 3 len (omega arith) (omega arith) some
@@ -138,6 +142,7 @@ kind_good token.CloseParen len some flags = none_good 2 len
 kind_good token.OpenParen len some flags = none_good 2 len
 kind_good token.Comma len some flags = none_good 2 len
 
+-- a token that the lexer cut has at most two faults, and they lie in it
 pub few_faults : FlagsLieWithin → (t : Token) → IsCut t → length (faults t) ≤ 2
 few_faults law t cut = let is = flagged law t cut in (kind_good t.kind t.len is.some is.flags).few
 

@@ -15,6 +15,7 @@ use Rattle.squawk_lexed.proofs.KeptLemmas.{has_no_trivia_kept}
 use Rattle.squawk_lexed.proofs.PlacedLemmas.{prefix_no_trivia, steps_kept_from, trivia_in, error_in, none_leads, split}
 use Rattle.squawk_lexed.proofs.WeaveLemmas.{kinds_after_leading_trivia}
 
+-- steps of tokens, Token steps and lengths of two lists add up
 token_steps_append : (at : ℕ) (ts us : List LexedToken)
     → token_steps at (ts ++ us) ≡ token_steps at ts ++ token_steps (at + total_len ts) us
 token_steps_append at [] us = ap (λ n. token_steps n us) (omega arith)
@@ -32,7 +33,7 @@ token_steps_of_append (out.Exit ∷ xs) ys = token_steps_of_append xs ys
 token_steps_of_append (out.Error number at ∷ xs) ys = token_steps_of_append xs ys
 
 -- some steps emit these tokens, from one offset up to another, and leave the others
-record Gives (at : ℕ) (ts : List LexedToken) (xs : List StrStep) (end : ℕ)
+record Emits (at : ℕ) (ts : List LexedToken) (xs : List StrStep) (end : ℕ)
     (left given : List LexedToken) : Type 0 where
   pub whole : ts ≡ given ++ left
   pub steps : token_steps_of xs ≡ token_steps at given
@@ -42,10 +43,11 @@ total_len_append : (ts us : List LexedToken) → total_len (ts ++ us) ≡ total_
 total_len_append [] us = omega arith
 total_len_append (t ∷ ts) us = omega (arith, total_len_append ts us)
 
-gives_then : (at mid end : ℕ) (ts left rest g h : List LexedToken) (xs ys : List StrStep)
-    → Gives at ts xs mid left g → Gives mid left ys end rest h
-    → Gives at ts (xs ++ ys) end rest (g ++ h)
-gives_then at mid end ts left rest g h xs ys first second = record {
+-- steps after steps
+emits_then : (at mid end : ℕ) (ts left rest g h : List LexedToken) (xs ys : List StrStep)
+    → Emits at ts xs mid left g → Emits mid left ys end rest h
+    → Emits at ts (xs ++ ys) end rest (g ++ h)
+emits_then at mid end ts left rest g h xs ys first second = record {
   whole = first.whole ∙ ap (λ us. g ++ us) second.whole ∙ sym (append_assoc g h rest);
   steps = token_steps_of_append xs ys
       ∙ ap (λ zs. zs ++ token_steps_of ys) first.steps
@@ -60,16 +62,17 @@ lead : List LexedToken → List LexedToken
 lead [] = []
 lead (t ∷ ts) = cond (is_trivia_kind t.kind) (t ∷ lead ts) []
 
-gives_lead : (at : ℕ) (ts : List LexedToken)
-    → Gives at ts (leading_trivia at ts) (leading_trivia_end at ts) (after_leading_trivia ts)
+-- leading trivia emits these tokens
+emits_lead : (at : ℕ) (ts : List LexedToken)
+    → Emits at ts (leading_trivia at ts) (leading_trivia_end at ts) (after_leading_trivia ts)
     (lead ts)
 unfolding lead
-gives_lead at [] = record { whole = refl; steps = refl; reaches = omega arith }
-gives_lead at (t ∷ ts) = by (is_trivia_kind t.kind) (gives_lead (at + t.len) ts)
+emits_lead at [] = record { whole = refl; steps = refl; reaches = omega arith }
+emits_lead at (t ∷ ts) = by (is_trivia_kind t.kind) (emits_lead (at + t.len) ts)
   where
-    by : (b : Bool) → Gives (at + t.len) ts (leading_trivia (at + t.len) ts)
+    by : (b : Bool) → Emits (at + t.len) ts (leading_trivia (at + t.len) ts)
         (leading_trivia_end (at + t.len) ts) (after_leading_trivia ts) (lead ts)
-        → Gives at (t ∷ ts)
+        → Emits at (t ∷ ts)
         (cond b (out.Token t.kind at (at + t.len) ∷ leading_trivia (at + t.len) ts) [])
         (cond b (leading_trivia_end (at + t.len) ts) at)
         (cond b (after_leading_trivia ts) (t ∷ ts)) (cond b (t ∷ lead ts) [])
@@ -81,18 +84,18 @@ gives_lead at (t ∷ ts) = by (is_trivia_kind t.kind) (gives_lead (at + t.len) t
     by false h = record { whole = refl; steps = refl; reaches = omega arith }
 
 -- steps without a token
-gives_none : (at : ℕ) (ts : List LexedToken) (xs : List StrStep) → token_steps_of xs ≡ []
-    → Gives at ts xs at ts []
-gives_none at ts xs none = record { whole = refl; steps = none; reaches = omega arith }
+emits_none : (at : ℕ) (ts : List LexedToken) (xs : List StrStep) → token_steps_of xs ≡ []
+    → Emits at ts xs at ts []
+emits_none at ts xs none = record { whole = refl; steps = none; reaches = omega arith }
 
 -- the next token, which is of the step's kind
-gives_next : (at kind : ℕ) (ts : List LexedToken) (kinds : List ℕ)
+emits_next : (at kind : ℕ) (ts : List LexedToken) (kinds : List ℕ)
     → begins_with_trivia ts ≡ false
     → begins_with (kinds_without_trivia ts) (kind ∷ kinds) ≡ true
-    → (g : List LexedToken) × Gives at ts (out.Token kind at (at + next_len ts) ∷ [])
+    → (g : List LexedToken) × Emits at ts (out.Token kind at (at + next_len ts) ∷ [])
     (at + next_len ts) (drop 1 ts) g
-gives_next at kind [] kinds none h = absurd (cc)
-gives_next at kind (t ∷ ts) kinds none h =
+emits_next at kind [] kinds none h = absurd (cc)
+emits_next at kind (t ∷ ts) kinds none h =
     let begins : (t.kind == kind && begins_with (kinds_without_trivia ts) kinds) ≡ true =
     rw none at h in
     let same = eqb-true t.kind kind
@@ -119,63 +122,65 @@ begins_after (t ∷ ts) kind kinds none h =
 -- the tokens that a weave emits, with those that are left, are all
 given_from : (at : ℕ) (ts : List LexedToken) (xs : List Step)
     → begins_with (kinds_without_trivia ts) (token_kinds xs) ≡ true
-    → (g : List LexedToken) × (end : ℕ) × Gives at ts (weave_from at ts xs) end
+    → (g : List LexedToken) × (end : ℕ) × Emits at ts (weave_from at ts xs) end
     (remaining_from ts xs) g
-given_from at ts [] h = ([], at, gives_none at ts [] refl)
+given_from at ts [] h = ([], at, emits_none at ts [] refl)
 given_from at ts (Enter kind ∷ xs) h =
     let mid = leading_trivia_end at ts in
     let left = after_leading_trivia ts in
-    let rest = given_from mid left xs (ap (λ ks. begins_with ks (token_kinds xs)) (kinds_after_leading_trivia ts)
-    ∙ h) in (
+    let rest = given_from mid left xs
+    (ap (λ ks. begins_with ks (token_kinds xs)) (kinds_after_leading_trivia ts) ∙ h) in (
       (lead ts ++ []) ++ rest.0,
       rest.1,
-      gives_then at mid rest.1 ts left (remaining_from left xs) (lead ts ++ []) rest.0
+      emits_then at mid rest.1 ts left (remaining_from left xs) (lead ts ++ []) rest.0
           (leading_trivia at ts ++ out.Enter kind ∷ []) (weave_from mid left xs)
-          (gives_then at mid mid ts left left (lead ts) [] (leading_trivia at ts) (out.Enter kind ∷ [])
-          (gives_lead at ts) (gives_none mid left (out.Enter kind ∷ []) refl)) rest.2,
+          (emits_then at mid mid ts left left (lead ts) [] (leading_trivia at ts)
+          (out.Enter kind ∷ []) (emits_lead at ts)
+          (emits_none mid left (out.Enter kind ∷ []) refl)) rest.2,
     )
 given_from at ts (Token kind ∷ xs) h =
     let mid = leading_trivia_end at ts in
     let left = after_leading_trivia ts in
     let here : begins_with (kinds_without_trivia left) (kind ∷ token_kinds xs) ≡ true =
     ap (λ ks. begins_with ks (kind ∷ token_kinds xs)) (kinds_after_leading_trivia ts) ∙ h in
-    let next = gives_next mid kind left (token_kinds xs) (none_leads ts) here in
+    let next = emits_next mid kind left (token_kinds xs) (none_leads ts) here in
     let end = mid + next_len left in
     let rest = given_from end (drop 1 left) xs
     (begins_after left kind (token_kinds xs) (none_leads ts) here) in (
       (lead ts ++ next.0) ++ rest.0,
       rest.1,
-      gives_then at end rest.1 ts (drop 1 left) (remaining_from (drop 1 left) xs)
+      emits_then at end rest.1 ts (drop 1 left) (remaining_from (drop 1 left) xs)
           (lead ts ++ next.0) rest.0
           (leading_trivia at ts ++ out.Token kind mid end ∷ []) (weave_from end (drop 1 left) xs)
-          (gives_then at mid end ts left (drop 1 left) (lead ts) next.0 (leading_trivia at ts)
-          (out.Token kind mid end ∷ []) (gives_lead at ts) next.1) rest.2,
+          (emits_then at mid end ts left (drop 1 left) (lead ts) next.0 (leading_trivia at ts)
+          (out.Token kind mid end ∷ []) (emits_lead at ts) next.1) rest.2,
     )
 given_from at ts (Exit ∷ []) h =
     let mid = leading_trivia_end at ts in
     let left = after_leading_trivia ts in (
       (lead ts ++ []) ++ [],
       mid,
-      gives_then at mid mid ts left left (lead ts ++ []) []
+      emits_then at mid mid ts left left (lead ts ++ []) []
           (leading_trivia at ts ++ out.Exit ∷ []) []
-          (gives_then at mid mid ts left left (lead ts) [] (leading_trivia at ts) (out.Exit ∷ [])
-          (gives_lead at ts) (gives_none mid left (out.Exit ∷ []) refl))
-          (gives_none mid left [] refl),
+          (emits_then at mid mid ts left left (lead ts) [] (leading_trivia at ts) (out.Exit ∷ [])
+          (emits_lead at ts) (emits_none mid left (out.Exit ∷ []) refl))
+          (emits_none mid left [] refl),
     )
 given_from at ts (Exit ∷ x ∷ xs) h =
     let rest = given_from at ts (x ∷ xs) h in (
       rest.0,
       rest.1,
-      gives_then at at rest.1 ts ts (remaining_from ts (x ∷ xs)) [] rest.0
-          (out.Exit ∷ []) (weave_from at ts (x ∷ xs)) (gives_none at ts (out.Exit ∷ []) refl) rest.2,
+      emits_then at at rest.1 ts ts (remaining_from ts (x ∷ xs)) [] rest.0
+          (out.Exit ∷ []) (weave_from at ts (x ∷ xs)) (emits_none at ts (out.Exit ∷ []) refl)
+          rest.2,
     )
 given_from at ts (Error number ∷ xs) h =
     let rest = given_from at ts xs h in (
       rest.0,
       rest.1,
-      gives_then at at rest.1 ts ts (remaining_from ts xs) [] rest.0
+      emits_then at at rest.1 ts ts (remaining_from ts xs) [] rest.0
           (out.Error number at ∷ []) (weave_from at ts xs)
-          (gives_none at ts (out.Error number at ∷ []) refl) rest.2,
+          (emits_none at ts (out.Error number at ∷ []) refl) rest.2,
     )
 
 -- what is left by balanced steps begins with no trivia

@@ -11,17 +11,20 @@ use Rattle.squawk_lexed.specs.LexedText.{lexed_tokens, lexed_part, tokens_len, E
 use Rattle.squawk_lexed.specs.Stored.{kinds_of, starts_of, errors_of, AreBoundaries, IsStoredAs}
 use Rattle.squawk_lexed.proofs.StoredLemmas.{lexes_sound}
 
+-- tokens with their kinds are as long as without
 lexes_bytes : (text : List ℕ) (at : ℕ) (ts : List Token)
     → total_len (lexed_tokens text at ts) ≡ tokens_len ts
 lexes_bytes text at [] = refl
 lexes_bytes text at (t ∷ ts) = ap (λ n. t.len + n) (lexes_bytes text (at + t.len) ts)
 
+-- tokens that end at character boundaries do not extend past the end of the text
 laid_within : (text : List ℕ) (at : ℕ) (ts : List Token) → IsCharBoundary text at
     → EndAtBoundaries text at ts → at + tokens_len ts ≤ length text
 laid_within text at [] here laid = omega (arith, here.0)
 laid_within text at (t ∷ ts) here laid =
     omega (arith, laid_within text (at + t.len) ts laid.0 laid.1)
 
+-- the length of a slice
 length_part : (text : List ℕ) (start end : ℕ) → start ≤ end → end ≤ length text
     → length (slice_range text start end) ≡ end - start
 length_part text start end p q =
@@ -41,6 +44,7 @@ part_boundary text start end p h within here =
           128 ≤ n) same high)),
     )
 
+-- the starts of tokens in the slice are character boundaries of it
 part_bounded : (text : List ℕ) (start end p at : ℕ) (ts : List Token) → at ≡ start + p
     → at + tokens_len ts ≤ end → end ≤ length text
     → IsCharBoundary text at → EndAtBoundaries text at ts
@@ -53,7 +57,7 @@ part_bounded text start end p at (t ∷ ts) is h within here laid = (
       laid.1,
 )
 
--- what a loop over the tokens leaves
+-- the loop over the tokens: its three lists store the tokens of the slice
 pub part_kept : FlagsLieWithin → (text : List ℕ) (at : ℕ) (ts : List Token) → AreCut ts
     → EndAtBoundaries text at ts → IsCharBoundary text at → length text < 2 ^ 32
     → (from : ℕ) (left : List Token) (part kinds starts starts' : List ℕ) (errors : List ParseError)
@@ -65,9 +69,9 @@ pub part_kept : FlagsLieWithin → (text : List ℕ) (at : ℕ) (ts : List Token
     → errors ++ errors_of (from - at) (lexed_tokens text from left)
     ≡ errors_of 0 (lexed_tokens text at ts)
     → IsStoredAs part kinds starts' errors (lexed_tokens text at ts)
-part_kept law text at ts cut laid here fits from left part kinds starts starts' errors none is place
-    k s s' e =
-    let end : from ≡ at + tokens_len ts = omega (arith, ap tokens_len none, place) in
+part_kept law text at ts cut laid here fits from left part kinds starts starts' errors none is
+    same_end k s s' e =
+    let end : from ≡ at + tokens_len ts = omega (arith, ap tokens_len none, same_end) in
     let within : from ≤ length text = omega (arith, end, laid_within text at ts here laid) in
     let len : length part ≡ from - at = ap length is
     ∙ length_part text at from (omega (arith, end)) within in
@@ -82,10 +86,11 @@ part_kept law text at ts cut laid here fits from left part kinds starts starts' 
           within here laid);
     }
 
+-- after the loop, the slice and its tokens are the part of the text that the definitions name
 pub part_is : (text : List ℕ) (at from : ℕ) (ts : List Token) (left : List Token) (part : List ℕ)
     (us : List LexedToken) → left ≡ [] → part ≡ slice_range text at from
     → from + tokens_len left ≡ at + tokens_len ts → us ≡ lexed_tokens text at ts
     → record { text = part; tokens = us } ≡ lexed_part text at ts
-part_is text at from ts left part us none is place same =
-    let end : from ≡ at + tokens_len ts = omega (arith, ap tokens_len none, place) in
+part_is text at from ts left part us none is same_end same =
+    let end : from ≡ at + tokens_len ts = omega (arith, ap tokens_len none, same_end) in
     rw (is, end, same) refl

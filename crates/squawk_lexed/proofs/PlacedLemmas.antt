@@ -12,6 +12,7 @@ use Rattle.squawk_lexed.specs.LexedToken.{LexedToken}
 use Rattle.squawk_lexed.specs.Weave.{begins_with, leading_trivia, leading_trivia_end, after_leading_trivia, next_len, weave_from}
 use Rattle.squawk_lexed.specs.WeaveLaws.{steps_of, begins_with_trivia, last_is_token, takes_trivia, last_token_end}
 
+-- what a test says of its parts
 pub split : (a b : Bool) → (a && b) ≡ true → (a ≡ true) × (b ≡ true)
 split true b h = (refl, h)
 split false b h = absurd (cc)
@@ -207,6 +208,7 @@ error_of last (out.Exit ∷ xs) after number at h = error_of last xs after numbe
 error_of last (out.Error n e ∷ xs) after number at (first, h) =
     error_of last xs after number at h
 
+-- leading trivia, and one more step after it, before steps whose errors are placed
 errors_lead : (at : ℕ) (ts : List LexedToken) (ys : List StrStep)
     → ErrorsPlaced (leading_trivia_end at ts) ys → ErrorsPlaced at (leading_trivia at ts ++ ys)
 unfolding ErrorsPlaced

@@ -3,6 +3,7 @@ use Rattle.std.proofs.Common.{◌≡◌, suc, ◌-◌, ◌≤◌, List, [], ◌�
 use Rattle.std.proofs.lemmas.List.{take_at, take_all, take-append-drop, append-nil, length-append}
 use Rattle.squawk_lexed.specs.Prefixes.{AppendsPrefix}
 
+-- the longer of two lists that begin the same list is the shorter and a prefix of its rest
 pub prefix_at : {A : Type 0} (a x b w : List A) → a ++ x ≡ b ++ w → length b ≤ length a
     → a ≡ b ++ take (length a - length b) w
 prefix_at a x [] w e le =
@@ -16,13 +17,14 @@ prefix_at (z ∷ a) x (y ∷ b) w e le =
     let rest = prefix_at a x b w tails (omega arith) in
     rw (heads, n) (ap (λ ys. y ∷ ys) rest)
 
--- where what was appended and what is left make the whole
+-- so it grew by a prefix, if what was appended and what is left make the whole
 pub prefix_of : {A : Type 0} (a x b w : List A) → a ++ x ≡ b ++ w → length b ≤ length a
     → AppendsPrefix b a w
 prefix_of a x b w e le = (length a - length b, prefix_at a x b w e le)
 
 -- the same of a list that is equal to it
-pub prefix_as : {A : Type 0} (now a x b w : List A) → now ≡ a → a ++ x ≡ b ++ w → length b ≤ length a
+pub prefix_as : {A : Type 0} (now a x b w : List A) → now ≡ a → a ++ x ≡ b ++ w
+    → length b ≤ length a
     → AppendsPrefix b now w
 prefix_as now a x b w is e le = (length a - length b, is ∙ prefix_at a x b w e le)
 

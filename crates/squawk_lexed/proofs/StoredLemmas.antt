@@ -15,6 +15,7 @@ use Rattle.squawk_lexed.specs.LexedText.{LexedText, lexed_tokens, total_len, are
 use Rattle.squawk_lexed.specs.Stored.{kinds_of, starts_of, errors_at, errors_of, faults_before, errors_from, lexed_tokens_from, faults_at, AreBoundaries, IsStoredAs, IsStored}
 use Rattle.squawk_lexed.proofs.FaultLemmas.{flagged, faults_lie_within}
 
+-- what the test `nat_lt` returns, and a difference
 not_less : (a b : ℕ) → b ≤ a → nat_lt a b ≡ false
 not_less a b h = grind (arith, nat_tests)
 
@@ -24,7 +25,8 @@ is_less a b h = grind (arith, nat_tests)
 taken_off : (at n : ℕ) → (at + n) - at ≡ n
 taken_off at n = omega arith
 
--- ---- errors from an offset on are none of a token that ends there
+-- ---- errors that begin at the end of a token or after it are not its own: none of them is taken,
+-- and all are left
 
 none_before : (start end at : ℕ) (ts : List LexedToken) → end ≤ at
     → faults_before start end (errors_of at ts) ≡ []
@@ -48,7 +50,7 @@ all_after end at (t ∷ ts) h = by t.faults (all_after end (at + t.len) ts (omeg
     by [] rest = rest
     by (f ∷ fs) rest = rw (not_less (at + f.start) end (omega arith)) refl
 
--- ---- the token's own
+-- ---- a token's own errors begin before its end, so they are taken, and none of them is left
 
 begins_within : (len : ℕ) (f : Fault) → fault_within len f ≡ true → f.start < len
 begins_within len f h = grind (arith, nat_tests)
@@ -76,10 +78,12 @@ own_after at len (f ∷ fs) es h all =
     let inside = begins_within len f parts.0 in
     rw (is_less (at + f.start) (at + len) (omega arith)) (own_after at len fs es parts.1 all)
 
+-- the first start
 first_start : (at : ℕ) (ts : List LexedToken) → get_or (starts_of at ts) 0 0 ≡ at
 first_start at [] = refl
 first_start at (t ∷ ts) = refl
 
+-- tokens are read back from the lists that store them
 pub read_back : (at : ℕ) (ts : List LexedToken) → are_sound ts ≡ true
     → lexed_tokens_from (kinds_of ts) (starts_of at ts) (errors_of at ts) ≡ ts
 read_back at [] h = refl
@@ -96,7 +100,7 @@ read_back at (t ∷ ts) h =
       read_back (at + t.len) ts more.1,
     ) refl
 
--- ---- the tokens of a text
+-- ---- the tokens of a text are sound, cover it, and begin and end at character boundaries
 
 pub lexes_sound : FlagsLieWithin → (text : List ℕ) (at : ℕ) (ts : List Token) → AreCut ts
     → are_sound (lexed_tokens text at ts) ≡ true
@@ -117,7 +121,7 @@ lexes_bounded text at [] here tiles = (here, tt)
 lexes_bounded text at (t ∷ ts) here (some, real, boundary, more) =
     (here, lexes_bounded text (at + t.len) ts boundary more)
 
--- ---- what is kept is kept as its tokens
+-- ---- lists that store tokens store those that are read off them
 
 pub kept_as : (text kinds starts : List ℕ) (errors : List ParseError) (ts : List LexedToken)
     → IsStoredAs text kinds starts errors ts → lexed_tokens_from kinds starts errors ≡ ts
@@ -129,7 +133,7 @@ pub stored : (text kinds starts : List ℕ) (errors : List ParseError) (ts : Lis
 stored text kinds starts errors ts is =
     subst (IsStoredAs text kinds starts errors) (sym (kept_as text kinds starts errors ts is)) is
 
--- ---- offsets
+-- ---- the lengths of the lists, and the elements at an index
 
 pub length_kinds : (ts : List LexedToken) → length (kinds_of ts) ≡ length ts
 length_kinds [] = refl
@@ -146,12 +150,13 @@ start_at d at [] (suc i) h = absurd (omega arith)
 start_at d at (t ∷ ts) zero h = omega arith
 start_at d at (t ∷ ts) (suc i) h = omega (arith, start_at d (at + t.len) ts i (omega arith))
 
-pub bounded_at : (text places : List ℕ) (i : ℕ) → AreBoundaries text places → i < length places
-    → IsCharBoundary text (get_or places i 0)
+pub bounded_at : (text starts : List ℕ) (i : ℕ) → AreBoundaries text starts → i < length starts
+    → IsCharBoundary text (get_or starts i 0)
 bounded_at text [] i all h = absurd (omega arith)
-bounded_at text (p ∷ places) zero all h = all.0
-bounded_at text (p ∷ places) (suc i) all h = bounded_at text places i all.1 (omega arith)
+bounded_at text (p ∷ starts) zero all h = all.0
+bounded_at text (p ∷ starts) (suc i) all h = bounded_at text starts i all.1 (omega arith)
 
+-- starts do not decrease
 pub rising : (ts : List LexedToken) (i j : ℕ) → i ≤ j
     → total_len (take i ts) ≤ total_len (take j ts)
 rising ts zero j h = omega arith
@@ -159,7 +164,7 @@ rising ts (suc i) zero h = absurd (omega arith)
 rising [] (suc i) (suc j) h = omega arith
 rising (t ∷ ts) (suc i) (suc j) h = omega (arith, rising ts i j (omega arith))
 
--- ---- what a loop over all tokens leaves
+-- ---- the loop over all tokens: its three lists store the tokens of the text
 
 pub all_kept : FlagsLieWithin → (text : List ℕ) (ts : List Token) → AreCut ts → Tiles text 0 ts
     → IsCharBoundary text 0 → length text < 2 ^ 32
@@ -181,9 +186,10 @@ all_kept law text ts cut tiles here fits at left kinds starts starts' errors non
       boundaries = lexes_bounded text 0 ts here tiles;
     }
 
--- ---- what is read off what is kept
+-- ---- what the accessors read off the lists: the lengths, starts and boundaries of the tokens that
+-- a contract names
 
--- the same of the tokens that are seen
+-- the lists store the tokens of the value that a contract names
 pub seen_as : (text kinds starts : List ℕ) (errors : List ParseError) (l : LexedText)
     → record { text = text; tokens = lexed_tokens_from kinds starts errors } ≡ l
     → IsStored text kinds starts errors → IsStoredAs text kinds starts errors l.tokens
@@ -194,14 +200,14 @@ pub count : (text kinds starts : List ℕ) (errors : List ParseError) (ts : List
     → IsStoredAs text kinds starts errors ts → length kinds ≡ length ts
 count text kinds starts errors ts is = rw is.kinds_are (length_kinds ts)
 
-pub places : (text kinds starts : List ℕ) (errors : List ParseError) (ts : List LexedToken)
+pub count_starts : (text kinds starts : List ℕ) (errors : List ParseError) (ts : List LexedToken)
     → IsStoredAs text kinds starts errors ts → length starts ≡ suc (length ts)
-places text kinds starts errors ts is = rw is.starts_are (length_starts 0 ts)
+count_starts text kinds starts errors ts is = rw is.starts_are (length_starts 0 ts)
 
-pub place_at : (text kinds starts : List ℕ) (errors : List ParseError) (ts : List LexedToken)
+pub start_of_token : (text kinds starts : List ℕ) (errors : List ParseError) (ts : List LexedToken)
     → IsStoredAs text kinds starts errors ts
     → (i d : ℕ) → i ≤ length ts → get_or starts i d ≡ total_len (take i ts)
-place_at text kinds starts errors ts is i d h =
+start_of_token text kinds starts errors ts is i d h =
     rw is.starts_are (omega (arith, start_at d 0 ts i h))
 
 pub boundary_at : (text kinds starts : List ℕ) (errors : List ParseError) (ts : List LexedToken)
@@ -220,36 +226,38 @@ few_tokens (t ∷ ts) h =
     let some : 0 < t.len = grind (arith, nat_tests) in
     omega (arith, few_tokens ts (and_parts (faults_within t.len t.faults) (are_sound ts) parts.1).1)
 
+-- so the index after a token fits in a `u32`
 pub next_fits : (text kinds starts : List ℕ) (errors : List ParseError) (ts : List LexedToken)
     → IsStoredAs text kinds starts errors ts
     → (i : ℕ) → i < length ts → i + 1 < 2 ^ 32
 next_fits text kinds starts errors ts is i h =
     omega (arith, few_tokens ts is.sound, is.whole, is.fits)
 
--- ---- the token at an index
+-- ---- the token at an index, by its kind and by the two starts around it
 
-piece_in : (at : ℕ) (ts : List LexedToken) (i k s e : ℕ) → i < length ts
+token_in : (at : ℕ) (ts : List LexedToken) (i k s e : ℕ) → i < length ts
     → k ≡ get_or (kinds_of ts) i k → s ≡ get_or (starts_of at ts) i s
     → e ≡ get_or (starts_of at ts) (suc i) e
     → drop i ts ≡ record { kind = k; len = e - s; faults = faults_at ts i } ∷ drop (suc i) ts
-piece_in at [] i k s e h p q r = absurd (omega arith)
-piece_in at (t ∷ ts) zero k s e h p q r =
+token_in at [] i k s e h p q r = absurd (omega arith)
+token_in at (t ∷ ts) zero k s e h p q r =
     let len : e - s ≡ t.len = omega (arith, start_at e (at + t.len) ts 0 (omega arith), q, r) in
     rw (len, p) refl
-piece_in at (t ∷ ts) (suc i) k s e h p q r = piece_in (at + t.len) ts i k s e (omega arith) p q r
+token_in at (t ∷ ts) (suc i) k s e h p q r = token_in (at + t.len) ts i k s e (omega arith) p q r
 
 next : (i : ℕ) → i + 1 ≡ suc i
 next i = omega arith
 
-pub piece_at : (text kinds starts : List ℕ) (errors : List ParseError) (ts : List LexedToken)
+pub token_at_index : (text kinds starts : List ℕ) (errors : List ParseError) (ts : List LexedToken)
     → IsStoredAs text kinds starts errors ts
     → (i k s e : ℕ) → i < length ts → k ≡ get_or kinds i k → s ≡ get_or starts i s
     → e ≡ get_or starts (i + 1) e
     → drop i ts ≡ record { kind = k; len = e - s; faults = faults_at ts i } ∷ drop (i + 1) ts
-piece_at text kinds starts errors ts is i k s e h p q r =
-    rw (next i) (piece_in 0 ts i k s e h (rw is.kinds_are at p) (rw is.starts_are at q)
+token_at_index text kinds starts errors ts is i k s e h p q r =
+    rw (next i) (token_in 0 ts i k s e h (rw is.kinds_are at p) (rw is.starts_are at q)
     (rw (is.starts_are, next i) at r))
 
+-- two adjacent starts do not decrease
 pub starts_rise : (text kinds starts : List ℕ) (errors : List ParseError) (ts : List LexedToken)
     → IsStoredAs text kinds starts errors ts
     → (i s e : ℕ) → i < length ts → s ≡ get_or starts i s → e ≡ get_or starts (i + 1) e → s ≤ e
@@ -258,12 +266,13 @@ starts_rise text kinds starts errors ts is i s e h q r =
       arith,
       q,
       r,
-      place_at text kinds starts errors ts is i s (omega arith),
-      place_at text
+      start_of_token text kinds starts errors ts is i s (omega arith),
+      start_of_token text
           kinds starts errors ts is (i + 1) e (omega arith),
       rising ts i (i + 1) (omega arith),
     )
 
+-- the tokens of the value cover its text, which is shorter than 4 GiB
 pub seen_whole : (text kinds starts : List ℕ) (errors : List ParseError) (l : LexedText)
     → record { text = text; tokens = lexed_tokens_from kinds starts errors } ≡ l
     → IsStored text kinds starts errors → (total_len l.tokens ≡ length l.text)

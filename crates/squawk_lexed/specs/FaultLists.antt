@@ -7,7 +7,7 @@ abbrev pub list_of : Option Fault → List Fault
 list_of None = []
 list_of (Some f) = f ∷ []
 
--- the faults of both
+-- the faults that there are of both
 abbrev pub both_faults : Option Fault → Option Fault → List Fault
 both_faults first second = list_of first ++ list_of second
 

@@ -12,6 +12,7 @@ use Rattle.squawk_lexer.specs.declared.token.TokenKind.TheVariants as token
 abbrev pub word_kind : List ℕ → ℕ
 word_kind word = unwrap_or (keyword_of word) kind.IDENT
 
+-- the leaf kind of a literal
 abbrev pub literal_kind : LiteralKind → ℕ
 literal_kind (Int base empty_int junk) = kind.INT_NUMBER
 literal_kind (Numeric empty_exponent junk) = kind.NUMERIC_NUMBER

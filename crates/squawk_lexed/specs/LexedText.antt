@@ -1,5 +1,5 @@
--- The lexed text: a text with its tokens, as a parse reads them.
-use Rattle.std.specs.Prelude.{⊤, ℕ, ◌+◌, ◌&&◌, Bool, true, nat_lt, List, [], ◌∷◌, slice_range}
+-- A text with its tokens, as a parser reads them.
+use Rattle.std.specs.Prelude.{⊤, ℕ, ◌+◌, ◌&&◌, Bool, true, nat_lt, List, [], ◌∷◌, take, slice_range}
 use Rattle.std.specs.Str.{chars, IsCharBoundary}
 use Rattle.squawk_lexer.specs.declared.token.Token.{Token}
 use Rattle.squawk_lexer.specs.declared.token.Strings.{Strings}
@@ -15,8 +15,7 @@ lexed_tokens text at (t ∷ ts) =
     record {
       kind = leaf_kind t.kind (slice_range text at (at + t.len));
       len = t.len;
-      faults =
-          faults t;
+      faults = faults t;
     } ∷ lexed_tokens text (at + t.len) ts
 
 -- a text, as bytes, and its tokens
@@ -24,18 +23,25 @@ pub record LexedText : Type 0 where
   pub text : List ℕ
   pub tokens : List LexedToken
 
--- the lexed text of a text, under a reading of its plain strings
+-- a text with the tokens that the lexer cuts, under a reading of its plain strings
 abbrev pub lexed_text : Strings → List ℕ → LexedText
 lexed_text strings text = record {
   text = text;
-  tokens =
-      lexed_tokens text 0 (tokens strings (chars text));
+  tokens = lexed_tokens text 0 (tokens strings (chars text));
 }
 
--- the number of bytes of tokens
+-- the number of bytes of these tokens
 abbrev pub total_len : List LexedToken → ℕ
 total_len [] = 0
 total_len (t ∷ ts) = t.len + total_len ts
+
+-- the byte offset at which the token at index i starts
+abbrev pub token_start : List LexedToken → ℕ → ℕ
+token_start ts i = total_len (take i ts)
+
+-- the text of the token at index i
+abbrev pub token_text : LexedText → ℕ → List ℕ
+token_text l i = slice_range l.text (token_start l.tokens i) (token_start l.tokens (i + 1))
 
 -- whether each token has at least one byte, and its faults lie in it
 abbrev pub are_sound : List LexedToken → Bool
@@ -47,17 +53,17 @@ abbrev pub tokens_len : List Token → ℕ
 tokens_len [] = 0
 tokens_len (t ∷ ts) = t.len + tokens_len ts
 
--- tokens laid one after another from this byte of the text on end at character boundaries, and so
--- none of them passes the end
+-- each of these tokens, the first of which begins at this byte of the text, ends at a character
+-- boundary, and so none of them extends past the end
 abbrev pub EndAtBoundaries : List ℕ → ℕ → List Token → Type 0
 EndAtBoundaries text at [] = ⊤
 EndAtBoundaries text at (t ∷ ts) = IsCharBoundary text (at + t.len)
     × EndAtBoundaries text (at + t.len) ts
 
--- the lexed text of the slice that tokens cover, which begin at this byte of a text
+-- the slice of a text that these tokens cover, the first of which begins at this byte, with the
+-- tokens
 abbrev pub lexed_part : List ℕ → ℕ → List Token → LexedText
 lexed_part text at ts = record {
   text = slice_range text at (at + tokens_len ts);
-  tokens =
-      lexed_tokens text at ts;
+  tokens = lexed_tokens text at ts;
 }

@@ -1,4 +1,4 @@
--- A token as a parse reads it.
+-- A token as a parser reads it.
 use Rattle.std.specs.Prelude.{ℕ, List}
 use Rattle.squawk_lexed.specs.declared.fault.Fault.{Fault}
 

@@ -1,5 +1,5 @@
--- How tokens are stored: as three lists, of their kinds, of their starts, and of all errors. For
--- private functions, but for the lists themselves.
+-- How tokens are stored: as three lists, of their kinds, of their starts, and of all errors. Public
+-- contracts cite the three lists; the rest is for private functions.
 use Rattle.std.specs.Prelude.{◌≡◌, ⊤, ℕ, zero, suc, ◌+◌, ◌-◌, ◌<◌, ◌^◌, IsTrue, nat_lt, List, [], ◌∷◌, ◌++◌, length, slice_index, if◌then◌else◌}
 use Rattle.std.specs.Str.{IsCharBoundary}
 use Rattle.squawk_events.specs.declared.steps.ParseError.{ParseError}
@@ -30,14 +30,14 @@ errors_of at (t ∷ ts) = errors_at at t.faults ++ errors_of (at + t.len) ts
 
 -- ---- the way back: a token has the errors that begin before its end
 
--- the errors that begin before this end, as faults of the token that begins at `at`
+-- the leading errors that begin before this end, as faults of the token that begins at `at`
 abbrev pub faults_before : ℕ → ℕ → List ParseError → List Fault
 faults_before at end [] = []
 faults_before at end (e ∷ es) =
     if nat_lt e.start end then record { number = e.number; start = e.start - at; end = e.end - at }
     ∷ faults_before at end es else []
 
--- the errors that do not
+-- the errors from the first on that begins at this end or after it
 abbrev pub errors_from : ℕ → List ParseError → List ParseError
 errors_from end [] = []
 errors_from end (e ∷ es) = if nat_lt e.start end then errors_from end es else e ∷ es
@@ -50,8 +50,7 @@ lexed_tokens_from (kind ∷ kinds) (start ∷ starts) errors =
     record {
       kind = kind;
       len = slice_index starts 0 - start;
-      faults =
-          faults_before start (slice_index starts 0) errors;
+      faults = faults_before start (slice_index starts 0) errors;
     }
     ∷ lexed_tokens_from kinds starts (errors_from (slice_index starts 0) errors)
 
@@ -76,6 +75,10 @@ pub record IsStoredAs (text kinds starts : List ℕ) (errors : List ParseError)
 abbrev pub IsStored : List ℕ → List ℕ → List ℕ → List ParseError → Type 0
 IsStored text kinds starts errors =
     IsStoredAs text kinds starts errors (lexed_tokens_from kinds starts errors)
+
+-- the token with this kind, this length and these faults
+abbrev pub token_of : ℕ → ℕ → List Fault → LexedToken
+token_of kind len faults = record { kind = kind; len = len; faults = faults }
 
 -- the faults of the token at index i
 abbrev pub faults_at : List LexedToken → ℕ → List Fault

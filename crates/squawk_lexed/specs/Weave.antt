@@ -1,7 +1,8 @@
 -- The weave: the steps of a grammar with the ranges of their tokens, and with trivia between them.
--- What it is, in words of its result, stands in `WeaveLaws`.
-use Rattle.std.specs.Prelude.{ℕ, ◌+◌, ◌==◌, Bool, true, false, not, ◌&&◌, List, [], ◌∷◌, ◌++◌, drop, if◌then◌else◌}
+-- `WeaveLaws` says of the result what it is.
+use Rattle.std.specs.Prelude.{ℕ, ◌+◌, ◌==◌, Bool, true, false, IsTrue, not, ◌&&◌, List, [], ◌∷◌, ◌++◌, drop, if◌then◌else◌}
 use Rattle.squawk_events.specs.Kinds.{is_trivia_kind}
+use Rattle.squawk_events.specs.Lawful.{token_kinds}
 use Rattle.squawk_events.specs.declared.steps.Step.{Step}
 use Rattle.squawk_events.specs.declared.steps.Step.TheVariants.{Enter, Token, Exit, Error}
 use Rattle.squawk_events.specs.declared.steps.StrStep.{StrStep}
@@ -34,11 +35,12 @@ abbrev pub after_leading_trivia : List LexedToken → List LexedToken
 after_leading_trivia [] = []
 after_leading_trivia (t ∷ ts) = if is_trivia_kind t.kind then after_leading_trivia ts else t ∷ ts
 
--- the length of the first token
+-- the length of the first token; 0 if there is none
 abbrev pub next_len : List LexedToken → ℕ
 next_len [] = 0
 next_len (t ∷ ts) = t.len
 
+-- whether a list has no element
 abbrev pub is_empty : {A : Type 0} → List A → Bool
 is_empty [] = true
 is_empty (x ∷ xs) = false
@@ -88,10 +90,14 @@ abbrev pub remaining_from : List LexedToken → List Step → List LexedToken
 remaining_from ts [] = ts
 remaining_from ts (x ∷ xs) = remaining_from (tokens_after_step (is_empty xs) ts x) xs
 
--- the same of the whole weave
+-- the tokens that are left at the end of the whole weave
 abbrev pub remaining_tokens : List LexedToken → List Step → List LexedToken
 remaining_tokens ts (Enter kind ∷ xs) = remaining_from ts xs
 remaining_tokens ts xs = ts
+
+-- whether each token is emitted
+abbrev pub all_emitted : List LexedToken → List Step → Bool
+all_emitted ts steps = is_empty (remaining_tokens ts steps)
 
 -- whether there is a token for a step
 abbrev pub has_token_for : List LexedToken → Step → Bool
@@ -111,3 +117,7 @@ abbrev pub begins_with : List ℕ → List ℕ → Bool
 begins_with xs [] = true
 begins_with [] (y ∷ ys) = false
 begins_with (x ∷ xs) (y ∷ ys) = x == y && begins_with xs ys
+
+-- the tokens of the steps have the first kinds of these tokens that are not trivia
+abbrev pub KindsAgree : List LexedToken → List Step → Type 0
+KindsAgree ts steps = IsTrue (begins_with (kinds_without_trivia ts) (token_kinds steps))

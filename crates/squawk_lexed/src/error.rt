@@ -33,7 +33,7 @@ impl Model for LexError {
 }
 
 impl LexError {
-    /// Its range in bytes of the text.
+    /// Returns its range in bytes of the text.
     pub fn range(&self) -> Range<usize>
         ensures start { result.start ≡ self.now.start }
         ensures end { result.end ≡ self.now.end }
@@ -42,7 +42,7 @@ impl LexError {
         self.start as usize..self.end as usize
     }
 
-    /// The number of its message, from 1 to 9.
+    /// Returns the number of its message, from 1 to 9.
     pub fn number(&self) -> u8
         ensures number { result ≡ self.now.number }
         ensures from_one { 1 ≤ result }
@@ -51,7 +51,7 @@ impl LexError {
         self.number
     }
 
-    /// Its message.
+    /// Returns its message.
     pub fn message(&self) -> &'static str
         ensures { result.now ≡ message_of self.now.number }
     {
@@ -70,7 +70,7 @@ fn fault_pair(token: Token) -> (Option<Fault>, Option<Fault>)
     (faults[0], faults[1])
 }
 
-// Appends the fault, if there is one, of a token that begins at byte `at`.
+// Appends the fault of a token that begins at byte `at`, if there is one.
 fn push_fault(errors: &mut Vec<LexError>, at: u32, fault: Option<Fault>) -> Result<(), FrontError>
     requires lies { IfSome fault (λ f. (1 ≤ f.number) × (f.number ≤ 9) × (f.start ≤ f.end)
         × (at + f.end < 2 ^ 32)) }

@@ -1,20 +1,21 @@
-//! The lexed text.
-ghost use Rattle.std.specs.Prelude.{◌≡◌, ◌^◌, ◌<◌, ◌≤◌, ◌+◌, ◌↔◌, [], ◌∷◌, ◌++◌, length, take, drop, slice_range, slice_index, slice_index_or, IfOk, OnOk, IsErrOf, IfErr, IsTrue};
+//! A text with its tokens.
+ghost use Rattle.std.specs.Prelude.{◌≡◌, ◌^◌, ◌<◌, ◌≤◌, ◌+◌, ◌↔◌, [], ◌∷◌, ◌++◌, length, drop, slice_index, slice_index_or, IfOk, OnOk, IsErrOf, IfErr, IsTrue};
 ghost use Rattle.std.specs.Str.{chars, IsCharBoundary};
 ghost use Rattle.squawk_kinds.specs.declared.numbers.TheConstants.Number.{EOF};
+ghost use Rattle.squawk_events.specs.Limit.{limit};
 ghost use Rattle.squawk_events.specs.Refusals.{IsOutOfMemory, MayRefuse};
-ghost use Rattle.squawk_events.specs.Kinds.{is_trivia_kind, has_no_trivia, without_trivia};
+ghost use Rattle.squawk_events.specs.Kinds.{has_no_trivia, without_trivia};
 ghost use Rattle.squawk_lexed.specs.Weave.{kinds_without_trivia};
 ghost use Rattle.squawk_lexer.specs.Flags.{IsCut, AreCut};
 ghost use Rattle.squawk_lexer.specs.declared.token.Strings.TheVariants.{Standard};
 ghost use Rattle.squawk_lexed.specs.Leaf.{leaf_kind};
 ghost use Rattle.squawk_lexed.specs.Faults.{faults};
-ghost use Rattle.squawk_lexed.specs.LexedText.{lexed_text, lexed_part, EndAtBoundaries, total_len, are_sound};
-ghost use Rattle.squawk_lexed.specs.Stored.{kinds_of, starts_of, errors_of, errors_at, faults_at};
+ghost use Rattle.squawk_lexed.specs.LexedText.{lexed_text, lexed_part, EndAtBoundaries, token_start, token_text, total_len, are_sound};
+ghost use Rattle.squawk_lexed.specs.Stored.{kinds_of, starts_of, errors_of, errors_at, faults_at, token_of};
 
 use crate::error::{LexError, push_faults};
 use crate::kind::kind_of;
-use squawk_events::{FrontError, Input, LIMIT};
+use squawk_events::{FrontError, Input, LIMIT, is_trivia};
 use squawk_kinds::SyntaxKind;
 use squawk_lexer::laws::flags_lie_within;
 use squawk_lexer::{Strings, Token, tokenize_in};
@@ -53,7 +54,7 @@ fn push_token(lists: &mut Lists, at: u32, token: Token, text: &str) -> Result<()
 pub struct LexedStr<'a> {
     text: &'a str,
     kinds: Vec<SyntaxKind>,
-    // the start of each token, and the end of the last
+    // The start of each token, and the end of the last.
     starts: Vec<u32>,
     errors: Vec<LexError>,
 }
@@ -74,21 +75,13 @@ impl<'a> Model for LexedStr<'a> {
 
 // The kind of a token, and its length in bytes.
 #[derive(Clone, Copy)]
-pub(crate) struct Piece {
+pub(crate) struct KindAndLen {
     pub(crate) kind: SyntaxKind,
     pub(crate) len: u32,
 }
 
-// Whether the kind is trivia: white space or a comment.
-#[tactic(auto, unfolding(squawk_events::specs::Kinds::is_trivia_kind))]
-pub(crate) fn is_trivia(kind: SyntaxKind) -> bool
-    ensures { result ≡ is_trivia_kind kind }
-{
-    matches!(kind, SyntaxKind::WHITESPACE | SyntaxKind::COMMENT)
-}
-
 // The kinds that are not trivia.
-fn kinds_kept(alloc: Global, kinds: &[SyntaxKind]) -> Result<Input, FrontError>
+fn without_trivia(alloc: Global, kinds: &[SyntaxKind]) -> Result<Input, FrontError>
     ensures ok { IfOk result (λ input. input ≡ without_trivia kinds.now) }
     ensures refusals { IfErr result IsOutOfMemory }
 {
@@ -102,17 +95,17 @@ fn kinds_kept(alloc: Global, kinds: &[SyntaxKind]) -> Result<Input, FrontError>
 }
 
 impl<'a> LexedStr<'a> {
-    /// Cuts a text into tokens, where `strings` says whether a backslash escapes in plain strings.
+    /// Cuts a text into tokens. `strings` says whether a backslash escapes in plain strings.
     ///
-    /// Returns `TooLong` exactly where the text has more than 4294967295 bytes, before it
-    /// allocates, and `OutOfMemory` only where memory runs out.
+    /// Returns `TooLong` exactly if the text has more than 4294967295 bytes, before it allocates,
+    /// and `OutOfMemory` only if memory runs out.
     pub fn new_in(
         alloc: Global,
         text: &'a str,
         strings: Strings,
     ) -> Result<LexedStr<'a>, FrontError>
         ensures lexed { IfOk result (λ l. l ≡ lexed_text strings text.now) }
-        ensures too_long { IsErrOf result FrontError.TooLong ↔ (4294967295 < length text.now) }
+        ensures too_long { IsErrOf result FrontError.TooLong ↔ (limit < length text.now) }
         ensures refusals { IfErr result (MayRefuse text.now) }
     {
         if text.len() as u64 > LIMIT {
@@ -144,27 +137,28 @@ impl<'a> LexedStr<'a> {
         })
     }
 
-    /// `new_in` where a backslash in a plain string is a character like any other, as with
-    /// PostgreSQL's `standard_conforming_strings = on`.
+    /// `new_in` with `Strings::Standard`: a backslash in a plain string is an ordinary character,
+    /// as with PostgreSQL's `standard_conforming_strings = on`.
     pub fn new(alloc: Global, text: &'a str) -> Result<LexedStr<'a>, FrontError>
         ensures lexed { IfOk result (λ l. l ≡ lexed_text Standard text.now) }
-        ensures too_long { IsErrOf result FrontError.TooLong ↔ (4294967295 < length text.now) }
+        ensures too_long { IsErrOf result FrontError.TooLong ↔ (limit < length text.now) }
         ensures refusals { IfErr result (MayRefuse text.now) }
     {
         LexedStr::new_in(alloc, text, Strings::Standard)
     }
 
-    /// Makes a lexed text of tokens that were cut before, the first of which begins at byte `at` of
-    /// `text`. Its text is the slice that they cover, and its offsets count from there.
+    /// Makes a lexed text of tokens that the lexer has cut before, the first of which begins at
+    /// byte `at` of `text`. Its text is the slice that they cover, and its offsets count from `at`.
     ///
-    /// Fails only where memory runs out.
+    /// `text` must have at most 4294967295 bytes, and `at` and the end of each token must be
+    /// character boundaries in it. Fails only if memory runs out.
     pub fn from_tokens(
         alloc: Global,
         text: &'a str,
         at: usize,
         tokens: &[Token],
     ) -> Result<LexedStr<'a>, FrontError>
-        requires fits { length text.now ≤ 4294967295 }
+        requires fits { length text.now ≤ limit }
         requires boundary { IsCharBoundary text.now at }
         requires cut { AreCut tokens.now }
         requires laid { EndAtBoundaries text.now at tokens.now }
@@ -198,14 +192,14 @@ impl<'a> LexedStr<'a> {
         })
     }
 
-    /// The text.
+    /// Returns the text.
     pub fn as_str(&self) -> &'a str
         ensures { result.now ≡ self.now.text }
     {
         self.text
     }
 
-    /// The number of tokens.
+    /// Returns the number of tokens.
     ///
     /// Each token has at least one byte, its faults lie in it, and the tokens cover the text.
     pub fn len(&self) -> usize
@@ -217,7 +211,7 @@ impl<'a> LexedStr<'a> {
         self.kinds.len()
     }
 
-    /// The kind of token `i`; `EOF` where `i` is `len`.
+    /// Returns the kind of token `i`, or `EOF` if `i` is `len`. `i` must be at most `len`.
     pub fn kind(&self, i: usize) -> SyntaxKind
         requires { i ≤ length self.now.tokens }
         ensures { result ≡ slice_index_or (kinds_of self.now.tokens) i EOF }
@@ -229,34 +223,34 @@ impl<'a> LexedStr<'a> {
         }
     }
 
-    /// The byte offset at which token `i` starts; the length of the text where `i` is `len`.
+    /// Returns the byte offset at which token `i` starts, or the length of the text if `i` is
+    /// `len`. `i` must be at most `len`.
     pub fn text_start(&self, i: usize) -> usize
         requires { i ≤ length self.now.tokens }
-        ensures { result ≡ total_len (take i self.now.tokens) }
+        ensures { result ≡ token_start self.now.tokens i }
     {
         self.starts[i] as usize
     }
 
-    /// The range of token `i` in bytes.
+    /// Returns the range of token `i` in bytes. `i` must be below `len`.
     pub fn text_range(&self, i: usize) -> Range<usize>
         requires { i < length self.now.tokens }
-        ensures start { result.start ≡ total_len (take i self.now.tokens) }
-        ensures end { result.end ≡ total_len (take (i + 1) self.now.tokens) }
+        ensures start { result.start ≡ token_start self.now.tokens i }
+        ensures end { result.end ≡ token_start self.now.tokens (i + 1) }
     {
         self.starts[i] as usize..self.starts[i + 1] as usize
     }
 
-    /// The text of token `i`.
+    /// Returns the text of token `i`. `i` must be below `len`.
     pub fn text(&self, i: usize) -> &'a str
         requires { i < length self.now.tokens }
-        ensures { result.now ≡ slice_range self.now.text (total_len (take i self.now.tokens))
-            (total_len (take (i + 1) self.now.tokens)) }
+        ensures { result.now ≡ token_text self.now i }
     {
         let range = self.text_range(i);
         &self.text[range.start..range.end]
     }
 
-    /// The lexical errors in the order of the tokens, and by number at each token.
+    /// Returns the lexical errors in the order of the tokens, and by number at each token.
     pub fn errors(&self) -> &[LexError]
         ensures { result.now ≡ errors_of 0 self.now.tokens }
     {
@@ -264,29 +258,26 @@ impl<'a> LexedStr<'a> {
     }
 
     // The kind and the length of token `i`.
-    pub(crate) fn piece(&self, i: usize) -> Piece
+    pub(crate) fn kind_and_len(&self, i: usize) -> KindAndLen
         requires { i < length self.now.tokens }
         ensures fits { i + 1 < 2 ^ 32 }
-        ensures at { drop i self.now.tokens ≡ record {
-          kind = result.kind;
-          len =
-              result.len;
-          faults = faults_at self.now.tokens i;
-        } ∷ drop (i + 1) self.now.tokens }
+        ensures at { drop i self.now.tokens
+            ≡ token_of result.kind result.len (faults_at self.now.tokens i)
+            ∷ drop (i + 1) self.now.tokens }
     {
-        Piece {
+        KindAndLen {
             kind: self.kinds[i],
             len: self.starts[i + 1] - self.starts[i],
         }
     }
 
-    /// Returns the kinds that are not trivia, in order: the input of a grammar. Fails only where
+    /// Returns the kinds that are not trivia, in order: the input of a grammar. Fails only if
     /// memory runs out.
     pub fn to_input(&self, alloc: Global) -> Result<Input, FrontError>
         ensures ok { IfOk result (λ input. input ≡ kinds_without_trivia self.now.tokens) }
         ensures no_trivia { IfOk result (λ input. IsTrue (has_no_trivia input)) }
         ensures refusals { IfErr result IsOutOfMemory }
     {
-        kinds_kept(alloc, &self.kinds)
+        without_trivia(alloc, &self.kinds)
     }
 }

@@ -1,4 +1,4 @@
-//! Leaf kinds, faults and accessors over texts whose tokens are known from outside.
+//! Leaf kinds, faults and accessors over texts whose tokens were worked by hand.
 use super::*;
 use squawk_kinds::SyntaxKind;
 use squawk_kinds::numbers::Number;
@@ -89,9 +89,13 @@ const ERRORS: &[(&str, &str, &[(u8, usize, usize)])] = &[
     ("unterminated string", "'a", &[(3, 0, 2)]),
     ("unterminated dollar string", "$$a", &[(3, 0, 3)]),
     ("unterminated quoted identifier", "\"a", &[(4, 0, 2)]),
-    ("empty_base", "0x", &[(5, 0, 2)]),
-    ("empty_exponent", "1e+_2", &[(6, 1, 2)]),
-    ("exponent_and_junk", "1eabc", &[(6, 1, 2), (7, 2, 5)]),
+    ("base without digits", "0x", &[(5, 0, 2)]),
+    ("exponent without digits", "1e+_2", &[(6, 1, 2)]),
+    (
+        "exponent without digits, and junk",
+        "1eabc",
+        &[(6, 1, 2), (7, 2, 5)],
+    ),
     ("junk of two bytes", "12é", &[(7, 2, 4)]),
     ("parameter without digits", "1 $a;", &[(8, 2, 3), (9, 3, 4)]),
 ];

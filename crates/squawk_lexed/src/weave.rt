@@ -1,14 +1,14 @@
-//! Trivia put back between the steps of a grammar.
+//! Puts trivia back between the steps of a grammar.
 ghost use Rattle.std.specs.Prelude.{◌≡◌, ◌^◌, ◌<◌, ◌≤◌, ◌+◌, [], ◌∷◌, ◌++◌, length, OnOk, OnErr, IfOk, IfErr, IsTrue, drop};
-ghost use Rattle.squawk_events.specs.Lawful.{is_balanced, token_kinds};
+ghost use Rattle.squawk_events.specs.Lawful.{is_balanced};
 ghost use Rattle.squawk_events.specs.Refusals.{IsOutOfMemory};
-ghost use Rattle.squawk_lexed.specs.Weave.{kinds_without_trivia, begins_with, leading_trivia, leading_trivia_end, after_leading_trivia, weave_step, offset_after_step, tokens_after_step, has_token_for, have_tokens_for, weave, weave_from, remaining_from, remaining_tokens, is_empty};
+ghost use Rattle.squawk_lexed.specs.Weave.{KindsAgree, all_emitted, leading_trivia, leading_trivia_end, after_leading_trivia, weave_step, offset_after_step, tokens_after_step, has_token_for, have_tokens_for, weave, weave_from, remaining_from, is_empty};
 ghost use Rattle.squawk_lexed.specs.LexedText.{total_len};
 ghost use Rattle.squawk_lexed.specs.Prefixes.{AppendsPrefix};
 ghost use Rattle.squawk_events.specs.declared.steps.Step.TheVariants.{Enter};
 
-use crate::lexed::{LexedStr, is_trivia};
-use squawk_events::{FrontError, Output, Step, StepSink, StrStep};
+use crate::lexed::LexedStr;
+use squawk_events::{FrontError, Output, Step, StepSink, StrStep, is_trivia};
 use squawk_kinds::SyntaxKind;
 
 // The index of the next token to emit, and the byte at which it starts.
@@ -18,7 +18,7 @@ struct Position {
     at: u32,
 }
 
-// Emits the trivia at the front of the tokens that are left.
+// Emits the trivia that the tokens from `from` on begin with. Returns the position after it.
 fn emit_leading_trivia<K: StepSink>(
     lexed: &LexedStr<'_>,
     from: Position,
@@ -42,10 +42,10 @@ fn emit_leading_trivia<K: StepSink>(
 {
     let mut index = from.index;
     let mut at = from.at;
-    while index < lexed.len() && is_trivia(lexed.piece(index).kind) {
-        let end = at + lexed.piece(index).len;
+    while index < lexed.len() && is_trivia(lexed.kind_and_len(index).kind) {
+        let end = at + lexed.kind_and_len(index).len;
         sink.step(StrStep::Token {
-            kind: lexed.piece(index).kind,
+            kind: lexed.kind_and_len(index).kind,
             start: at,
             end,
         })?;
@@ -55,7 +55,8 @@ fn emit_leading_trivia<K: StepSink>(
     Ok(Position { index, at })
 }
 
-// Emits a step. Pending trivia goes before an `Enter`, a `Token` and the last `Exit`.
+// Emits a step. Pending trivia goes before an `Enter`, a `Token` and the last `Exit`. Returns the
+// position after the tokens that were emitted.
 fn emit_step<K: StepSink>(
     lexed: &LexedStr<'_>,
     from: Position,
@@ -88,7 +89,7 @@ fn emit_step<K: StepSink>(
         }
         Step::Token { kind } => {
             let to = emit_leading_trivia(lexed, from, sink)?;
-            let end = to.at + lexed.piece(to.index).len;
+            let end = to.at + lexed.kind_and_len(to.index).len;
             sink.step(StrStep::Token {
                 kind,
                 start: to.at,
@@ -134,11 +135,11 @@ fn emit_rest<K: StepSink>(
     ensures refusals { IfErr result IsOutOfMemory }
 {
     let count = lexed.len();
-    let mut place = Position { index: 0, at: 0 };
+    let mut position = Position { index: 0, at: 0 };
     for k in 0..rest.len() {
-        place = emit_step(lexed, place, rest[k], k + 1 == rest.len(), sink)?;
+        position = emit_step(lexed, position, rest[k], k + 1 == rest.len(), sink)?;
     }
-    Ok(place.index == count)
+    Ok(position.index == count)
 }
 
 // The kind of the root of balanced steps.
@@ -153,26 +154,27 @@ fn root_of(steps: &[Step]) -> SyntaxKind
 }
 
 impl<'a> LexedStr<'a> {
-    /// Hands the steps of an output to a sink, with the ranges of their tokens, and with the trivia
-    /// between them. Returns whether all tokens were handed over.
+    /// Sends the steps of an output to a sink, with the ranges of their tokens, and with the trivia
+    /// between them. Returns whether all tokens of the text were sent.
+    ///
+    /// The steps must be balanced, and their tokens must have the first kinds of `to_input`.
     ///
     /// A trivia token goes directly before the first `Enter`, `Token` or last `Exit` that follows
-    /// the token before it, so it stands in the innermost node that goes on after it. An `Error` is
-    /// placed at the start of the next token. Trivia after a token without a step is left out.
+    /// the token before it, so it lies in the innermost node that continues after it. An `Error` is
+    /// placed at the end of the last token before it. Tokens for which there is no step, and the
+    /// trivia after them, are left out.
     ///
-    /// Fails only where memory runs out; the sink then has a prefix of these steps.
+    /// Fails only if memory runs out; the sink then has received a prefix of these steps.
     pub fn intersperse_trivia<K: StepSink>(
         &self,
         output: &Output,
         sink: &mut K,
     ) -> Result<bool, FrontError>
         requires balanced { IsTrue (is_balanced output.now) }
-        requires tokens { IsTrue (begins_with (kinds_without_trivia self.now.tokens)
-            (token_kinds output.now)) }
+        requires tokens { KindsAgree self.now.tokens output.now }
         ensures ok { OnOk result (K.steps sink.new
             ≡ K.steps sink.old ++ weave self.now.tokens output.now) }
-        ensures all { IfOk result (λ all. all
-            ≡ is_empty (remaining_tokens self.now.tokens output.now)) }
+        ensures all { IfOk result (λ all. all ≡ all_emitted self.now.tokens output.now) }
         ensures prefix { OnErr result (AppendsPrefix (K.steps sink.old) (K.steps sink.new)
             (weave self.now.tokens output.now)) }
         ensures errors { K.errors sink.new ≡ K.errors sink.old }

@@ -7,7 +7,7 @@ use Rattle.squawk_statements.specs.Children.{ends_statement, open_groups_after, 
 use Rattle.squawk_statements.specs.Laws.{EndsFirstAt, NoneEnds, IsTrimmed, may_end_at}
 use Rattle.squawk_statements.specs.declared.division.Division.{Division}
 
--- what an end says of the tokens
+-- what the end of a statement says of its tokens; none says that no token may end it
 End : Division → ℕ → List Role → Option ℕ → Type 0
 End d n fs (Some m) = (i : ℕ) × (m ≡ suc i) × EndsFirstAt d n fs i
 End d n fs None = NoneEnds d n fs
@@ -37,6 +37,7 @@ end_after d n f fs (Some m) goes (i, is, h) = (
     by zero before = goes
     by (suc j) before = h.first j (omega arith)
 
+-- the end of a statement says so
 end_of : (d : Division) (n : ℕ) (fs : List Role) → End d n fs (statement_end d n fs)
 unfolding End
 end_of d n [] = λ i within. absurd (omega arith)
@@ -70,6 +71,7 @@ pub none_ends : (d : Division) (n : ℕ) (fs : List Role) → statement_end d n 
 unfolding End
 none_ends d n fs is = subst (End d n fs) is (end_of d n fs)
 
+-- a number that is tested not to be 0 is not
 not_zero : {P : Type 0} (n : ℕ) → (n == 0) ≡ false → n ≡ 0 → P
 not_zero n test is = absurd (let e : true ≡ false = ap (λ m. m == 0) (sym is) ∙ test in cc)
 
@@ -80,10 +82,11 @@ trimmed_is [] = record {
   trivia = λ i from within. absurd (omega arith);
   last = λ i is. absurd (omega (arith, is));
 }
-trimmed_is (f ∷ fs) = by (is_trivia f) (trimmed_len fs == 0) (trimmed_len fs) refl refl (trimmed_is fs)
+trimmed_is (f ∷ fs) =
+    by (is_trivia f) (trimmed_len fs == 0) (trimmed_len fs) refl refl (trimmed_is fs)
   where
     kept : (n : ℕ) → IsTrimmed fs n → (n ≡ 0 → is_trivia f ≡ false) → IsTrimmed (f ∷ fs) (suc n)
-    kept n h solid = record {
+    kept n h not_trivia = record {
       within = omega (arith, h.within);
       trivia = λ i from within. after i from within;
       last = λ i is. at i is;
@@ -96,7 +99,7 @@ trimmed_is (f ∷ fs) = by (is_trivia f) (trimmed_len fs == 0) (trimmed_len fs) 
 
         at : (i : ℕ) → suc n ≡ suc i
             → is_trivia (slice_index_or (f ∷ fs) i Other) ≡ false
-        at zero is = solid (omega (arith, is))
+        at zero is = not_trivia (omega (arith, is))
         at (suc i) is = h.last i (omega (arith, is))
 
     by : (b none : Bool) (n : ℕ) → is_trivia f ≡ b → (n == 0) ≡ none → IsTrimmed fs n

@@ -1,15 +1,15 @@
--- What a search of the rows finds.
+-- The search of the rows finds the longest row that fits.
 use Rattle.std.proofs.Common.{◌≡◌, ◌↔◌, ℕ, suc, ◌<◌, ◌≤◌, ◌-◌, ◌==◌, Bool, true, cond, ◌&&◌, List, [], ◌∷◌, length, take, drop, get_or, map, ap, refl, sym, subst, ◌∙◌, arith, drop-cons, eqb}
 use Rattle.std.proofs.lemmas.Bool.{eq-eqb}
 use Rattle.std.proofs.lemmas.List.{take_rest}
 use Rattle.std.specs.List.{find, starts_with, list_any}
 use Rattle.std.specs.Prelude.{is_some, ◌||◌, nat_lt, false, Option, Some, None, option_map, IsNone, IfSome}
 use Rattle.squawk_statements.specs.Opening.{Row, rows, is_prefix, key, longer, longest, opening_of}
-use Rattle.squawk_statements.specs.Rows.{Decide, row_of}
+use Rattle.squawk_statements.specs.Rows.{FirstMatchIsLongest, row_of}
 use Rattle.squawk_statements.specs.declared.rows.Row as table
 use Rattle.squawk_statements.proofs.Tables.{IsKind, is_kind_rows}
 
--- no row is empty
+-- the longest row for no kinds is none, since no row is empty
 pub longest_empty : (ks : List ℕ) → length ks ≡ 0
     → None ≡ option_map (λ (row : Row). row.1) (longest rows ks)
 unfolding rows Rattle.squawk_statements.specs.Opening.other_rows
@@ -19,13 +19,14 @@ unfolding rows Rattle.squawk_statements.specs.Opening.other_rows
 longest_empty [] h = refl
 longest_empty (k ∷ ks) h = absurd (omega arith)
 
+-- std's test of a prefix is the one of the definitions
 starts_with_is_prefix : (row ks : List ℕ) → starts_with eqb ks row ≡ is_prefix row ks
 starts_with_is_prefix [] ks = refl
 starts_with_is_prefix (r ∷ rs) [] = refl
 starts_with_is_prefix (r ∷ rs) (k ∷ ks) = ap (λ (t : Bool).
     r == k && t) (starts_with_is_prefix rs ks)
 
--- the test of a row's first kind, and then of the others
+-- the test of a row's first kind and of the others together test the whole row
 pub fits_both : (first : ℕ) (more ks : List ℕ) (result : Bool) → 0 < length ks
     → first ≡ get_or ks 0 0 → result ≡ starts_with eqb (take (length ks - 1) (drop 1 ks)) more
     → result ≡ is_prefix (first ∷ more) ks
@@ -35,13 +36,15 @@ fits_both first more (k ∷ ks) result some same is =
     ∙ starts_with_is_prefix more ks
     ∙ ap (λ (t : Bool). t && is_prefix more ks) (sym (eq-eqb first k same))
 
-pub found_first : (ks : List ℕ) (table : List Row) → 0 < length ks → Decide (get_or ks 0 0) table
+-- the first row that fits, of a table for the first kind, is the longest
+pub found_first : (ks : List ℕ) (table : List Row) → 0 < length ks
+    → FirstMatchIsLongest (get_or ks 0 0) table
     → find (λ (row : Row). is_prefix row.0 ks) table ≡ longest rows ks
-unfolding Decide
+unfolding FirstMatchIsLongest
 found_first [] table some h = absurd (omega arith)
 found_first (k ∷ ks) table some h = h ks
 
--- the row at an index, where it is a prefix and none before it is
+-- the row at an index is the longest, if it fits and no row before it does
 pub found_here : (rows_here : List table.Row) (i : ℕ) (d : table.Row) (ks : List ℕ)
     → i < length rows_here
     → find (λ (row : Row). is_prefix row.0 ks) (map row_of (drop i rows_here)) ≡ longest rows ks
@@ -54,7 +57,7 @@ found_here rows_here i d ks within so_far fits =
     ∙ ap (λ t. cond t (Some (row_of (get_or rows_here i d))) (find (λ (row : Row).
     is_prefix row.0 ks) (map row_of (drop (suc i) rows_here)))) fits
 
--- the kind with the number of the row that was found
+-- the kind with the number of the longest row's node is the node that the definitions name
 pub named : (result : Option ℕ) (ks : List ℕ) (row : Row) → (IsNone result ↔ (2068 ≤ row.1))
     → IfSome result (λ kind. kind ≡ row.1) → longest rows ks ≡ Some row
     → result ≡ option_map (λ (row : Row). row.1) (longest rows ks)
@@ -70,6 +73,7 @@ named result ks row past number is = by result past number
     by None p n = let over : 2068 ≤ row.1 = p.0 refl in absurd (omega (arith, below))
     by (Some k) p n = ap Some n
 
+-- there is a longest row exactly if some row fits: of two, of a table, and after its node is taken
 some_longer : (t : Bool) (row : Row) (found : Option Row)
     → is_some (longer (cond t (Some row) None) found) ≡ (t || is_some found)
 some_longer false row found = refl
@@ -90,7 +94,7 @@ some_node : (found : Option Row) → is_some (option_map (λ (row : Row). row.1)
 some_node None = refl
 some_node (Some row) = refl
 
--- there is no node exactly where no row fits
+-- there is no node exactly if no row fits
 pub none_opening : (result : Option ℕ) (ks : List ℕ) → result ≡ opening_of ks → IsNone result
     ↔ (list_any (λ (row : Row). is_prefix row.0 (key ks)) rows ≡ false)
 unfolding opening_of

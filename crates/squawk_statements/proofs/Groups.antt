@@ -12,10 +12,14 @@ use Rattle.squawk_statements.specs.Children.{ends_statement, open_groups_after}
 use Rattle.squawk_statements.specs.Plain.{body_steps, exits, kind_steps, groups_open_after}
 use Rattle.squawk_statements.specs.declared.division.Division.{Division}
 
+-- ---- the steps of parts
+
+-- both parts of a test that holds
 split : (a b : Bool) → (a && b) ≡ true → (a ≡ true) × (b ≡ true)
 split true b h = (refl, h)
 split false b h = absurd (cc)
 
+-- the roles of parentheses
 is_open : role L_PAREN ≡ Open
 unfolding role
 is_open = refl
@@ -24,6 +28,7 @@ is_close : role R_PAREN ≡ Close
 unfolding role
 is_close = refl
 
+-- a plain kind is one Token, and opens and closes no group
 plain_step : (d : Division) (n kind : ℕ) (f : Role) → role kind ≡ f → is_plain n f ≡ true
     → ends_statement d n f ≡ false → (kind_steps d n kind ≡ Token kind ∷ [])
     × (groups_open_after d n (role kind) ≡ n)
@@ -36,10 +41,12 @@ plain_step d zero kind Close e p h = (rw e refl, rw e refl)
 plain_step d (suc n) kind Close e p h = absurd (cc)
 plain_step d n kind Other e p h = (rw e refl, rw e refl)
 
+-- a test that fails
 not_false : (b : Bool) → not b ≡ true → b ≡ false
 not_false true h = absurd (cc)
 not_false false h = refl
 
+-- the steps of a `(`, and of the `)` of a group, before other kinds
 open_step : (d : Division) (n : ℕ) (ks : List ℕ)
     → body_steps d n (L_PAREN ∷ ks) ≡ Enter PAREN_EXPR ∷ Token L_PAREN ∷ body_steps d (suc n) ks
 open_step d n ks = rw is_open refl
@@ -75,6 +82,7 @@ closed_parts_steps d n (Closed inside rest) ks h c =
     ∷ steps_of rest) (body_steps d n ks)))
 closed_parts_steps d n (Unclosed inside) ks h c = absurd (cc)
 
+-- an Exit before n is n + 1
 exit_last : (n : ℕ) → Exit ∷ exits n ≡ exits (suc n)
 exit_last n = refl
 
@@ -112,15 +120,18 @@ data Stack : Type 0 where
   Last : Parts → Stack
   More : Parts → Stack → Stack
 
+-- a plain kind before them
 push : ℕ → Stack → Stack
 push k (Last p) = Last (Plain k p)
 push k (More p s) = More (Plain k p) s
 
+-- the `(` of the innermost group before them
 enter : Stack → Stack
 enter (Last p) = Last (Unclosed p)
 enter (More p (Last q)) = Last (Closed p q)
 enter (More p (More q s)) = More (Closed p q) s
 
+-- the parts of kinds, inside n groups, from those of the kinds after the first
 divide_by : Role → ℕ → ℕ → (ℕ → Stack) → Stack
 divide_by Open n k rest = enter (rest (suc n))
 divide_by Close zero k rest = push k (rest zero)
@@ -135,10 +146,12 @@ divide : ℕ → List ℕ → Stack
 divide n [] = Last Done
 divide n (k ∷ ks) = divide_by (role k) n k (λ m. divide m ks)
 
+-- their kinds, in order
 stack_kinds : Stack → List ℕ
 stack_kinds (Last p) = kinds_of p
 stack_kinds (More p s) = kinds_of p ++ R_PAREN ∷ stack_kinds s
 
+-- a kind before them, and a `(`, and all kinds that are divided
 push_kinds : (k : ℕ) (s : Stack) → stack_kinds (push k s) ≡ k ∷ stack_kinds s
 unfolding stack_kinds push
 push_kinds k (Last p) = refl
@@ -152,7 +165,7 @@ enter_kinds (More p (More q s)) =
     ap (λ ks. L_PAREN ∷ ks) (append_assoc (kinds_of p) (R_PAREN ∷ kinds_of q) (R_PAREN
     ∷ stack_kinds s))
 
--- the kinds of parentheses
+-- the only kinds with these roles are the parentheses
 open_is : (k : ℕ) → role k ≡ Open → k ≡ L_PAREN
 unfolding role
 open_is k h =
@@ -213,9 +226,11 @@ are_stacked d n (Last p) = are_parts d n p
 are_stacked d zero (More p s) = false
 are_stacked d (suc n) (More p s) = (are_parts d (suc n) p && all_closed p) && are_stacked d n s
 
+-- both tests hold
 both : (a b : Bool) → a ≡ true → b ≡ true → (a && b) ≡ true
 both a b h k = rw (h, k) refl
 
+-- a plain kind before them, the `(` of a group, and all kinds that do not end the statement
 push_stacked : (d : Division) (n k : ℕ) (s : Stack) → is_plain n (role k) ≡ true
     → ends_statement d n (role k) ≡ false → are_stacked d n s ≡ true
     → are_stacked d n (push k s) ≡ true
@@ -283,6 +298,7 @@ divide_stacked d n (k ∷ ks) h =
         push_stacked d n k (divide n ks) (ap (is_plain n) is) goes
         (more n (ap (λ f. stays_open d (open_groups_after n f) ks) (sym is) ∙ rest))
 
+-- kinds none of which ends the statement are those of some parts, and have their steps
 pub body_divides : (d : Division) (ks : List ℕ) → stays_open d 0 ks ≡ true → (ps : Parts)
     × (kinds_of ps ≡ ks) × (are_parts d 0 ps ≡ true) × (body_steps d 0 ks ≡ steps_of ps)
 unfolding stack_kinds are_stacked
@@ -301,6 +317,7 @@ body_divides d ks h = by (divide 0 ks) (divide_kinds 0 ks) (divide_stacked d 0 k
 
 -- ---- there is only one
 
+-- the innermost parts as a group with its `)`
 close_in : Parts → Stack → Stack
 close_in p (Last q) = Last (Closed p q)
 close_in p (More q s) = More (Closed p q) s
@@ -324,6 +341,7 @@ onto_done (Plain k rest) s h = ap (push k) (onto_done rest s h)
 onto_done (Closed inside rest) s h = ap (close_in inside) (onto_done rest s h)
 onto_done (Unclosed inside) s h = absurd (cc)
 
+-- the division of a `(`, of a `)` and of a plain kind
 divide_open : (n : ℕ) (ks : List ℕ) → divide n (L_PAREN ∷ ks) ≡ enter (divide (suc n) ks)
 unfolding divide divide_by
 divide_open n ks = rw is_open refl
@@ -348,6 +366,7 @@ divide_plain n k ks h = by (role k) n h
     by Command n h = refl
     by Other n h = refl
 
+-- dividing the kinds of closed parts puts these parts before those of the kinds after them
 divide_onto : (d : Division) (n : ℕ) (ps : Parts) (ks : List ℕ) → are_parts d n ps ≡ true
     → all_closed ps ≡ true → divide n (kinds_of ps ++ ks) ≡ onto ps (divide n ks)
 unfolding onto
@@ -370,6 +389,7 @@ divide_onto d n (Closed inside rest) ks h c =
     ∙ enter_more inside (onto rest (divide n ks))
 divide_onto d n (Unclosed inside) ks h c = absurd (cc)
 
+-- and dividing the kinds of any parts yields these parts
 divide_last : (d : Division) (n : ℕ) (ps : Parts) → are_parts d n ps ≡ true
     → divide n (kinds_of ps) ≡ Last ps
 unfolding push enter divide
@@ -389,10 +409,12 @@ divide_last d n (Closed inside rest) h =
 divide_last d n (Unclosed inside) h = divide_open n (kinds_of inside)
     ∙ ap enter (divide_last d (suc n) inside h)
 
+-- the innermost parts
 first_of_stack : Stack → Parts
 first_of_stack (Last p) = p
 first_of_stack (More p s) = p
 
+-- parts with the same kinds are the same
 pub division_is_unique : (d : Division) (ps qs : Parts) → are_parts d 0 ps ≡ true
     → are_parts d 0 qs ≡ true → kinds_of ps ≡ kinds_of qs → ps ≡ qs
 unfolding first_of_stack

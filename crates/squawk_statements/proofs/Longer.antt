@@ -1,4 +1,4 @@
--- A closed first child is that of every longer list.
+-- A closed first child is also the first child of every longer list.
 use Rattle.std.proofs.Common.{◌≡◌, ℕ, suc, Bool, true, false, cond, List, [], ◌∷◌, ◌++◌, map, length, take, ◌<◌, ◌≤◌, arith, refl, ap, ◌∙◌}
 use Rattle.std.proofs.lemmas.List.{map-append, take-append-le}
 use Rattle.std.specs.Prelude.{Option, Some, None, option_map}
@@ -9,14 +9,17 @@ use Rattle.squawk_statements.specs.First.{child_node, first_shape}
 use Rattle.squawk_statements.specs.declared.first.ChildShape.{ChildShape}
 use Rattle.squawk_statements.specs.declared.division.Division.{Division}
 
+-- an end that was found is found again; where there was none, there may be one
 abbrev Longer : Option ℕ → Option ℕ → Type 0
 Longer None b = Unit {0}
 Longer (Some n) b = b ≡ Some n
 
+-- the same one token further on
 one_more : (a b : Option ℕ) → Longer a b → Longer (option_map suc a) (option_map suc b)
 one_more None b h = tt
 one_more (Some n) b h = ap (option_map suc) h
 
+-- more roles do not move the end of a statement
 closing_longer : (d : Division) (g : ℕ) (fs gs : List Role)
     → Longer (statement_end d g fs) (statement_end d g (fs ++ gs))
 closing_longer d g [] gs = tt
@@ -32,11 +35,13 @@ closing_longer d g (f ∷ fs) gs =
     by false h = one_more (statement_end d (open_groups_after g f) fs)
         (statement_end d (open_groups_after g f) (fs ++ gs)) h
 
+-- a closed statement stays the same
 statement_longer : (a b : Option ℕ) (fs gs : List Role) → Longer a b
     → (statement_to a fs).closed ≡ true → statement_to b gs ≡ statement_to a fs
 statement_longer None b fs gs h closed = absurd (cc)
 statement_longer (Some n) b fs gs h closed = ap (λ end. statement_to end gs) h
 
+-- and so does a closed first child: over roles, and over kinds
 longer : (d : Division) (f : Role) (fs gs : List Role) → (first_child d (f ∷ fs)).closed ≡ true
     → first_child d ((f ∷ fs) ++ gs) ≡ first_child d (f ∷ fs)
 longer d f fs gs = by (is_trivia f) (is_single_token f)
@@ -56,10 +61,11 @@ pub first_longer : (d : Division) (kinds others : List ℕ) → 0 < length kinds
     → (first_child d (map role kinds)).closed ≡ true
     → first_child d (map role (kinds ++ others)) ≡ first_child d (map role kinds)
 first_longer d [] others some h = absurd (omega arith)
-first_longer d (k ∷ kinds) others some h = ap (λ fs. first_child d (role k ∷ fs)) (map-append role kinds others)
+first_longer d (k ∷ kinds) others some h =
+    ap (λ fs. first_child d (role k ∷ fs)) (map-append role kinds others)
     ∙ longer d (role k) (map role kinds) (map role others) h
 
--- the shape of a closed first child is that of every longer list
+-- and its shape
 pub shape_longer : (d : Division) (kinds others : List ℕ) → 0 < length kinds
     → (first_child d (map role kinds)).closed ≡ true
     → (first_child d (map role kinds)).tokens ≤ length kinds

@@ -34,6 +34,7 @@ IsWithin : ℕ → Option Row → Type 0
 IsWithin n None = Unit {0}
 IsWithin n (Some row) = length row.0 ≤ n
 
+-- the longer of two such rows
 within_longer : (n : ℕ) (a b : Option Row) → IsWithin n a → IsWithin n b → IsWithin n (longer a b)
 unfolding IsWithin
 within_longer n None b h k = k
@@ -44,7 +45,8 @@ within_longer n (Some row) (Some other) h k = by (nat_lt (length row.0) (length 
     by true = k
     by false = h
 
--- a row that is a prefix, where no longer row after it begins with it
+-- if the first of two rows fits, and the second is not longer with the first as its prefix, then
+-- the second does not fit or is not longer
 within_one : (row other : Row) (ks : List ℕ)
     → not (is_prefix row.0 other.0 && nat_lt (length row.0) (length other.0)) ≡ true
     → is_prefix row.0 ks ≡ true
@@ -61,6 +63,7 @@ within_one row other ks first h k = by (nat_lt (length row.0) (length other.0)) 
         no : (a b : Bool) → a ≡ true → b ≡ true → not (a && b) ≡ true → ⊥
         no a b x y z = cc
 
+-- the same for the longest of the rows after it
 within_longest : (row : Row) (rows : List Row) (ks : List ℕ) → is_first row rows ≡ true
     → is_prefix row.0 ks ≡ true → IsWithin (length row.0) (longest rows ks)
 unfolding IsWithin is_first
@@ -77,12 +80,14 @@ within_longest row (other ∷ rows) ks first h =
     by true k = k refl
     by false k = tt
 
+-- the first of two rows, where the other is not longer
 longer_first : (row : Row) (found : Option Row) → IsWithin (length row.0) found
     → longer (Some row) found ≡ Some row
 unfolding IsWithin
 longer_first row None h = refl
 longer_first row (Some other) h = rw (le-ltb (length row.0) (length other.0) h) refl
 
+-- the first row of an ordered table that fits is the longest
 pub find_longest : (rows : List Row) (ks : List ℕ) → are_ordered rows ≡ true
     → find (λ (row : Row). is_prefix row.0 ks) rows ≡ longest rows ks
 unfolding are_ordered
@@ -100,7 +105,7 @@ find_longest (row ∷ rows) ks h =
     by true here rest = here refl
     by false here rest = rest
 
--- rows that do not fit may be left out
+-- rows that do not fit may be left out of the table
 pub longest_filter : (test : Row → Bool) (ks : List ℕ)
     → ((row : Row) → is_prefix row.0 ks ≡ true → test row ≡ true) → (rows : List Row)
     → longest (filter test rows) ks ≡ longest rows ks

@@ -6,29 +6,36 @@ use Rattle.std.specs.Prelude.{Option, Some, None, All, Contains}
 use Rattle.squawk_statements.specs.Laws.{IsLongest}
 use Rattle.squawk_statements.specs.Opening.{Row, rows, is_prefix, longer, longest}
 
+-- a row that fits has at most n kinds
 AtMost : List ℕ → ℕ → Row → Type 0
 AtMost ks n other = is_prefix other.0 ks ≡ true → length other.0 ≤ n
 
+-- a row does not fit
 Fails : List ℕ → Row → Type 0
 Fails ks other = is_prefix other.0 ks ≡ false
 
+-- what the longest row of a table says of the table; none says that no row fits
 Found : List Row → List ℕ → Option Row → Type 0
 Found table ks None = All (Fails ks) table
 Found table ks (Some row) = IsLongest table ks row
 
+-- elements of a list: those of its rest, and the first
 contains_later : (r row : Row) (table : List Row) → Contains table row → Contains (r ∷ table) row
 contains_later r row table (k, within, is) = (suc k, omega arith, is)
 
 contains_first : (r : Row) (table : List Row) → Contains (r ∷ table) r
 contains_first r table = (0, omega arith, refl)
 
+-- a test has one value
 clash : {P : Type 0} (b : Bool) → b ≡ false → b ≡ true → P
 clash b h k = absurd (let e : true ≡ false = sym k ∙ h in cc)
 
+-- a row that does not fit has any bound
 fails_most : (ks : List ℕ) (n : ℕ) (other : Row) → Fails ks other → AtMost ks n other
 unfolding Fails AtMost
 fails_most ks n other h = λ k. clash (is_prefix other.0 ks) h k
 
+-- one more row at the front of the table
 step : (r : Row) (table : List Row) (ks : List ℕ) (t : Bool) (rest : Option Row)
     → is_prefix r.0 ks ≡ t → Found table ks rest
     → Found (r ∷ table) ks (longer (cond t (Some r) None) rest)
@@ -68,12 +75,14 @@ step r table ks true (Some row) is h = by (nat_lt (length r.0) (length row.0)) r
               let e = small k in omega arith) table h.longest);
         }
 
+-- the longest row of each table
 found : (table : List Row) (ks : List ℕ) → Found table ks (longest table ks)
 unfolding Found
 found [] ks = All-nil (Fails ks)
 found (row ∷ table) ks =
     step row table ks (is_prefix row.0 ks) (longest table ks) refl (found table ks)
 
+-- the longest row of the whole table is in it, fits, and no row that fits is longer
 pub longest_is : (ks : List ℕ) (row : Row) → longest rows ks ≡ Some row → IsLongest rows ks row
 unfolding Found
 longest_is ks row is = subst (Found rows ks) is (found rows ks)

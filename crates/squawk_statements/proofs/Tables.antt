@@ -1,11 +1,11 @@
--- Which rows decide, by the first kind.
+-- For each first kind, the first row of its table that fits is the longest of the whole table.
 use Rattle.std.proofs.Common.{◌≡◌, ◌≢◌, ℕ, ◌<◌, nat_lt, ◌==◌, Bool, true, false, not, cond, ◌||◌, List, [], ◌∷◌, length, ap, refl, sym, ◌∙◌, eqb-true}
 use Rattle.std.proofs.lemmas.Bool.{and_parts, ne_eqb, ltb-true}
 use Rattle.std.specs.List.{filter, list_all}
 use Rattle.std.specs.Prelude.{Option, Some, None}
 use Rattle.squawk_kinds.specs.declared.numbers.TheConstants.Number as kind
 use Rattle.squawk_statements.specs.Opening.{Row, other_rows, create_rows, alter_rows, drop_rows, rows, is_prefix, longer, longest}
-use Rattle.squawk_statements.specs.Rows.{Decide}
+use Rattle.squawk_statements.specs.Rows.{FirstMatchIsLongest}
 use Rattle.squawk_statements.proofs.Longest.{is_first, are_ordered, find_longest, longest_filter}
 
 -- whether a row may begin with a kind
@@ -13,35 +13,39 @@ unfoldable may_begin : ℕ → List ℕ → Bool
 may_begin k [] = true
 may_begin k (r ∷ rs) = r == k
 
+-- a row that fits may begin with the first kind
 may_begin_prefix : (k : ℕ) (ks row : List ℕ) → is_prefix row (k ∷ ks) ≡ true
     → may_begin k row ≡ true
 unfolding may_begin
 may_begin_prefix k ks [] h = refl
 may_begin_prefix k ks (r ∷ rs) h = (and_parts (r == k) (is_prefix rs ks) h).0
 
--- an ordered table decides where it is that part of the whole in which a row may fit
+-- an ordered table decides if it has exactly those rows of the whole that pass a test, which each
+-- row that fits passes
 decide_from : (test : Row → Bool) (k : ℕ) (table : List Row)
     → ((ks : List ℕ) (row : Row) → is_prefix row.0 (k ∷ ks) ≡ true → test row ≡ true)
-    → filter test rows ≡ table → are_ordered table ≡ true → Decide k table
-unfolding Decide
+    → filter test rows ≡ table → are_ordered table ≡ true → FirstMatchIsLongest k table
+unfolding FirstMatchIsLongest
 decide_from test k table all is ordered = λ ks.
     find_longest table (k ∷ ks) ordered ∙ ap (λ t. longest t (k ∷ ks)) (sym is)
     ∙ longest_filter test (k ∷ ks) (all ks) rows
 
+-- the same, where the test is that the row may begin with the kind
 decide_by : (k : ℕ) (table : List Row) → filter (λ (row : Row). may_begin k row.0) rows ≡ table
-    → are_ordered table ≡ true → Decide k table
+    → are_ordered table ≡ true → FirstMatchIsLongest k table
 decide_by k table is ordered = decide_from (λ row. may_begin k row.0) k table (λ ks row h.
     may_begin_prefix k ks row.0 h) is ordered
 
-pub decide_create : Decide kind.CREATE_KW create_rows
+-- the tables of CREATE, ALTER and DROP
+pub decide_create : FirstMatchIsLongest kind.CREATE_KW create_rows
 unfolding rows other_rows create_rows alter_rows drop_rows may_begin is_first are_ordered
 decide_create = decide_by kind.CREATE_KW create_rows refl refl
 
-pub decide_alter : Decide kind.ALTER_KW alter_rows
+pub decide_alter : FirstMatchIsLongest kind.ALTER_KW alter_rows
 unfolding rows other_rows create_rows alter_rows drop_rows may_begin is_first are_ordered
 decide_alter = decide_by kind.ALTER_KW alter_rows refl refl
 
-pub decide_drop : Decide kind.DROP_KW drop_rows
+pub decide_drop : FirstMatchIsLongest kind.DROP_KW drop_rows
 unfolding rows other_rows create_rows alter_rows drop_rows may_begin is_first are_ordered
 decide_drop = decide_by kind.DROP_KW drop_rows refl refl
 
@@ -49,10 +53,12 @@ decide_drop = decide_by kind.DROP_KW drop_rows refl refl
 unfoldable is_other : ℕ → Bool
 is_other k = not (k == kind.CREATE_KW || k == kind.ALTER_KW || k == kind.DROP_KW)
 
+-- a row that may begin with such a kind
 unfoldable is_other_row : List ℕ → Bool
 is_other_row [] = true
 is_other_row (r ∷ rs) = is_other r
 
+-- a row that fits such a kind is one of them
 is_other_row_prefix : (k : ℕ) (ks row : List ℕ) → is_other k ≡ true → is_prefix row (k ∷ ks) ≡ true
     → is_other_row row ≡ true
 unfolding is_other_row
@@ -60,6 +66,7 @@ is_other_row_prefix k ks [] h p = refl
 is_other_row_prefix k ks (r ∷ rs) h p =
     ap is_other (eqb-true r k (and_parts (r == k) (is_prefix rs ks) p).0) ∙ h
 
+-- a kind that is none of the three
 is_other_from : (k : ℕ) → k ≢ kind.CREATE_KW → k ≢ kind.ALTER_KW → k ≢ kind.DROP_KW
     → is_other k ≡ true
 unfolding is_other
@@ -67,8 +74,9 @@ is_other_from k create alter drop =
     rw (ne_eqb k kind.CREATE_KW create, ne_eqb k kind.ALTER_KW alter, ne_eqb k kind.DROP_KW drop)
     refl
 
+-- the table of the other kinds
 pub decide_other : (k : ℕ) → k ≢ kind.CREATE_KW → k ≢ kind.ALTER_KW → k ≢ kind.DROP_KW
-    → Decide k other_rows
+    → FirstMatchIsLongest k other_rows
 unfolding rows other_rows create_rows alter_rows drop_rows is_other is_other_row is_first
     are_ordered
 decide_other k create alter drop =
@@ -81,6 +89,8 @@ unfoldable pub IsKind : Option Row → Type 0
 IsKind None = Unit {0}
 IsKind (Some row) = row.1 < 2068
 
+-- each row of the table has a kind as its node, so the longest row has: of two rows, of a table
+-- whose rows pass the test, and of the whole table
 is_kind_longer : (a b : Option Row) → IsKind a → IsKind b → IsKind (longer a b)
 unfolding IsKind
 is_kind_longer None b h k = k

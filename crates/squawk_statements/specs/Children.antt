@@ -1,9 +1,9 @@
 -- How the tokens of a text are divided into the children of the root, by their roles.
 --
--- Outside a statement, trivia is a leaf, and a semicolon, terminator or command is a node by itself.
--- Any other token begins a statement, which extends to the first token that ends it: a terminator,
--- or a semicolon, where the division counts it. Without such a token it extends to the last token
--- that is not trivia.
+-- Outside a statement, trivia is a leaf, and a semicolon, terminator or command is a node by
+-- itself. Any other token begins a statement, which extends to the first token that ends it: a
+-- terminator, or a semicolon, where the division counts it. Without such a token it extends to the
+-- last token that is not trivia.
 use Rattle.std.specs.Prelude.{ℕ, zero, suc, ◌==◌, ◌-◌, ◌&&◌, Bool, true, false, List, [], ◌∷◌, map, take, Option, Some, None, option_map, if◌then◌else◌}
 use Rattle.squawk_kinds.specs.Role.{Role, Trivia, Semicolon, Terminator, Command, Open, Close, Other, is_trivia}
 use Rattle.squawk_statements.specs.declared.division.Division.{Division}
@@ -38,7 +38,7 @@ open_groups_after (suc n) Close = n
 open_groups_after n Other = n
 
 -- the number of tokens up to and including the first that ends the statement, where n groups are
--- open before them; none where no token ends it
+-- open before them; none if no token ends it
 abbrev pub statement_end : Division → ℕ → List Role → Option ℕ
 statement_end d n [] = None
 statement_end d n (f ∷ fs) = if ends_statement d n f then Some 1
@@ -84,7 +84,8 @@ is_single_token Open = false
 is_single_token Close = false
 is_single_token Other = false
 
--- the first child of a list of roles
+-- the first child of a list of roles; the empty list has none, and its value serves only to make
+-- the definition total
 abbrev pub first_child : Division → List Role → Child
 first_child d [] = trivia_child
 first_child d (f ∷ fs) =

@@ -1,10 +1,9 @@
 -- The first child of the root, and its node.
-use Rattle.std.specs.Prelude.{ℕ, List, [], ◌∷◌, map, take, Option, Some, None}
+use Rattle.std.specs.Prelude.{◌≡◌, ℕ, List, [], ◌∷◌, ◌++◌, map, take, Option, Some, None}
 use Rattle.squawk_kinds.specs.declared.numbers.TheConstants.Number as kind
-use Rattle.squawk_kinds.specs.Role.{Role, Trivia, Semicolon, Terminator, Command, Open, Close, Other}
+use Rattle.squawk_kinds.specs.Role.{Role, role, Trivia, Semicolon, Terminator, Command, Open, Close, Other}
 use Rattle.squawk_statements.specs.Children.{first_child}
 use Rattle.squawk_events.specs.Kinds.{without_trivia}
-use Rattle.squawk_kinds.specs.Role.{role}
 use Rattle.squawk_statements.specs.Opening.{statement_node}
 use Rattle.squawk_statements.specs.declared.division.Division.{Division}
 use Rattle.squawk_statements.specs.declared.first.ChildShape.{ChildShape}
@@ -31,3 +30,8 @@ first_shape division kinds = let child = first_child division (map role kinds) i
   node = child_node (take child.tokens kinds);
   closed = child.closed;
 }
+
+-- this is the shape of the first child of every list that begins with these kinds
+abbrev pub IsFirstOfLonger : Division → List ℕ → ChildShape → Type 0
+IsFirstOfLonger division kinds shape = (others : List ℕ)
+    → first_shape division (kinds ++ others) ≡ shape

@@ -3,25 +3,26 @@ use Rattle.std.specs.Prelude.{ℕ, zero, suc, ◌&&◌, not, Bool, true, false, 
 use Rattle.squawk_events.specs.declared.steps.Step.{Step}
 use Rattle.squawk_events.specs.declared.steps.Step.TheVariants.{Enter, Token, Exit}
 use Rattle.squawk_kinds.specs.declared.numbers.TheConstants.Number.{L_PAREN, R_PAREN, PAREN_EXPR}
-use Rattle.squawk_kinds.specs.Role.{Role, Trivia, Semicolon, Terminator, Command, Open, Close, Other}
+use Rattle.squawk_kinds.specs.Role.{Role, role, Trivia, Semicolon, Terminator, Command, Open, Close, Other}
 use Rattle.squawk_statements.specs.Children.{ends_statement, open_groups_after}
-use Rattle.squawk_kinds.specs.Role.{role}
 use Rattle.squawk_statements.specs.declared.division.Division.{Division}
 
--- no part; or a plain kind, or a group with its `)`, and the parts after it; or a group without a
--- `)`, which extends to the end
+-- A sequence of parts: nothing; a plain kind, or a group with its `)`, and the parts after it; or a
+-- group without a `)`, which extends to the end.
 pub data Parts : Type 0 where
   Done : Parts
   Plain : ℕ → Parts → Parts
   Closed : Parts → Parts → Parts
   Unclosed : Parts → Parts
 
+-- the kinds of parts, in order
 abbrev pub kinds_of : Parts → List ℕ
 kinds_of Done = []
 kinds_of (Plain kind rest) = kind ∷ kinds_of rest
 kinds_of (Closed inside rest) = L_PAREN ∷ kinds_of inside ++ R_PAREN ∷ kinds_of rest
 kinds_of (Unclosed inside) = L_PAREN ∷ kinds_of inside
 
+-- the steps of parts: each group is a PAREN_EXPR node around its tokens
 abbrev pub steps_of : Parts → List Step
 steps_of Done = []
 steps_of (Plain kind rest) = Token kind ∷ steps_of rest
@@ -41,6 +42,7 @@ is_plain zero Close = true
 is_plain (suc n) Close = false
 is_plain n Other = true
 
+-- whether the last part is no group without a `)`
 abbrev pub all_closed : Parts → Bool
 all_closed Done = true
 all_closed (Plain kind rest) = all_closed rest

@@ -1,11 +1,15 @@
--- What the definitions mean: the longest row, and the first token that ends a statement.
-use Rattle.std.specs.Prelude.{ℕ, suc, ◌≡◌, ◌≤◌, ◌<◌, Bool, true, false, List, [], ◌∷◌, length, take, slice_index_or, All, Contains}
-use Rattle.squawk_kinds.specs.Role.{Role, Other, is_trivia}
-use Rattle.squawk_statements.specs.Children.{ends_statement, open_groups_after}
+-- What the definitions mean: the longest row, the first token that ends a statement, and the one
+-- division into groups.
+use Rattle.std.specs.Prelude.{ℕ, suc, ◌≡◌, ◌≤◌, ◌<◌, Bool, true, false, IsTrue, List, [], ◌∷◌, ◌++◌, length, take, Some, None, slice_index_or, All, Contains}
+use Rattle.squawk_events.specs.declared.steps.Step.TheVariants.{Token}
+use Rattle.squawk_kinds.specs.Role.{Role, role, Other, is_trivia}
+use Rattle.squawk_statements.specs.Children.{ends_statement, open_groups_after, statement_end, trimmed_len}
+use Rattle.squawk_statements.specs.Groups.{Parts, kinds_of, steps_of, are_parts, stays_open, open_groups_after_all}
 use Rattle.squawk_statements.specs.declared.division.Division.{Division}
-use Rattle.squawk_statements.specs.Opening.{Row, is_prefix}
+use Rattle.squawk_statements.specs.Opening.{Row, rows, is_prefix, longest}
+use Rattle.squawk_statements.specs.Plain.{body_steps}
 
--- the row is listed and a prefix of the kinds, and no listed row that is one is longer
+-- the row is in the table and a prefix of the kinds, and no other such row is longer
 pub record IsLongest (table : List Row) (ks : List ℕ) (row : Row) : Type 0 where
   pub listed : Contains table row
   pub fits : is_prefix row.0 ks ≡ true
@@ -37,3 +41,44 @@ pub record IsTrimmed (fs : List Role) (n : ℕ) : Type 0 where
   pub within : n ≤ length fs
   pub trivia : (i : ℕ) → n ≤ i → i < length fs → is_trivia (slice_index_or fs i Other) ≡ true
   pub last : (i : ℕ) → n ≡ suc i → is_trivia (slice_index_or fs i Other) ≡ false
+
+-- ---- the laws
+
+-- the row that decides a statement's node is the longest that fits
+abbrev pub FoundRowIsLongest : Type 0
+FoundRowIsLongest = (kinds : List ℕ) (row : Row) → longest rows kinds ≡ Some row
+    → IsLongest rows kinds row
+
+-- a closed statement extends to the first token that may end it
+abbrev pub ClosedStatementEndsFirst : Type 0
+ClosedStatementEndsFirst = (division : Division) (roles : List Role) (tokens : ℕ)
+    → statement_end division 0 roles ≡ Some tokens
+    → (i : ℕ) × (tokens ≡ suc i) × EndsFirstAt division 0 roles i
+
+-- no token may end an open statement
+abbrev pub NothingEndsOpenStatement : Type 0
+NothingEndsOpenStatement = (division : Division) (roles : List Role)
+    → statement_end division 0 roles ≡ None → NoneEnds division 0 roles
+
+-- an open statement extends to the last token that is not trivia
+abbrev pub LastTokenIsNotTrivia : Type 0
+LastTokenIsNotTrivia = (roles : List Role) → IsTrimmed roles (trimmed_len roles)
+
+-- kinds none of which ends the statement are the kinds of some parts, and have their steps
+abbrev pub PartsExist : Type 0
+PartsExist = (division : Division) (kinds : List ℕ) → IsTrue (stays_open division 0 kinds)
+    → (parts : Parts) × (kinds_of parts ≡ kinds) × (are_parts division 0 parts ≡ true)
+    × (body_steps division 0 kinds ≡ steps_of parts)
+
+-- parts with the same kinds are the same
+abbrev pub PartsAreUnique : Type 0
+PartsAreUnique = (division : Division) (parts others : Parts)
+    → IsTrue (are_parts division 0 parts) → IsTrue (are_parts division 0 others)
+    → kinds_of parts ≡ kinds_of others → parts ≡ others
+
+-- the token that ends a statement stands after all of its groups
+abbrev pub EndingTokenIsLast : Type 0
+EndingTokenIsLast = (division : Division) (kinds : List ℕ) (kind : ℕ)
+    → IsTrue (stays_open division 0 kinds)
+    → IsTrue (ends_statement division (open_groups_after_all 0 kinds) (role kind))
+    → body_steps division 0 (kinds ++ kind ∷ []) ≡ body_steps division 0 kinds ++ Token kind ∷ []

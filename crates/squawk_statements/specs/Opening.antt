@@ -7,7 +7,7 @@ use Rattle.squawk_kinds.specs.declared.numbers.TheConstants.Number as kind
 abbrev pub Row : Type 0
 Row = List ℕ × ℕ
 
--- the rows of the other first kinds
+-- the rows with any other first kind
 unfoldable pub other_rows : List Row
 other_rows =
     (kind.SELECT_KW ∷ [], kind.SELECT) ∷
@@ -268,7 +268,7 @@ drop_rows =
 unfoldable pub rows : List Row
 rows = other_rows ++ create_rows ++ alter_rows ++ drop_rows
 
--- the kinds that may stand between `CREATE` and what is created
+-- the kinds that may stand between `CREATE` and the kind of object that is created
 unfoldable pub modifiers : List ℕ
 modifiers =
     kind.OR_KW ∷ kind.REPLACE_KW ∷ kind.TEMP_KW ∷ kind.TEMPORARY_KW ∷ kind.GLOBAL_KW ∷ kind.LOCAL_KW
@@ -276,6 +276,7 @@ modifiers =
     kind.UNLOGGED_KW ∷ kind.UNIQUE_KW ∷ kind.TRUSTED_KW ∷ kind.PROCEDURAL_KW ∷ kind.RECURSIVE_KW ∷
     kind.CONSTRAINT_KW ∷ []
 
+-- whether a kind is one of these
 unfoldable pub is_modifier : ℕ → Bool
 is_modifier k = list_any (λ m. k == m) modifiers
 
@@ -290,7 +291,7 @@ is_prefix [] ks = true
 is_prefix (r ∷ rs) [] = false
 is_prefix (r ∷ rs) (k ∷ ks) = r == k && is_prefix rs ks
 
--- the longer of two rows; the first, where none is longer
+-- the longer of two rows; the first if they are equally long
 abbrev pub longer : Option Row → Option Row → Option Row
 longer None other = other
 longer (Some row) None = Some row
@@ -300,13 +301,17 @@ longer (Some row) (Some other) = if nat_lt (length row.0) (length other.0) then 
 -- the longest of some rows that is a prefix of the kinds
 abbrev pub longest : List Row → List ℕ → Option Row
 longest [] ks = None
-longest (row ∷ others) ks = longer (if is_prefix row.0 ks then Some row
-    else None) (longest others ks)
+longest (row ∷ others) ks =
+    longer (if is_prefix row.0 ks then Some row else None) (longest others ks)
 
--- the node of a statement of these kinds, without trivia; none where no row is a prefix of its key
+-- whether a row of the table is a prefix of the key of these kinds
+abbrev pub has_row : List ℕ → Bool
+has_row ks = list_any (λ (row : Row). is_prefix row.0 (key ks)) rows
+
+-- the node of a statement of these kinds, without trivia; none if no row is a prefix of its key
 unfoldable pub opening_of : List ℕ → Option ℕ
 opening_of ks = option_map (λ (row : Row). row.1) (longest rows (key ks))
 
--- the same, and `ERROR` where there is none
+-- the node of a statement of these kinds, without trivia; `ERROR` if no row is a prefix of its key
 abbrev pub statement_node : List ℕ → ℕ
 statement_node ks = unwrap_or (opening_of ks) kind.ERROR

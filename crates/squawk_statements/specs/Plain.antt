@@ -1,7 +1,6 @@
 -- The steps of a list of kinds without trivia.
 use Rattle.std.specs.Prelude.{ℕ, zero, suc, ◌==◌, List, [], ◌∷◌, ◌++◌, unwrap_or, if◌then◌else◌}
-use Rattle.squawk_kinds.specs.Role.{role}
-use Rattle.squawk_kinds.specs.Role.{Role, Trivia, Semicolon, Terminator, Command, Open, Close, Other}
+use Rattle.squawk_kinds.specs.Role.{Role, role, Trivia, Semicolon, Terminator, Command, Open, Close, Other}
 use Rattle.squawk_kinds.specs.declared.numbers.TheConstants.Number.{PAREN_EXPR, SOURCE_FILE, ERROR}
 use Rattle.squawk_events.specs.declared.steps.Step.{Step}
 use Rattle.squawk_events.specs.declared.steps.Step.TheVariants.{Enter, Token, Exit, Error}
@@ -14,7 +13,7 @@ abbrev pub node_of : List ℕ → ℕ
 node_of [] = ERROR
 node_of (kind ∷ kinds) = unwrap_or (node_by (role kind) (kind ∷ kinds)) ERROR
 
--- the steps before the token of this role: a group begins with its `(`
+-- the steps before a token of this role: a group begins with its `(`
 abbrev pub enters_before : Role → List Step
 enters_before Open = Enter PAREN_EXPR ∷ []
 enters_before Trivia = []
@@ -24,7 +23,8 @@ enters_before Command = []
 enters_before Close = []
 enters_before Other = []
 
--- the steps after a token of this role, where n groups are open before it: a group ends with its `)`
+-- the steps after a token of this role, where n groups are open before it: a group ends with its
+-- `)`
 abbrev pub exits_after : ℕ → Role → List Step
 exits_after n Trivia = []
 exits_after n Semicolon = []
@@ -35,13 +35,13 @@ exits_after zero Close = []
 exits_after (suc n) Close = Exit ∷ []
 exits_after n Other = []
 
--- n groups end
+-- an Exit for each of n open groups
 abbrev pub exits : ℕ → List Step
 exits zero = []
 exits (suc n) = Exit ∷ exits n
 
--- the steps of a token of a child, where n groups are open before it; the token that ends a
--- statement stands after all groups
+-- the steps of a token of a child, where n groups are open before it; all groups end before the
+-- token that ends a statement
 abbrev pub kind_steps : Division → ℕ → ℕ → List Step
 kind_steps d n kind =
     if ends_statement d n (role kind) then exits n ++ Token kind ∷ []
@@ -67,6 +67,7 @@ abbrev pub child_steps : Division → List ℕ → List Step
 child_steps d kinds = Enter (node_of kinds) ∷ unknown_statement_error (node_of kinds)
     ++ body_steps d 0 kinds ++ Exit ∷ []
 
+-- the steps of the children, which have these kinds
 abbrev pub children_steps : Division → List (List ℕ) → List Step
 children_steps d [] = []
 children_steps d (part ∷ rest) = child_steps d part ++ children_steps d rest

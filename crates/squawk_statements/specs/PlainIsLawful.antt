@@ -4,9 +4,8 @@ use Rattle.std.specs.Prelude.{◌≡◌, ◌≤◌, ◌-◌, ℕ, zero, suc, ◌
 use Rattle.std.proofs.Common.{ap, sym, ◌∙◌, append_assoc, arith}
 use Rattle.std.proofs.lemmas.List.{take-append-drop, append-nil}
 use Rattle.squawk_events.specs.Kinds.{has_no_trivia}
-use Rattle.squawk_kinds.specs.Role.{role}
 use Rattle.squawk_events.specs.Lawful.{IsLawful, is_balanced, closes, token_kinds, has_lawful_numbers}
-use Rattle.squawk_kinds.specs.Role.{Role, Trivia, Semicolon, Terminator, Command, Open, Close, Other, is_trivia}
+use Rattle.squawk_kinds.specs.Role.{Role, role, Trivia, Semicolon, Terminator, Command, Open, Close, Other, is_trivia}
 use Rattle.squawk_kinds.specs.declared.numbers.TheConstants.Number.{ERROR}
 use Rattle.squawk_events.specs.declared.steps.Step.{Step}
 use Rattle.squawk_events.specs.declared.steps.Step.TheVariants.{Enter, Token, Exit, Error}
@@ -15,9 +14,10 @@ use Rattle.squawk_statements.specs.Plain.{plain, node_of, body_steps, exits, kin
 use Rattle.squawk_statements.specs.declared.division.Division.{Division}
 use Rattle.squawk_statements.specs.declared.division.Division.TheVariants.{Flat, Grouped}
 
--- ---- balance
+-- ---- balance: the steps of kinds, of children and of a list of children close each node that they
+-- open, so steps that follow them close the same number of nodes with them as without them
 
--- n more
+-- n + m, by recursion on n
 abbrev raised : ℕ → ℕ → ℕ
 raised zero m = m
 raised (suc n) m = suc (raised n m)
@@ -89,7 +89,8 @@ closes_children d m (p ∷ ps) xs =
     ap (closes (suc m)) (append_assoc (child_steps d p) (children_steps d ps) xs)
     ∙ closes_child d m p (children_steps d ps ++ xs) ∙ closes_children d m ps xs
 
--- ---- tokens
+-- ---- tokens: the Token steps of kinds, of a child and of a list of children have these kinds in
+-- order
 
 tokens_append : (xs ys : List Step) → token_kinds (xs ++ ys) ≡ token_kinds xs ++ token_kinds ys
 tokens_append [] ys = refl
@@ -144,6 +145,7 @@ tokens_child d kinds xs =
     ∙ tokens_unknown (node_of kinds == ERROR) (body_steps d 0 kinds ++ Exit ∷ xs)
     ∙ tokens_body d 0 kinds (Exit ∷ xs)
 
+-- the lists one after another
 abbrev joined : {A : Type 0} → List (List A) → List A
 joined [] = []
 joined (xs ∷ rest) = xs ++ joined rest
@@ -155,8 +157,8 @@ first_child_some d f fs = by f
   where
     statement_some : (f : Role) (end : Option ℕ) → is_trivia f ≡ false
         → 1 ≤ (statement_to (option_map suc end) (f ∷ fs)).tokens
-    statement_some f (Some n) solid = omega arith
-    statement_some f None solid = rw solid (omega arith)
+    statement_some f (Some n) not_trivia = omega arith
+    statement_some f None not_trivia = rw not_trivia (omega arith)
 
     by : (f : Role) → 1 ≤ (first_child d (f ∷ fs)).tokens
     by Trivia = omega arith
@@ -167,9 +169,11 @@ first_child_some d f fs = by f
     by Close = statement_some Close (statement_end d 0 fs) refl
     by Other = statement_some Other (statement_end d 0 fs) refl
 
+-- arithmetic
 pub suc_minus_one : (n : ℕ) → suc n - 1 ≡ n
 suc_minus_one n = omega arith
 
+-- a list is its first n elements and the rest
 take_then_drop : {A : Type 0} (n : ℕ) (x : A) (xs : List A) → 1 ≤ n
     → take n (x ∷ xs) ++ drop (n - 1) xs ≡ x ∷ xs
 take_then_drop zero x xs some = absurd (omega arith)
@@ -177,6 +181,7 @@ take_then_drop (suc n) x xs some =
     ap (λ m. x ∷ (take n xs ++ drop m xs)) (suc_minus_one n)
     ∙ ap (λ ys. x ∷ ys) (take-append-drop n xs)
 
+-- the parts of a list, one after another, are the list without the elements of an earlier child
 joined_parts : {A : Type 0} (role_of : A → Role) (n : ℕ) (d : Division) (xs : List A)
     → joined (parts_from role_of n d xs) ≡ drop n xs
 joined_parts role_of zero d [] = refl
@@ -187,6 +192,7 @@ joined_parts role_of zero d (x ∷ xs) =
     ∙ take_then_drop len x xs (first_child_some d (role_of x) (map role_of xs))
 joined_parts role_of (suc n) d (x ∷ xs) = joined_parts role_of n d xs
 
+-- the tokens of a list of children
 tokens_children : (d : Division) (ps : List (List ℕ)) (xs : List Step)
     → token_kinds (children_steps d ps ++ xs) ≡ joined ps ++ token_kinds xs
 tokens_children d [] xs = refl
@@ -196,7 +202,7 @@ tokens_children d (p ∷ ps) xs =
     ∙ ap (λ ks. p ++ ks) (tokens_children d ps xs)
     ∙ sym (append_assoc p (joined ps) (token_kinds xs))
 
--- ---- numbers
+-- ---- numbers: the steps of kinds, of a child and of a list of children have lawful error numbers
 
 numbers_exits : (n : ℕ) (xs : List Step) → has_lawful_numbers (exits n ++ xs)
     ≡ has_lawful_numbers xs
@@ -252,6 +258,7 @@ numbers_children d (p ∷ ps) xs =
     ap has_lawful_numbers (append_assoc (child_steps d p) (children_steps d ps) xs)
     ∙ numbers_child d p (children_steps d ps ++ xs) ∙ numbers_children d ps xs
 
+-- the steps of kinds without trivia are lawful
 pub plain_lawful : (d : Division) (kinds : List ℕ) → IsTrue (has_no_trivia kinds)
     → IsLawful kinds (plain d kinds)
 plain_lawful d kinds none = record {
@@ -269,6 +276,7 @@ child_balanced d kinds =
     ∙ closes_unknown (node_of kinds == ERROR) 0 (body_steps d 0 kinds ++ Exit ∷ [])
     ∙ closes_body d 0 0 kinds (Exit ∷ [])
 
+-- and its tokens have these kinds in order
 pub child_tokens : (d : Division) (kinds : List ℕ) → token_kinds (child_steps d kinds) ≡ kinds
 child_tokens d kinds = ap token_kinds (sym (append-nil (child_steps d kinds)))
     ∙ tokens_child d kinds [] ∙ append-nil kinds

@@ -10,23 +10,23 @@ use Rattle.squawk_statements.specs.declared.rows.Row.{Row}
 abbrev pub row_of : Row → opening.Row
 row_of row = (row.first ∷ row.more.now, row.node)
 
--- for a statement with this first kind, the first of these rows that is a prefix is the longest of
--- the whole table
-unfoldable pub Decide : ℕ → List opening.Row → Type 0
-Decide first rows = (more : List ℕ)
+-- for a statement with this first kind, the first of these rows that is a prefix is the longest
+-- such row of the whole table
+unfoldable pub FirstMatchIsLongest : ℕ → List opening.Row → Type 0
+FirstMatchIsLongest first rows = (more : List ℕ)
     → find (λ (row : opening.Row). opening.is_prefix row.0 (first ∷ more)) rows
     ≡ opening.longest opening.rows (first ∷ more)
 
--- the kinds that are read: all, or those that are not trivia
-abbrev pub kinds_read : Bool → List ℕ → List ℕ
-kinds_read past_trivia ks = if past_trivia then without_trivia ks else ks
+-- the kinds that are not trivia if the flag is set, else all
+abbrev pub without_trivia_if : Bool → List ℕ → List ℕ
+without_trivia_if skip_trivia ks = if skip_trivia then without_trivia ks else ks
 
--- what these kinds add to the key after the kinds that it has so far
-abbrev pub key_after : List ℕ → List ℕ → List ℕ
-key_after [] ks = opening.key ks
-key_after (k ∷ []) ks = if k == kind.CREATE_KW then drop (prefix_len opening.is_modifier ks) ks
+-- the rest of the key, of these kinds after the kinds that the key has so far
+abbrev pub key_rest : List ℕ → List ℕ → List ℕ
+key_rest [] ks = opening.key ks
+key_rest (k ∷ []) ks = if k == kind.CREATE_KW then drop (prefix_len opening.is_modifier ks) ks
     else ks
-key_after (k ∷ l ∷ so_far) ks = ks
+key_rest (k ∷ l ∷ so_far) ks = ks
 
 -- whether the key, which has these kinds so far, leaves out this kind as a modifier
 abbrev pub is_skipped_modifier : List ℕ → ℕ → Bool
@@ -36,4 +36,4 @@ is_skipped_modifier (c ∷ d ∷ so_far) k = false
 
 -- whether the key, which has these kinds so far, leaves out this kind
 abbrev pub is_skipped : Bool → List ℕ → ℕ → Bool
-is_skipped past_trivia so_far k = past_trivia && is_trivia_kind k || is_skipped_modifier so_far k
+is_skipped skip_trivia so_far k = skip_trivia && is_trivia_kind k || is_skipped_modifier so_far k

@@ -1,6 +1,5 @@
-//! The division of kinds into statements and groups, kind by kind.
+//! The rules that divide kinds into statements and groups, kind by kind.
 ghost use Rattle.std.specs.Prelude.{◌≡◌, ◌<◌, ◌^◌};
-ghost use Rattle.squawk_kinds.specs.Role.{is_trivia};
 ghost use Rattle.squawk_statements.specs.Children.{ends_statement, open_groups_after, is_single_token};
 ghost use Rattle.squawk_kinds.specs.Role.{role};
 
@@ -15,15 +14,7 @@ pub enum Division {
     Grouped,
 }
 
-// Whether the kind is trivia: white space or a comment.
-#[tactic(auto, unfolding(squawk_kinds::specs::Role::role))]
-pub(crate) fn is_trivia(kind: SyntaxKind) -> bool
-    ensures { result ≡ is_trivia (role kind) }
-{
-    matches!(kind, SyntaxKind::WHITESPACE | SyntaxKind::COMMENT)
-}
-
-// Whether the kind is a child of the root by itself where no statement is open.
+// Whether the kind is a child of the root by itself if no statement is open.
 #[tactic(auto, unfolding(squawk_kinds::specs::Role::role))]
 pub(crate) fn is_single_token(kind: SyntaxKind) -> bool
     ensures { result ≡ is_single_token (role kind) }

@@ -1,22 +1,23 @@
 //! The first child of the root.
-ghost use Rattle.std.specs.Prelude.{◌≡◌, ◌≤◌, ◌<◌, ◌+◌, ◌++◌, ℕ, List, IsTrue, length, map, take};
+ghost use Rattle.std.specs.Prelude.{◌≡◌, ◌≤◌, ◌<◌, ◌+◌, IsTrue, length, map, take};
 ghost use Rattle.squawk_statements.specs.Children.{statement, first_child};
-ghost use Rattle.squawk_statements.specs.First.{first_shape, child_node};
+ghost use Rattle.squawk_statements.specs.First.{first_shape, child_node, IsFirstOfLonger};
 ghost use Rattle.squawk_kinds.specs.Role.{role};
 ghost use Rattle.squawk_statements.specs.declared.division.Division.TheVariants.{Flat};
 
-use crate::division::{Division, ends_statement, is_single_token, is_trivia, open_groups_after};
+use crate::division::{Division, ends_statement, is_single_token, open_groups_after};
 use crate::node::statement_node;
+use squawk_events::is_trivia;
 use squawk_kinds::SyntaxKind;
 
 /// The shape of a child of the root.
 #[derive(Clone, Copy, Debug, PartialEq, Eq)]
 pub struct ChildShape {
-    /// The number of its tokens, trivia inside it included.
+    /// The number of its tokens, including trivia inside it.
     pub tokens: usize,
     /// The kind of its node; `None` for a leaf, which is one trivia token.
     pub node: Option<SyntaxKind>,
-    /// `false` for a statement that no token ends, which later tokens may extend.
+    /// Whether no later token can belong to it: `false` only for a statement that no token ends.
     pub closed: bool,
 }
 
@@ -90,7 +91,7 @@ fn child_node(kinds: &[SyntaxKind]) -> Option<SyntaxKind>
     }
 }
 
-// The first child.
+// The shape of the first child.
 fn shape_of(kinds: &[SyntaxKind], division: Division) -> ChildShape
     requires { 0 < length kinds.now }
     ensures shape { result ≡ first_shape division kinds.now }
@@ -106,7 +107,7 @@ fn shape_of(kinds: &[SyntaxKind], division: Division) -> ChildShape
 }
 
 /// Returns the first child of the root of a text whose tokens have exactly these kinds, trivia
-/// included.
+/// included. There must be at least one kind.
 ///
 /// A closed child is also the first child of every longer list that begins with these kinds.
 pub fn first_child_in(kinds: &[SyntaxKind], division: Division) -> ChildShape
@@ -114,20 +115,18 @@ pub fn first_child_in(kinds: &[SyntaxKind], division: Division) -> ChildShape
     ensures shape { result ≡ first_shape division kinds.now }
     ensures some { 0 < result.tokens }
     ensures within { result.tokens ≤ length kinds.now }
-    ensures longer { IsTrue result.closed → (others : List ℕ)
-        → first_shape division (kinds.now ++ others) ≡ result }
+    ensures longer { IsTrue result.closed → IsFirstOfLonger division kinds.now result }
 {
     shape_of(kinds, division)
 }
 
-/// `first_child_in` where every semicolon ends a statement.
+/// `first_child_in` with `Division::Flat`, by which every semicolon ends a statement.
 pub fn first_child(kinds: &[SyntaxKind]) -> ChildShape
     requires { 0 < length kinds.now }
     ensures shape { result ≡ first_shape Flat kinds.now }
     ensures some { 0 < result.tokens }
     ensures within { result.tokens ≤ length kinds.now }
-    ensures longer { IsTrue result.closed → (others : List ℕ)
-        → first_shape Flat (kinds.now ++ others) ≡ result }
+    ensures longer { IsTrue result.closed → IsFirstOfLonger Flat kinds.now result }
 {
     first_child_in(kinds, Division::Flat)
 }

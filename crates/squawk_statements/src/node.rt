@@ -1,27 +1,18 @@
 //! The node of a statement, by its first kinds.
 ghost use Rattle.std.specs.Prelude.{◌↔◌, false, IsNone, ◌≡◌, ◌≤◌, ◌<◌, length, take, option_map};
-ghost use Rattle.squawk_events.specs.Kinds.{is_trivia_kind};
-ghost use Rattle.squawk_statements.specs.Opening.{is_modifier, is_prefix, key, longest, opening_of, statement_node, rows};
-ghost use Rattle.std.specs.List.{list_any};
-ghost use Rattle.squawk_statements.specs.Rows.{row_of, kinds_read, is_skipped_modifier, is_skipped};
+ghost use Rattle.squawk_statements.specs.Opening.{is_modifier, has_row, is_prefix, key, longest, opening_of, rows, statement_node};
+ghost use Rattle.squawk_statements.specs.Rows.{row_of, without_trivia_if, is_skipped_modifier, is_skipped};
 
 use crate::rows::{Row, rows_from};
+use squawk_events::is_trivia;
 use squawk_kinds::SyntaxKind;
 use squawk_kinds::numbers::Number;
 
-// The kinds that decide the node of a statement, by number. No row has more than four.
+// The first kinds of the key of a statement, by number. Four decide: no row has more.
 #[derive(Clone, Copy)]
-struct Start {
+struct KeyPrefix {
     kinds: [u16; 4],
     len: usize,
-}
-
-// Whether the kind is trivia: white space or a comment.
-#[tactic(auto, unfolding(squawk_events::specs::Kinds::is_trivia_kind))]
-pub(crate) fn is_trivia(kind: SyntaxKind) -> bool
-    ensures { result ≡ is_trivia_kind kind }
-{
-    matches!(kind, SyntaxKind::WHITESPACE | SyntaxKind::COMMENT)
 }
 
 // Whether the kind may stand between `CREATE` and the kind of object that is created.
@@ -70,28 +61,29 @@ fn look_up(start: &[u16]) -> Option<SyntaxKind>
     None
 }
 
-// The first four kinds of the key of these kinds, with trivia left out where `past_trivia` is set.
-fn start_of(kinds: &[SyntaxKind], past_trivia: bool) -> Start
+// The first four kinds of the key of these kinds, with trivia left out if `skip_trivia` is set.
+fn key_prefix(kinds: &[SyntaxKind], skip_trivia: bool) -> KeyPrefix
     ensures within { result.len ≤ 4 }
-    ensures key { take result.len result.kinds ≡ take 4 (key (kinds_read past_trivia kinds.now)) }
+    ensures key { take result.len result.kinds
+        ≡ take 4 (key (without_trivia_if skip_trivia kinds.now)) }
 {
-    let mut start = Start {
+    let mut prefix = KeyPrefix {
         kinds: [0; 4],
         len: 0,
     };
     for kind in kinds {
-        if start.len == 4 {
-            return start;
+        if prefix.len == 4 {
+            return prefix;
         }
-        if !is_skipped(&start.kinds[..start.len], past_trivia, *kind) {
-            start.kinds[start.len] = kind.to_raw();
-            start.len += 1;
+        if !is_skipped(&prefix.kinds[..prefix.len], skip_trivia, *kind) {
+            prefix.kinds[prefix.len] = kind.to_raw();
+            prefix.len += 1;
         }
     }
-    start
+    prefix
 }
 
-// Whether the kind is a modifier that the key leaves out after the kinds that it has so far.
+// Whether the key leaves out this kind as a modifier, after the kinds that it has so far.
 fn is_skipped_modifier(so_far: &[u16], kind: SyntaxKind) -> bool
     ensures { result ≡ is_skipped_modifier so_far.now kind }
 {
@@ -99,39 +91,38 @@ fn is_skipped_modifier(so_far: &[u16], kind: SyntaxKind) -> bool
 }
 
 // Whether the key leaves out this kind, after the kinds that it has so far.
-fn is_skipped(so_far: &[u16], past_trivia: bool, kind: SyntaxKind) -> bool
-    ensures { result ≡ is_skipped past_trivia so_far.now kind }
+fn is_skipped(so_far: &[u16], skip_trivia: bool, kind: SyntaxKind) -> bool
+    ensures { result ≡ is_skipped skip_trivia so_far.now kind }
 {
-    past_trivia && is_trivia(kind) || is_skipped_modifier(so_far, kind)
+    skip_trivia && is_trivia(kind) || is_skipped_modifier(so_far, kind)
 }
 
-// The node of a statement of these kinds, with trivia left out where `past_trivia` is set.
-fn opening_in(kinds: &[SyntaxKind], past_trivia: bool) -> Option<SyntaxKind>
-    ensures { result ≡ opening_of (kinds_read past_trivia kinds.now) }
+// The node of a statement of these kinds, with trivia left out if `skip_trivia` is set.
+fn opening_in(kinds: &[SyntaxKind], skip_trivia: bool) -> Option<SyntaxKind>
+    ensures { result ≡ opening_of (without_trivia_if skip_trivia kinds.now) }
 {
-    let start = start_of(kinds, past_trivia);
-    look_up(&start.kinds[..start.len])
+    let prefix = key_prefix(kinds, skip_trivia);
+    look_up(&prefix.kinds[..prefix.len])
 }
 
 /// Returns the node of a statement of these kinds, from which trivia has been left out.
 ///
 /// The longest row of the opening table that is a prefix of the kinds decides; modifiers such as
-/// `OR REPLACE` after a first `CREATE` do not count. `None` exactly where no row is a prefix: the
-/// node of the statement is then `ERROR`.
+/// `OR REPLACE` directly after a first `CREATE` do not count. `None` exactly if no row is a prefix:
+/// the node of the statement is then `ERROR`.
 pub fn opening(kinds: &[SyntaxKind]) -> Option<SyntaxKind>
     ensures node { result ≡ opening_of kinds.now }
-    ensures none { IsNone result ↔ (list_any (λ row. is_prefix row.0 (key kinds.now)) rows
-        ≡ false) }
+    ensures none { IsNone result ↔ (has_row kinds.now ≡ false) }
 {
     opening_in(kinds, false)
 }
 
-// The node of a statement of these kinds, with trivia left out where `past_trivia` is set; `ERROR`
-// where no row of the table is a prefix.
-pub(crate) fn statement_node(kinds: &[SyntaxKind], past_trivia: bool) -> SyntaxKind
-    ensures { result ≡ statement_node (kinds_read past_trivia kinds.now) }
+// The node of a statement of these kinds, with trivia left out if `skip_trivia` is set; `ERROR` if
+// no row of the table is a prefix.
+pub(crate) fn statement_node(kinds: &[SyntaxKind], skip_trivia: bool) -> SyntaxKind
+    ensures { result ≡ statement_node (without_trivia_if skip_trivia kinds.now) }
 {
-    match opening_in(kinds, past_trivia) {
+    match opening_in(kinds, skip_trivia) {
         Some(node) => node,
         None => SyntaxKind::ERROR,
     }

@@ -83,7 +83,7 @@ fn emit_body(
     emit_exits(output, groups)
 }
 
-// Emits the error of an unknown statement, where the node is `ERROR`.
+// Emits the error of an unknown statement if the node is `ERROR`.
 fn emit_unknown_error(output: &mut Output, node: SyntaxKind) -> Result<(), FrontError>
     ensures ok { OnOk result (output.new ≡ output.old ++ unknown_statement_error node) }
     ensures depth { OnOk result (depth_of output.new ≡ depth_of output.old) }
@@ -149,10 +149,10 @@ fn emit_plain(
     output.exit()
 }
 
-/// Divides a text into statements, where every semicolon ends one, and parentheses into groups.
+/// Divides a text into statements by `Division::Flat`, and nests what parentheses enclose.
 ///
-/// The root is a `SOURCE_FILE`. A statement whose opening is unknown is an `ERROR` node, which
-/// begins with the error of an unknown statement.
+/// The root is a `SOURCE_FILE`, and a group is a `PAREN_EXPR`. A statement that no row of the
+/// opening table fits is an `ERROR` node, which begins with error 10, "unknown statement".
 #[derive(Clone, Copy, Debug, PartialEq, Eq)]
 pub struct PlainGrammar;
 
@@ -168,7 +168,7 @@ impl Grammar for PlainGrammar {
     ghost lawful = { λ _ kinds no_trivia. plain_lawful Flat kinds no_trivia };
 }
 
-/// `PlainGrammar` with the other division: a semicolon inside a group ends no statement.
+/// `PlainGrammar` with `Division::Grouped`: a semicolon inside a group ends no statement.
 #[derive(Clone, Copy, Debug, PartialEq, Eq)]
 pub struct GroupedGrammar;
 

@@ -3,7 +3,7 @@
 //! A row stands before each shorter row that is a prefix of it, so the first row that is a prefix
 //! of a statement's kinds is the longest.
 ghost use Rattle.std.specs.Prelude.{map};
-ghost use Rattle.squawk_statements.specs.Rows.{row_of, Decide};
+ghost use Rattle.squawk_statements.specs.Rows.{row_of, FirstMatchIsLongest};
 
 use squawk_kinds::numbers::Number;
 
@@ -18,7 +18,7 @@ pub(crate) struct Row {
 // A table that holds every row with this first kind.
 #[tactic(none)]
 pub(crate) fn rows_from(first: u16) -> &'static [Row]
-    ensures { Decide first (map row_of result.now) }
+    ensures { FirstMatchIsLongest first (map row_of result.now) }
 {
     match first {
         Number::CREATE_KW => &CREATE,

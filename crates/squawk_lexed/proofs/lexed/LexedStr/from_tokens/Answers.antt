@@ -14,7 +14,7 @@ invariant_of-result c =
     (part_kept c.flags_lie_within.ensures.within c.args.text.now c.args.at c.args.tokens.now
     c.requires.cut c.requires.laid c.requires.boundary fits
     c.loop-i.from (drop c.loop-i.i c.args.tokens.now) c.range-2.result.now _ _ _ _ none
-    c.range-2.ensures.value c.loop-i.invariant.place
+    c.range-2.ensures.value c.loop-i.invariant.end
     c.loop-i.invariant.kinds c.loop-i.invariant.starts c.in_ok-push.ensures.items
     c.loop-i.invariant.errors)
 
@@ -25,11 +25,11 @@ returns-clause-lexed c =
     let fits : length c.args.text.now < 2 ^ 32 = omega (arith, c.requires.fits) in
     part_is c.args.text.now c.args.at c.loop-i.from c.args.tokens.now
     (drop c.loop-i.i c.args.tokens.now) c.range-2.result.now _ none c.range-2.ensures.value
-    c.loop-i.invariant.place
+    c.loop-i.invariant.end
     (kept_as c.range-2.result.now _ _ _ (lexed_tokens c.args.text.now c.args.at c.args.tokens.now)
     (part_kept c.flags_lie_within.ensures.within c.args.text.now c.args.at c.args.tokens.now
     c.requires.cut c.requires.laid c.requires.boundary fits
     c.loop-i.from (drop c.loop-i.i c.args.tokens.now) c.range-2.result.now _ _ _ _ none
-    c.range-2.ensures.value c.loop-i.invariant.place
+    c.range-2.ensures.value c.loop-i.invariant.end
     c.loop-i.invariant.kinds c.loop-i.invariant.starts c.in_ok-push.ensures.items
     c.loop-i.invariant.errors))

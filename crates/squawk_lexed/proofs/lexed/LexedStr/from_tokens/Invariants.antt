@@ -5,7 +5,7 @@ use Rattle.squawk_lexed.specs.LexedText.{lexed_tokens, tokens_len, EndAtBoundari
 use Rattle.squawk_lexed.specs.Stored.{kinds_of, starts_of, errors_of}
 use Rattle.squawk_lexed.proofs.lexed.LexedStr.from_tokens.Given as goal
 
--- what is kept so far and what the tokens that are left give is what all give
+-- the lists so far, and those of the tokens that are left, are the lists of all tokens
 abbrev pub invariant-loop-i : goal.invariant-loop-i
 invariant-loop-i l = record {
   kinds : l.lists.kinds.items ++ kinds_of (lexed_tokens l.text l.from (drop l.i l.tokens))
@@ -18,7 +18,7 @@ invariant-loop-i l = record {
       ≡ errors_of 0 (lexed_tokens l.text l.fn.at l.tokens);
   cut : AreCut (drop l.i l.tokens);
   laid : EndAtBoundaries l.text l.from (drop l.i l.tokens);
-  place : l.from + tokens_len (drop l.i l.tokens) ≡ l.fn.at + tokens_len l.tokens;
+  end : l.from + tokens_len (drop l.i l.tokens) ≡ l.fn.at + tokens_len l.tokens;
   on : l.fn.at ≤ l.from;
   start : IsCharBoundary l.text l.from;
 }

@@ -5,8 +5,8 @@ use Rattle.squawk_lexed.proofs.lexed.LexedStr.intersperse_trivia.Goals as goal
 pub emit_rest-requires : goal.emit_rest-requires
 emit_rest-requires g c = record {
   enough =
-      enough_for_rest c.args.self.now.tokens _ c.args.output.now c.steps-steps.result.now c.root_of.result
-      refl c.steps-steps.ensures c.root_of.ensures c.requires.tokens;
+      enough_for_rest c.args.self.now.tokens _ c.args.output.now c.steps-steps.result.now
+      c.root_of.result refl c.steps-steps.ensures c.root_of.ensures c.requires.tokens;
 }
 
 pub returns-in_err-all-clause-prefix : goal.returns-in_err-all-clause-prefix

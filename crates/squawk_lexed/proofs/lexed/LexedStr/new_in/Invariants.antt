@@ -6,7 +6,7 @@ use Rattle.squawk_lexed.specs.LexedText.{lexed_tokens}
 use Rattle.squawk_lexed.specs.Stored.{kinds_of, starts_of, errors_of}
 use Rattle.squawk_lexed.proofs.lexed.LexedStr.new_in.Given as goal
 
--- what is kept so far and what the tokens that are left give is what all give
+-- the lists so far, and those of the tokens that are left, are the lists of all tokens
 abbrev pub invariant-loop-token : goal.invariant-loop-token
 invariant-loop-token l = record {
   kinds : l.lists.kinds.items ++ kinds_of (lexed_tokens l.text l.at l.token-iterator)

@@ -1,12 +1,12 @@
 use Rattle.std.proofs.Common.{◌∙◌, ◌+◌, arith}
-use Rattle.squawk_lexed.proofs.StoredLemmas.{seen_as, places, place_at, next_fits}
+use Rattle.squawk_lexed.proofs.StoredLemmas.{seen_as, count_starts, start_of_token, next_fits}
 use Rattle.squawk_lexed.proofs.lexed.LexedStr.text_range.Goals as goal
 
 pub index-requires : goal.index-requires
 index-requires c =
     omega (
       arith,
-      places _ _ _ _ c.args.self.now.tokens
+      count_starts _ _ _ _ c.args.self.now.tokens
           (seen_as _ _ _ _ c.args.self.now c.self.view_is c.self.invariant),
       c.requires,
     )
@@ -23,19 +23,19 @@ pub index-requires-2 : goal.index-requires-2
 index-requires-2 c =
     omega (
       arith,
-      places _ _ _ _ c.args.self.now.tokens
+      count_starts _ _ _ _ c.args.self.now.tokens
           (seen_as _ _ _ _ c.args.self.now c.self.view_is c.self.invariant),
       c.requires,
     )
 
 pub returns-clause-start : goal.returns-clause-start
 returns-clause-start c = c.index.ensures
-    ∙ place_at _ _ _ _ c.args.self.now.tokens
+    ∙ start_of_token _ _ _ _ c.args.self.now.tokens
     (seen_as _ _ _ _ c.args.self.now c.self.view_is c.self.invariant) c.args.i _
     (omega (arith, c.requires))
 
 pub returns-clause-end : goal.returns-clause-end
 returns-clause-end c = c.index-2.ensures
-    ∙ place_at _ _ _ _ c.args.self.now.tokens
+    ∙ start_of_token _ _ _ _ c.args.self.now.tokens
     (seen_as _ _ _ _ c.args.self.now c.self.view_is c.self.invariant) (c.args.i + 1) _
     (omega (arith, c.requires))

@@ -1,6 +1,6 @@
 use Rattle.std.proofs.Common.{◌≡◌, ◌++◌, drop}
 use Rattle.squawk_events.specs.Kinds.{without_trivia}
-use Rattle.squawk_lexed.proofs.lexed.kinds_kept.Given as goal
+use Rattle.squawk_lexed.proofs.lexed.without_trivia.Given as goal
 
 abbrev pub invariant-loop-i : goal.invariant-loop-i
 invariant-loop-i l = l.input ++ without_trivia (drop l.i l.kinds) ≡ without_trivia l.kinds

@@ -1,6 +1,6 @@
 use Rattle.std.proofs.Common.{arith}
-use Rattle.squawk_lexed.proofs.StoredLemmas.{seen_as, count, places, next_fits, piece_at, starts_rise}
-use Rattle.squawk_lexed.proofs.lexed.LexedStr.piece.Goals as goal
+use Rattle.squawk_lexed.proofs.StoredLemmas.{seen_as, count, count_starts, next_fits, token_at_index, starts_rise}
+use Rattle.squawk_lexed.proofs.lexed.LexedStr.kind_and_len.Goals as goal
 
 pub index-requires : goal.index-requires
 index-requires c =
@@ -24,7 +24,7 @@ pub index-requires-2 : goal.index-requires-2
 index-requires-2 c =
     omega (
       arith,
-      places _ _ _ _ c.args.self.now.tokens
+      count_starts _ _ _ _ c.args.self.now.tokens
           (seen_as _ _ _ _ c.args.self.now c.self.view_is c.self.invariant),
       c.requires,
     )
@@ -33,7 +33,7 @@ pub index-requires-3 : goal.index-requires-3
 index-requires-3 c =
     omega (
       arith,
-      places _ _ _ _ c.args.self.now.tokens
+      count_starts _ _ _ _ c.args.self.now.tokens
           (seen_as _ _ _ _ c.args.self.now c.self.view_is c.self.invariant),
       c.requires,
     )
@@ -46,7 +46,7 @@ overflow_sub-result c =
 
 pub returns-clause-at : goal.returns-clause-at
 returns-clause-at c =
-    piece_at _ _ _ _ c.args.self.now.tokens (seen_as _ _ _ _ c.args.self.now c.self.view_is
+    token_at_index _ _ _ _ c.args.self.now.tokens (seen_as _ _ _ _ c.args.self.now c.self.view_is
     c.self.invariant) c.args.i _ _ _ c.requires c.index.ensures c.index-3.ensures c.index-2.ensures
 
 pub returns-clause-fits : goal.returns-clause-fits
