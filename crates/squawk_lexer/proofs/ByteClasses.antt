@@ -7,7 +7,8 @@ use Rattle.std.proofs.lemmas.Bool.Decides.{nat_tests}
 use Rattle.squawk_lexer.specs.declared.scan.TheConstants.{ID_CONT}
 use Rattle.squawk_lexer.specs.declared.classes.Class.{Class}
 use Rattle.squawk_lexer.specs.declared.classes.Class.TheVariants.{Whitespace, Blank, IdentCont, Digit, NotLineEnd, TagCont, CommandChar}
-use Rattle.squawk_lexer.specs.Classes.{class_test, is_ident_cont}
+use Rattle.squawk_lexer.specs.Classes.{is_ident_cont}
+use Rattle.squawk_lexer.specs.ClassTests.{class_test}
 use Rattle.squawk_lexer.specs.Bytes.{HasIdentCont}
 use Rattle.squawk_lexer.proofs.ByteRuns.{IsUniform}
 

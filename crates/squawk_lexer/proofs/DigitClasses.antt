@@ -2,7 +2,7 @@
 use Rattle.std.proofs.Common.{◌≡◌, ℕ, ◌+◌, ◌<◌, true, false, List, length, get_or, drop}
 use Rattle.squawk_lexer.specs.declared.classes.Digits.{Digits}
 use Rattle.squawk_lexer.specs.declared.classes.Digits.TheVariants.{Decimal, Hexadecimal}
-use Rattle.squawk_lexer.specs.Digits.{digit_test}
+use Rattle.squawk_lexer.specs.ClassTests.{digit_test}
 use Rattle.squawk_lexer.specs.Position.{position_after}
 use Rattle.squawk_lexer.specs.Runs.{digits_len}
 use Rattle.squawk_lexer.proofs.Steps.{digits_more, digits_more_underscore, digits_stop, hex_more, hex_more_underscore, hex_stop}

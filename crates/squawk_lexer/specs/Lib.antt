@@ -28,4 +28,4 @@ pub mod CursorModel
 pub mod TokensModel
 pub mod PsqlQuotes
 pub mod Stops
-pub mod Digits
+pub mod ClassTests

@@ -1,7 +1,7 @@
 //! Classes of characters (`docs/GRAMMAR.md`, "Characters"), after PostgreSQL's `scan.l`.
 ghost use Rattle.std.specs.Prelude.{◌≡◌};
 ghost use Rattle.squawk_lexer.specs.Classes as spec;
-ghost use Rattle.squawk_lexer.specs.Digits.{digit_test};
+ghost use Rattle.squawk_lexer.specs.ClassTests.{class_test, digit_test};
 
 // A class of characters whose runs a cursor can skip.
 #[derive(Clone, Copy)]
@@ -77,7 +77,7 @@ pub(crate) fn is_digit_byte(digits: Digits, b: u8) -> bool
 // Whether a character whose UTF-8 begins with `b` is in `class`. The first byte decides, since each
 // class has all characters beyond ASCII or none.
 pub(crate) fn is_in(class: Class, b: u8) -> bool
-    ensures { result ≡ spec.class_test class b }
+    ensures { result ≡ class_test class b }
 {
     let c = b as char;
     match class {

@@ -114,8 +114,9 @@ pub fn bom_is_one_character()
 {}
 
 /// A gap, which is white space or a comment, can be replaced by a space or LF without changing the
-/// token before it. If the gap directly follows the token, the token must not be trivia, and only LF
-/// can replace a gap that begins with LF or CR. If it follows one character later, neither matters.
+/// token before it. If the gap directly follows the token, the token must not be trivia, and a gap
+/// that begins with LF or CR can only be replaced by LF. If it follows one character later, neither
+/// matters.
 pub fn tokens_stay()
     ensures seen { GapsAreSeen }
     ensures near { TokensStay }

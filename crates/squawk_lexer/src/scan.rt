@@ -2,8 +2,8 @@
 //! characters beyond ASCII or none, so a run of bytes ends where the run of characters does.
 ghost use Rattle.std.specs.Prelude.{◌≡◌, ◌+◌, ◌<◌, ◌≤◌, length, drop, slice_index};
 ghost use Rattle.std.specs.List.{prefix_len};
-ghost use Rattle.squawk_lexer.specs.Classes.{class_test, is_whitespace, is_ident_cont};
-ghost use Rattle.squawk_lexer.specs.Digits.{digit_test};
+ghost use Rattle.squawk_lexer.specs.Classes.{is_whitespace, is_ident_cont};
+ghost use Rattle.squawk_lexer.specs.ClassTests.{class_test, digit_test};
 ghost use Rattle.squawk_lexer.specs.Runs.{digits_len};
 ghost use Rattle.squawk_lexer.specs.Stops.{is_neither, is_neither_on_line};
 ghost use Rattle.squawk_lexer.specs.Bytes.{HasIdentCont};

@@ -1,6 +1,6 @@
 use Rattle.std.proofs.Common.{◌≡◌, ◌+◌, ◌-◌, ◌≤◌, length, drop}
 use Rattle.std.specs.List.{prefix_len}
-use Rattle.squawk_lexer.specs.Classes.{class_test}
+use Rattle.squawk_lexer.specs.ClassTests.{class_test}
 use Rattle.squawk_lexer.proofs.scan.class_len.Given as goal
 
 abbrev pub invariant-loop-len : goal.invariant-loop-len

@@ -1,5 +1,5 @@
 use Rattle.std.proofs.Common.{◌≡◌, ◌+◌, ◌-◌, ◌≤◌, length, drop}
-use Rattle.squawk_lexer.specs.Digits.{digit_test}
+use Rattle.squawk_lexer.specs.ClassTests.{digit_test}
 use Rattle.squawk_lexer.specs.Runs.{digits_len}
 use Rattle.squawk_lexer.proofs.scan.digits_len.Given as goal
 

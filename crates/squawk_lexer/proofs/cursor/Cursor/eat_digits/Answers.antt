@@ -1,6 +1,6 @@
 use Rattle.std.proofs.Common.{arith}
 use Rattle.std.proofs.lemmas.Bool.Decides.{nat_tests}
-use Rattle.squawk_lexer.specs.Digits.{digit_test}
+use Rattle.squawk_lexer.specs.ClassTests.{digit_test}
 use Rattle.squawk_lexer.proofs.ByteRuns.{skipped}
 use Rattle.squawk_lexer.proofs.DigitRuns.{passed_digits, digits_count}
 use Rattle.squawk_lexer.proofs.DigitClasses.{ascii_digit_test}

@@ -1,4 +1,4 @@
-use Rattle.squawk_lexer.specs.Classes.{class_test}
+use Rattle.squawk_lexer.specs.ClassTests.{class_test}
 use Rattle.squawk_lexer.proofs.ByteRuns.{passed_run, skipped}
 use Rattle.squawk_lexer.proofs.ByteClasses.{uniform_class}
 use Rattle.squawk_lexer.proofs.cursor.Cursor.eat_while.Goals as goal
