@@ -28,7 +28,7 @@ SourceFaultRose old new = FaultRose old.faults new.faults
 abbrev pub SinkFaultRose : (old new : SinkView) → Type 0
 SinkFaultRose old new = FaultRose old.faults new.faults
 
--- a count of faults does not fall in a call, and rises if the call fails, unless it is at the end
+-- a count of faults does not fall in a call; if the call fails, it rises or is at the largest `u64`
 pub record HasCause {T E : Type 0} (old new : ℕ) (result : Result T E) : Type 0 where
   pub later : old ≤ new
   pub failed : OnErr result (FaultRose old new)

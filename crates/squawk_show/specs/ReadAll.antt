@@ -16,7 +16,7 @@ IsReadRefusal most old new (Front TooLong) = TakesExactly old new (most + 1)
 IsReadRefusal most old new (Front OutOfMemory) = ⊤
 IsReadRefusal most old new WriteFault = ⊥
 
--- a source was read to its end, for at most `most` bytes, and how that ended
+-- a call that reads a source to its end, at most `most` bytes: what it returns, and its errors
 pub record ReadsAll (most : ℕ) (old new : SourceView) (result : Result (Vec ℕ Global) RunError)
     : Type 0 where
   pub bytes : IfOk result (λ bytes. Takes old new bytes.items)

@@ -114,8 +114,8 @@ fn push_short_line(
     Ok(())
 }
 
-// Appends the line of a node or a leaf. `last` is a number with its digits, which are reused if the
-// line starts there, as most lines start where the one before ends. Returns the end for the next.
+// Appends the line of a node or a leaf. `last` is the number where the line before ended: most
+// lines start there and reuse its digits. Returns the number for the next line.
 #[inline(always)]
 pub(crate) fn push_line(
     out: &mut Vec<u8>,

@@ -115,7 +115,7 @@ pub fn run<S: Source, K: Sink, E: Sink>(
 ) -> Shown
     ensures status { result.status ≡ status_of result.outcome }
 
-    // With status 0 the sink took exactly the output of the command for the tree of its input.
+    // With status 0 `out` took exactly the output of the command for the tree of its input.
     ensures written { IfOk result.outcome
         (Writes (command_of words.now) (K.view out.old) (K.view out.new)) }
     ensures tree { IfOk result.outcome (IsTreeOf (command_of words.now) (S.view source.old)) }

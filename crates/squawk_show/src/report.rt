@@ -15,7 +15,7 @@ const MIN_STEPS_FOR_TABLES: usize = 16384;
 const AVERAGE_LINE_LEN: usize = 34;
 
 // Appends the line of a step, if it has one. Returns the depth after it, and the number where the
-// next line probably starts: the end of a leaf, while the first child of a node starts with it.
+// next line probably starts: the end of a leaf, but not of a node, whose children come next.
 #[inline(always)]
 fn push_step(
     out: &mut Vec<u8>,
