@@ -9,13 +9,13 @@ use Rattle.squawk_lexer.specs.Flags.{FlagsLieWithin, AreCut}
 use Rattle.squawk_lexed.specs.LexedToken.{LexedToken}
 use Rattle.squawk_lexed.specs.LexedText.{lexed_tokens, lexed_part, tokens_len, EndAtBoundaries, total_len}
 use Rattle.squawk_lexed.specs.Stored.{kinds_of, starts_of, errors_of, AreBoundaries, IsStoredAs}
-use Rattle.squawk_lexed.proofs.StoredLemmas.{lexes_sound}
+use Rattle.squawk_lexed.proofs.StoredLemmas.{tokens_are_sound}
 
 -- tokens with their kinds are as long as without
-lexes_bytes : (text : List ℕ) (at : ℕ) (ts : List Token)
+lexed_tokens_len : (text : List ℕ) (at : ℕ) (ts : List Token)
     → total_len (lexed_tokens text at ts) ≡ tokens_len ts
-lexes_bytes text at [] = refl
-lexes_bytes text at (t ∷ ts) = ap (λ n. t.len + n) (lexes_bytes text (at + t.len) ts)
+lexed_tokens_len text at [] = refl
+lexed_tokens_len text at (t ∷ ts) = ap (λ n. t.len + n) (lexed_tokens_len text (at + t.len) ts)
 
 -- tokens that end at character boundaries do not extend past the end of the text
 laid_within : (text : List ℕ) (at : ℕ) (ts : List Token) → IsCharBoundary text at
@@ -79,8 +79,8 @@ part_kept law text at ts cut laid here fits from left part kinds starts starts' 
       kinds_are = sym (append-nil kinds) ∙ rw none at k;
       starts_are = s' ∙ rw none at s;
       errors_are = sym (append-nil errors) ∙ rw none at e;
-      sound = lexes_sound law text at ts cut;
-      whole = omega (arith, len, end, lexes_bytes text at ts);
+      sound = tokens_are_sound law text at ts cut;
+      whole = omega (arith, len, end, lexed_tokens_len text at ts);
       fits = omega (arith, len, within, fits);
       boundaries = rw is (part_bounded text at from 0 at ts (omega arith) (omega (arith, end))
           within here laid);

@@ -102,24 +102,24 @@ read_back at (t ∷ ts) h =
 
 -- ---- the tokens of a text are sound, cover it, and begin and end at character boundaries
 
-pub lexes_sound : FlagsLieWithin → (text : List ℕ) (at : ℕ) (ts : List Token) → AreCut ts
+pub tokens_are_sound : FlagsLieWithin → (text : List ℕ) (at : ℕ) (ts : List Token) → AreCut ts
     → are_sound (lexed_tokens text at ts) ≡ true
-lexes_sound law text at [] cut = refl
-lexes_sound law text at (t ∷ ts) cut =
+tokens_are_sound law text at [] cut = refl
+tokens_are_sound law text at (t ∷ ts) cut =
     rw (is_less 0 t.len (flagged law t cut.0).some, faults_lie_within law t cut.0)
-    (lexes_sound law text (at + t.len) ts cut.1)
+    (tokens_are_sound law text (at + t.len) ts cut.1)
 
-pub lexes_whole : (text : List ℕ) (at : ℕ) (ts : List Token) → Tiles text at ts
+pub tokens_cover_text : (text : List ℕ) (at : ℕ) (ts : List Token) → Tiles text at ts
     → at + total_len (lexed_tokens text at ts) ≡ length text
-lexes_whole text at [] tiles = omega arith
-lexes_whole text at (t ∷ ts) (some, real, boundary, more) =
-    omega (arith, lexes_whole text (at + t.len) ts more)
+tokens_cover_text text at [] tiles = omega arith
+tokens_cover_text text at (t ∷ ts) (some, real, boundary, more) =
+    omega (arith, tokens_cover_text text (at + t.len) ts more)
 
-pub lexes_bounded : (text : List ℕ) (at : ℕ) (ts : List Token) → IsCharBoundary text at
+pub tokens_have_boundaries : (text : List ℕ) (at : ℕ) (ts : List Token) → IsCharBoundary text at
     → Tiles text at ts → AreBoundaries text (starts_of at (lexed_tokens text at ts))
-lexes_bounded text at [] here tiles = (here, tt)
-lexes_bounded text at (t ∷ ts) here (some, real, boundary, more) =
-    (here, lexes_bounded text (at + t.len) ts boundary more)
+tokens_have_boundaries text at [] here tiles = (here, tt)
+tokens_have_boundaries text at (t ∷ ts) here (some, real, boundary, more) =
+    (here, tokens_have_boundaries text (at + t.len) ts boundary more)
 
 -- ---- lists that store tokens store those that are read off them
 
@@ -180,10 +180,10 @@ all_kept law text ts cut tiles here fits at left kinds starts starts' errors non
       kinds_are = sym (append-nil kinds) ∙ rw none at k;
       starts_are = s' ∙ rw none at s;
       errors_are = sym (append-nil errors) ∙ rw none at e;
-      sound = lexes_sound law text 0 ts cut;
-      whole = omega (arith, lexes_whole text 0 ts tiles);
+      sound = tokens_are_sound law text 0 ts cut;
+      whole = omega (arith, tokens_cover_text text 0 ts tiles);
       fits = fits;
-      boundaries = lexes_bounded text 0 ts here tiles;
+      boundaries = tokens_have_boundaries text 0 ts here tiles;
     }
 
 -- ---- what the accessors read off the lists: the lengths, starts and boundaries of the tokens that

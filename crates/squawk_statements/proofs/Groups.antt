@@ -1,20 +1,21 @@
 -- A statement's kinds divide into plain kinds and groups, in exactly one way.
 use Rattle.std.proofs.lemmas.Bool.{eqb-true}
 use Rattle.std.proofs.lemmas.List.{append-nil}
-use Rattle.std.specs.Prelude.{if◌then◌else◌, ◌==◌, ◌||◌, ℕ, zero, suc, ◌≡◌, ◌&&◌, not, Bool, true, false, List, [], ◌∷◌, ◌++◌, refl}
+use Rattle.std.specs.Prelude.{if◌then◌else◌, ◌==◌, ◌||◌, ℕ, zero, suc, ◌≡◌, ◌&&◌, not, Bool, true, false, List, [], ◌∷◌, ◌++◌, map, refl}
 use Rattle.std.proofs.Common.{ap, sym, ◌∙◌, append_assoc}
 use Rattle.squawk_kinds.specs.Role.{role}
 use Rattle.squawk_kinds.specs.Role.{Role, Trivia, Semicolon, Terminator, Command, Open, Close, Other}
 use Rattle.squawk_kinds.specs.declared.numbers.TheConstants.Number.{WHITESPACE, COMMENT, SEMICOLON, PSQL_TERMINATOR_TEXT, PSQL_COMMAND_TEXT, L_PAREN, R_PAREN, PAREN_EXPR}
 use Rattle.squawk_events.specs.declared.steps.Step.TheVariants.{Enter, Token, Exit}
-use Rattle.squawk_statements.specs.Groups.{Parts, Done, Plain, Closed, Unclosed, kinds_of, steps_of, is_plain, all_closed, are_parts, stays_open, open_groups_after_all}
+use Rattle.squawk_statements.specs.Groups.{Nesting, Done, Plain, Closed, Unclosed, nesting_kinds, nesting_steps, is_plain, all_closed, is_nesting, stays_open}
+use Rattle.squawk_statements.specs.Laws.{groups_left_open}
 use Rattle.squawk_statements.specs.Children.{ends_statement, open_groups_after}
 use Rattle.squawk_statements.specs.Plain.{body_steps, exits, kind_steps, groups_open_after}
 use Rattle.squawk_statements.specs.declared.division.Division.{Division}
 
--- ---- the steps of parts
+-- ---- the steps of a nesting
 
--- both parts of a test that holds
+-- both sides of a test that holds
 split : (a b : Bool) → (a && b) ≡ true → (a ≡ true) × (b ≡ true)
 split true b h = (refl, h)
 split false b h = absurd (cc)
@@ -55,70 +56,73 @@ close_step : (d : Division) (n : ℕ) (ks : List ℕ)
     → body_steps d (suc n) (R_PAREN ∷ ks) ≡ Token R_PAREN ∷ Exit ∷ body_steps d n ks
 close_step d n ks = rw is_close refl
 
--- the steps of parts whose groups have their `)`, before any kinds
-pub closed_parts_steps : (d : Division) (n : ℕ) (ps : Parts) (ks : List ℕ) → are_parts d n ps ≡ true
-    → all_closed ps ≡ true → body_steps d n (kinds_of ps ++ ks) ≡ steps_of ps ++ body_steps d n ks
-closed_parts_steps d n Done ks h c = refl
-closed_parts_steps d n (Plain kind rest) ks h c =
+-- the steps of a nesting whose groups have their `)`, before any kinds
+pub closed_nesting_steps : (d : Division) (n : ℕ) (ps : Nesting) (ks : List ℕ)
+    → is_nesting d n ps ≡ true → all_closed ps ≡ true
+    → body_steps d n (nesting_kinds ps ++ ks) ≡ nesting_steps ps ++ body_steps d n ks
+closed_nesting_steps d n Done ks h c = refl
+closed_nesting_steps d n (Plain kind rest) ks h c =
     let a = split (is_plain n (role kind) && not (ends_statement d n (role kind)))
-    (are_parts d n rest) h in
+    (is_nesting d n rest) h in
     let b = split (is_plain n (role kind)) (not (ends_statement d n (role kind))) a.0 in
     let s = plain_step d n kind (role kind) refl b.0
     (not_false (ends_statement d n (role kind)) b.1) in
-    ap (λ xs. xs ++ body_steps d (groups_open_after d n (role kind)) (kinds_of rest ++ ks)) s.0
-    ∙ ap (λ m. Token kind ∷ body_steps d m (kinds_of rest ++ ks)) s.1
-    ∙ ap (λ xs. Token kind ∷ xs) (closed_parts_steps d n rest ks a.1 c)
-closed_parts_steps d n (Closed inside rest) ks h c =
-    let a = split (are_parts d (suc n) inside && all_closed inside) (are_parts d n rest) h in
-    let b = split (are_parts d (suc n) inside) (all_closed inside) a.0 in
-    open_step d n ((kinds_of inside ++ R_PAREN ∷ kinds_of rest) ++ ks)
+    ap (λ xs. xs ++ body_steps d (groups_open_after d n (role kind)) (nesting_kinds rest ++ ks)) s.0
+    ∙ ap (λ m. Token kind ∷ body_steps d m (nesting_kinds rest ++ ks)) s.1
+    ∙ ap (λ xs. Token kind ∷ xs) (closed_nesting_steps d n rest ks a.1 c)
+closed_nesting_steps d n (Closed inside rest) ks h c =
+    let a = split (is_nesting d (suc n) inside && all_closed inside) (is_nesting d n rest) h in
+    let b = split (is_nesting d (suc n) inside) (all_closed inside) a.0 in
+    open_step d n ((nesting_kinds inside ++ R_PAREN ∷ nesting_kinds rest) ++ ks)
     ∙ ap (λ zs. Enter PAREN_EXPR ∷ Token L_PAREN
-    ∷ body_steps d (suc n) zs) (append_assoc (kinds_of inside) (R_PAREN ∷ kinds_of rest) ks)
+    ∷ body_steps d (suc n) zs)
+    (append_assoc (nesting_kinds inside) (R_PAREN ∷ nesting_kinds rest) ks)
     ∙ ap (λ xs. Enter PAREN_EXPR ∷ Token L_PAREN
-    ∷ xs) (closed_parts_steps d (suc n) inside (R_PAREN ∷ kinds_of rest ++ ks) b.0 b.1
-    ∙ ap (λ xs. steps_of inside ++ xs) (close_step d n (kinds_of rest ++ ks)
-    ∙ ap (λ xs. Token R_PAREN ∷ Exit ∷ xs) (closed_parts_steps d n rest ks a.1 c))
-    ∙ sym (append_assoc (steps_of inside) (Token R_PAREN ∷ Exit
-    ∷ steps_of rest) (body_steps d n ks)))
-closed_parts_steps d n (Unclosed inside) ks h c = absurd (cc)
+    ∷ xs) (closed_nesting_steps d (suc n) inside (R_PAREN ∷ nesting_kinds rest ++ ks) b.0 b.1
+    ∙ ap (λ xs. nesting_steps inside ++ xs) (close_step d n (nesting_kinds rest ++ ks)
+    ∙ ap (λ xs. Token R_PAREN ∷ Exit ∷ xs) (closed_nesting_steps d n rest ks a.1 c))
+    ∙ sym (append_assoc (nesting_steps inside) (Token R_PAREN ∷ Exit
+    ∷ nesting_steps rest) (body_steps d n ks)))
+closed_nesting_steps d n (Unclosed inside) ks h c = absurd (cc)
 
 -- an Exit before n is n + 1
 exit_last : (n : ℕ) → Exit ∷ exits n ≡ exits (suc n)
 exit_last n = refl
 
--- the steps of parts, after which all open groups end
-pub parts_steps : (d : Division) (n : ℕ) (ps : Parts) → are_parts d n ps ≡ true
-    → body_steps d n (kinds_of ps) ≡ steps_of ps ++ exits n
-parts_steps d n Done h = refl
-parts_steps d n (Plain kind rest) h =
+-- the steps of a nesting, after which all open groups end
+pub steps_of_nesting : (d : Division) (n : ℕ) (ps : Nesting) → is_nesting d n ps ≡ true
+    → body_steps d n (nesting_kinds ps) ≡ nesting_steps ps ++ exits n
+steps_of_nesting d n Done h = refl
+steps_of_nesting d n (Plain kind rest) h =
     let a = split (is_plain n (role kind) && not (ends_statement d n (role kind)))
-    (are_parts d n rest) h in
+    (is_nesting d n rest) h in
     let b = split (is_plain n (role kind)) (not (ends_statement d n (role kind))) a.0 in
     let s = plain_step d n kind (role kind) refl b.0
     (not_false (ends_statement d n (role kind)) b.1) in
-    ap (λ xs. xs ++ body_steps d (groups_open_after d n (role kind)) (kinds_of rest)) s.0
-    ∙ ap (λ m. Token kind ∷ body_steps d m (kinds_of rest)) s.1
-    ∙ ap (λ xs. Token kind ∷ xs) (parts_steps d n rest a.1)
-parts_steps d n (Closed inside rest) h =
-    let a = split (are_parts d (suc n) inside && all_closed inside) (are_parts d n rest) h in
-    let b = split (are_parts d (suc n) inside) (all_closed inside) a.0 in
-    open_step d n (kinds_of inside ++ R_PAREN ∷ kinds_of rest)
+    ap (λ xs. xs ++ body_steps d (groups_open_after d n (role kind)) (nesting_kinds rest)) s.0
+    ∙ ap (λ m. Token kind ∷ body_steps d m (nesting_kinds rest)) s.1
+    ∙ ap (λ xs. Token kind ∷ xs) (steps_of_nesting d n rest a.1)
+steps_of_nesting d n (Closed inside rest) h =
+    let a = split (is_nesting d (suc n) inside && all_closed inside) (is_nesting d n rest) h in
+    let b = split (is_nesting d (suc n) inside) (all_closed inside) a.0 in
+    open_step d n (nesting_kinds inside ++ R_PAREN ∷ nesting_kinds rest)
     ∙ ap (λ xs. Enter PAREN_EXPR ∷ Token L_PAREN
-    ∷ xs) (closed_parts_steps d (suc n) inside (R_PAREN ∷ kinds_of rest) b.0 b.1
-    ∙ ap (λ xs. steps_of inside ++ xs) (close_step d n (kinds_of rest)
-    ∙ ap (λ xs. Token R_PAREN ∷ Exit ∷ xs) (parts_steps d n rest a.1))
-    ∙ sym (append_assoc (steps_of inside) (Token R_PAREN ∷ Exit ∷ steps_of rest) (exits n)))
-parts_steps d n (Unclosed inside) h =
-    open_step d n (kinds_of inside)
-    ∙ ap (λ xs. Enter PAREN_EXPR ∷ Token L_PAREN ∷ xs) (parts_steps d (suc n) inside h
-    ∙ sym (append_assoc (steps_of inside) (Exit ∷ []) (exits n)))
+    ∷ xs) (closed_nesting_steps d (suc n) inside (R_PAREN ∷ nesting_kinds rest) b.0 b.1
+    ∙ ap (λ xs. nesting_steps inside ++ xs) (close_step d n (nesting_kinds rest)
+    ∙ ap (λ xs. Token R_PAREN ∷ Exit ∷ xs) (steps_of_nesting d n rest a.1))
+    ∙ sym (append_assoc (nesting_steps inside) (Token R_PAREN ∷ Exit ∷ nesting_steps rest)
+    (exits n)))
+steps_of_nesting d n (Unclosed inside) h =
+    open_step d n (nesting_kinds inside)
+    ∙ ap (λ xs. Enter PAREN_EXPR ∷ Token L_PAREN ∷ xs) (steps_of_nesting d (suc n) inside h
+    ∙ sym (append_assoc (nesting_steps inside) (Exit ∷ []) (exits n)))
 
 -- ---- such a division exists
 
--- the parts of the innermost open group up to its end, and then those of the groups around it
+-- the nesting inside the innermost open group up to its end, and then those in the groups around it
 data Stack : Type 0 where
-  Last : Parts → Stack
-  More : Parts → Stack → Stack
+  Last : Nesting → Stack
+  More : Nesting → Stack → Stack
 
 -- a plain kind before them
 push : ℕ → Stack → Stack
@@ -131,7 +135,7 @@ enter (Last p) = Last (Unclosed p)
 enter (More p (Last q)) = Last (Closed p q)
 enter (More p (More q s)) = More (Closed p q) s
 
--- the parts of kinds, inside n groups, from those of the kinds after the first
+-- the stack of kinds inside n groups, from that of the kinds after the first
 divide_by : Role → ℕ → ℕ → (ℕ → Stack) → Stack
 divide_by Open n k rest = enter (rest (suc n))
 divide_by Close zero k rest = push k (rest zero)
@@ -148,8 +152,8 @@ divide n (k ∷ ks) = divide_by (role k) n k (λ m. divide m ks)
 
 -- their kinds, in order
 stack_kinds : Stack → List ℕ
-stack_kinds (Last p) = kinds_of p
-stack_kinds (More p s) = kinds_of p ++ R_PAREN ∷ stack_kinds s
+stack_kinds (Last p) = nesting_kinds p
+stack_kinds (More p s) = nesting_kinds p ++ R_PAREN ∷ stack_kinds s
 
 -- a kind before them, and a `(`, and all kinds that are divided
 push_kinds : (k : ℕ) (s : Stack) → stack_kinds (push k s) ≡ k ∷ stack_kinds s
@@ -162,7 +166,7 @@ unfolding stack_kinds enter
 enter_kinds (Last p) = refl
 enter_kinds (More p (Last q)) = refl
 enter_kinds (More p (More q s)) =
-    ap (λ ks. L_PAREN ∷ ks) (append_assoc (kinds_of p) (R_PAREN ∷ kinds_of q) (R_PAREN
+    ap (λ ks. L_PAREN ∷ ks) (append_assoc (nesting_kinds p) (R_PAREN ∷ nesting_kinds q) (R_PAREN
     ∷ stack_kinds s))
 
 -- the only kinds with these roles are the parentheses
@@ -220,11 +224,11 @@ divide_kinds n (k ∷ ks) = by (role k) n refl (λ m. divide_kinds m ks)
     by Command n is more = push_kinds k (divide n ks) ∙ ap (λ zs. k ∷ zs) (more n)
     by Other n is more = push_kinds k (divide n ks) ∙ ap (λ zs. k ∷ zs) (more n)
 
--- the stack's parts are parts, each inside as many groups as are open
+-- whether each of a stack is a nesting inside as many groups as are open
 are_stacked : Division → ℕ → Stack → Bool
-are_stacked d n (Last p) = are_parts d n p
+are_stacked d n (Last p) = is_nesting d n p
 are_stacked d zero (More p s) = false
-are_stacked d (suc n) (More p s) = (are_parts d (suc n) p && all_closed p) && are_stacked d n s
+are_stacked d (suc n) (More p s) = (is_nesting d (suc n) p && all_closed p) && are_stacked d n s
 
 -- both tests hold
 both : (a b : Bool) → a ≡ true → b ≡ true → (a && b) ≡ true
@@ -244,21 +248,21 @@ enter_stacked : (d : Division) (n : ℕ) (s : Stack) → are_stacked d (suc n) s
 unfolding are_stacked enter
 enter_stacked d n (Last p) h = h
 enter_stacked d n (More p (Last q)) h = h
-enter_stacked d zero (More p (More q s)) h = absurd (no (are_parts d 1 p && all_closed p) h)
+enter_stacked d zero (More p (More q s)) h = absurd (no (is_nesting d 1 p && all_closed p) h)
   where
     no : (a : Bool) → (a && false) ≡ true → ⊥
     no true h = cc
     no false h = cc
 enter_stacked d (suc n) (More p (More q s)) h =
-    let a = split (are_parts d (suc (suc n)) p
-    && all_closed p) ((are_parts d (suc n) q && all_closed q) && are_stacked d n s) h in
-    let b = split (are_parts d (suc n) q && all_closed q) (are_stacked d n s) a.1 in
-    let c = split (are_parts d (suc n) q) (all_closed q) b.0 in
-    both ((((are_parts d (suc (suc n)) p && all_closed p) && are_parts d (suc n) q))
+    let a = split (is_nesting d (suc (suc n)) p
+    && all_closed p) ((is_nesting d (suc n) q && all_closed q) && are_stacked d n s) h in
+    let b = split (is_nesting d (suc n) q && all_closed q) (are_stacked d n s) a.1 in
+    let c = split (is_nesting d (suc n) q) (all_closed q) b.0 in
+    both ((((is_nesting d (suc (suc n)) p && all_closed p) && is_nesting d (suc n) q))
     && all_closed q) (are_stacked d n s)
-    (both ((are_parts d (suc (suc n)) p && all_closed p)
-    && are_parts d (suc n) q) (all_closed q) (both (are_parts d (suc (suc n)) p
-    && all_closed p) (are_parts d (suc n) q) a.0 c.0) c.1) b.1
+    (both ((is_nesting d (suc (suc n)) p && all_closed p)
+    && is_nesting d (suc n) q) (all_closed q) (both (is_nesting d (suc (suc n)) p
+    && all_closed p) (is_nesting d (suc n) q) a.0 c.0) c.1) b.1
 
 divide_stacked : (d : Division) (n : ℕ) (ks : List ℕ) → stays_open d n ks ≡ true
     → are_stacked d n (divide n ks) ≡ true
@@ -298,43 +302,44 @@ divide_stacked d n (k ∷ ks) h =
         push_stacked d n k (divide n ks) (ap (is_plain n) is) goes
         (more n (ap (λ f. stays_open d (open_groups_after n f) ks) (sym is) ∙ rest))
 
--- kinds none of which ends the statement are those of some parts, and have their steps
-pub body_divides : (d : Division) (ks : List ℕ) → stays_open d 0 ks ≡ true → (ps : Parts)
-    × (kinds_of ps ≡ ks) × (are_parts d 0 ps ≡ true) × (body_steps d 0 ks ≡ steps_of ps)
+-- kinds none of which ends the statement are those of a nesting, and have its steps
+pub body_divides : (d : Division) (ks : List ℕ) → stays_open d 0 ks ≡ true → (ps : Nesting)
+    × (nesting_kinds ps ≡ ks) × (is_nesting d 0 ps ≡ true) × (body_steps d 0 ks ≡ nesting_steps ps)
 unfolding stack_kinds are_stacked
 body_divides d ks h = by (divide 0 ks) (divide_kinds 0 ks) (divide_stacked d 0 ks h)
   where
-    by : (s : Stack) → stack_kinds s ≡ ks → are_stacked d 0 s ≡ true → (ps : Parts)
-        × (kinds_of ps ≡ ks) × (are_parts d 0 ps ≡ true) × (body_steps d 0 ks ≡ steps_of ps)
-    by (Last p) kinds parts = (
+    by : (s : Stack) → stack_kinds s ≡ ks → are_stacked d 0 s ≡ true → (ps : Nesting)
+        × (nesting_kinds ps ≡ ks) × (is_nesting d 0 ps ≡ true)
+        × (body_steps d 0 ks ≡ nesting_steps ps)
+    by (Last p) kinds is = (
       p,
       kinds,
-      parts,
+      is,
       ap (body_steps d 0) (sym kinds)
-          ∙ parts_steps d 0 p parts ∙ append-nil (steps_of p),
+          ∙ steps_of_nesting d 0 p is ∙ append-nil (nesting_steps p),
     )
-    by (More p s) kinds parts = absurd (cc)
+    by (More p s) kinds is = absurd (cc)
 
 -- ---- there is only one
 
--- the innermost parts as a group with its `)`
-close_in : Parts → Stack → Stack
+-- the innermost nesting as a group with its `)`
+close_in : Nesting → Stack → Stack
 close_in p (Last q) = Last (Closed p q)
 close_in p (More q s) = More (Closed p q) s
 
-enter_more : (p : Parts) (s : Stack) → enter (More p s) ≡ close_in p s
+enter_more : (p : Nesting) (s : Stack) → enter (More p s) ≡ close_in p s
 unfolding enter close_in
 enter_more p (Last q) = refl
 enter_more p (More q s) = refl
 
--- closed parts before those of a stack
-onto : Parts → Stack → Stack
+-- a nesting whose groups have their `)`, before a stack
+onto : Nesting → Stack → Stack
 onto Done s = s
 onto (Plain k rest) s = push k (onto rest s)
 onto (Closed inside rest) s = close_in inside (onto rest s)
 onto (Unclosed inside) s = s
 
-onto_done : (p : Parts) (s : Stack) → all_closed p ≡ true → onto p (More Done s) ≡ More p s
+onto_done : (p : Nesting) (s : Stack) → all_closed p ≡ true → onto p (More Done s) ≡ More p s
 unfolding onto push close_in
 onto_done Done s h = refl
 onto_done (Plain k rest) s h = ap (push k) (onto_done rest s h)
@@ -366,57 +371,59 @@ divide_plain n k ks h = by (role k) n h
     by Command n h = refl
     by Other n h = refl
 
--- dividing the kinds of closed parts puts these parts before those of the kinds after them
-divide_onto : (d : Division) (n : ℕ) (ps : Parts) (ks : List ℕ) → are_parts d n ps ≡ true
-    → all_closed ps ≡ true → divide n (kinds_of ps ++ ks) ≡ onto ps (divide n ks)
+-- the stack of the kinds of such a nesting and others is the nesting before the stack of the others
+divide_onto : (d : Division) (n : ℕ) (ps : Nesting) (ks : List ℕ) → is_nesting d n ps ≡ true
+    → all_closed ps ≡ true → divide n (nesting_kinds ps ++ ks) ≡ onto ps (divide n ks)
 unfolding onto
 divide_onto d n Done ks h c = refl
 divide_onto d n (Plain kind rest) ks h c =
     let a = split (is_plain n (role kind) && not (ends_statement d n (role kind)))
-    (are_parts d n rest) h in
+    (is_nesting d n rest) h in
     let b = split (is_plain n (role kind)) (not (ends_statement d n (role kind))) a.0 in
-    divide_plain n kind (kinds_of rest ++ ks) b.0 ∙ ap (push kind) (divide_onto d n rest ks a.1 c)
+    divide_plain n kind (nesting_kinds rest ++ ks) b.0
+    ∙ ap (push kind) (divide_onto d n rest ks a.1 c)
 divide_onto d n (Closed inside rest) ks h c =
-    let a = split (are_parts d (suc n) inside && all_closed inside) (are_parts d n rest) h in
-    let b = split (are_parts d (suc n) inside) (all_closed inside) a.0 in
-    divide_open n ((kinds_of inside ++ R_PAREN ∷ kinds_of rest) ++ ks)
-    ∙ ap (λ zs. enter (divide (suc n) zs)) (append_assoc (kinds_of inside) (R_PAREN
-    ∷ kinds_of rest) ks)
-    ∙ ap enter (divide_onto d (suc n) inside (R_PAREN ∷ kinds_of rest ++ ks) b.0 b.1
-    ∙ ap (onto inside) (divide_close n (kinds_of rest ++ ks)
+    let a = split (is_nesting d (suc n) inside && all_closed inside) (is_nesting d n rest) h in
+    let b = split (is_nesting d (suc n) inside) (all_closed inside) a.0 in
+    divide_open n ((nesting_kinds inside ++ R_PAREN ∷ nesting_kinds rest) ++ ks)
+    ∙ ap (λ zs. enter (divide (suc n) zs)) (append_assoc (nesting_kinds inside) (R_PAREN
+    ∷ nesting_kinds rest) ks)
+    ∙ ap enter (divide_onto d (suc n) inside (R_PAREN ∷ nesting_kinds rest ++ ks) b.0 b.1
+    ∙ ap (onto inside) (divide_close n (nesting_kinds rest ++ ks)
     ∙ ap (More Done) (divide_onto d n rest ks a.1 c))
     ∙ onto_done inside (onto rest (divide n ks)) b.1)
     ∙ enter_more inside (onto rest (divide n ks))
 divide_onto d n (Unclosed inside) ks h c = absurd (cc)
 
--- and dividing the kinds of any parts yields these parts
-divide_last : (d : Division) (n : ℕ) (ps : Parts) → are_parts d n ps ≡ true
-    → divide n (kinds_of ps) ≡ Last ps
+-- and the stack of the kinds of any nesting is that nesting
+divide_last : (d : Division) (n : ℕ) (ps : Nesting) → is_nesting d n ps ≡ true
+    → divide n (nesting_kinds ps) ≡ Last ps
 unfolding push enter divide
 divide_last d n Done h = refl
 divide_last d n (Plain kind rest) h =
     let a = split (is_plain n (role kind) && not (ends_statement d n (role kind)))
-    (are_parts d n rest) h in
+    (is_nesting d n rest) h in
     let b = split (is_plain n (role kind)) (not (ends_statement d n (role kind))) a.0 in
-    divide_plain n kind (kinds_of rest) b.0 ∙ ap (push kind) (divide_last d n rest a.1)
+    divide_plain n kind (nesting_kinds rest) b.0 ∙ ap (push kind) (divide_last d n rest a.1)
 divide_last d n (Closed inside rest) h =
-    let a = split (are_parts d (suc n) inside && all_closed inside) (are_parts d n rest) h in
-    let b = split (are_parts d (suc n) inside) (all_closed inside) a.0 in
-    divide_open n (kinds_of inside ++ R_PAREN ∷ kinds_of rest)
-    ∙ ap enter (divide_onto d (suc n) inside (R_PAREN ∷ kinds_of rest) b.0 b.1
-    ∙ ap (onto inside) (divide_close n (kinds_of rest) ∙ ap (More Done) (divide_last d n rest a.1))
+    let a = split (is_nesting d (suc n) inside && all_closed inside) (is_nesting d n rest) h in
+    let b = split (is_nesting d (suc n) inside) (all_closed inside) a.0 in
+    divide_open n (nesting_kinds inside ++ R_PAREN ∷ nesting_kinds rest)
+    ∙ ap enter (divide_onto d (suc n) inside (R_PAREN ∷ nesting_kinds rest) b.0 b.1
+    ∙ ap (onto inside) (divide_close n (nesting_kinds rest)
+    ∙ ap (More Done) (divide_last d n rest a.1))
     ∙ onto_done inside (Last rest) b.1)
-divide_last d n (Unclosed inside) h = divide_open n (kinds_of inside)
+divide_last d n (Unclosed inside) h = divide_open n (nesting_kinds inside)
     ∙ ap enter (divide_last d (suc n) inside h)
 
--- the innermost parts
-first_of_stack : Stack → Parts
+-- the innermost nesting
+first_of_stack : Stack → Nesting
 first_of_stack (Last p) = p
 first_of_stack (More p s) = p
 
--- parts with the same kinds are the same
-pub division_is_unique : (d : Division) (ps qs : Parts) → are_parts d 0 ps ≡ true
-    → are_parts d 0 qs ≡ true → kinds_of ps ≡ kinds_of qs → ps ≡ qs
+-- nestings with the same kinds are the same
+pub division_is_unique : (d : Division) (ps qs : Nesting) → is_nesting d 0 ps ≡ true
+    → is_nesting d 0 qs ≡ true → nesting_kinds ps ≡ nesting_kinds qs → ps ≡ qs
 unfolding first_of_stack
 division_is_unique d ps qs h k same = ap first_of_stack (sym (divide_last d 0 ps h)
     ∙ ap (divide 0) same ∙ divide_last d 0 qs k)
@@ -425,7 +432,7 @@ division_is_unique d ps qs h k same = ap first_of_stack (sym (divide_last d 0 ps
 
 -- the token that ends a statement stands after all of its groups
 pub ending_token_is_last : (d : Division) (n : ℕ) (ks : List ℕ) (k : ℕ) → stays_open d n ks ≡ true
-    → ends_statement d (open_groups_after_all n ks) (role k) ≡ true
+    → ends_statement d (groups_left_open n (map role ks)) (role k) ≡ true
     → body_steps d n (ks ++ k ∷ []) ≡ body_steps d n ks ++ Token k ∷ []
 ending_token_is_last d n [] k h e = rw e (append-nil (exits n ++ Token k ∷ []))
 ending_token_is_last d n (j ∷ ks) k h e =

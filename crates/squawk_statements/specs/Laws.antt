@@ -1,10 +1,10 @@
 -- What the definitions mean: the longest row, the first token that ends a statement, and the one
--- division into groups.
-use Rattle.std.specs.Prelude.{ℕ, suc, ◌≡◌, ◌≤◌, ◌<◌, Bool, true, false, IsTrue, List, [], ◌∷◌, ◌++◌, length, take, Some, None, slice_index_or, All, Contains}
+-- nesting of groups.
+use Rattle.std.specs.Prelude.{ℕ, suc, ◌≡◌, ◌≤◌, ◌<◌, Bool, true, false, IsTrue, List, [], ◌∷◌, ◌++◌, length, map, take, Some, None, slice_index_or, All, Contains}
 use Rattle.squawk_events.specs.declared.steps.Step.TheVariants.{Token}
 use Rattle.squawk_kinds.specs.Role.{Role, role, Other, is_trivia}
 use Rattle.squawk_statements.specs.Children.{ends_statement, open_groups_after, statement_end, trimmed_len}
-use Rattle.squawk_statements.specs.Groups.{Parts, kinds_of, steps_of, are_parts, stays_open, open_groups_after_all}
+use Rattle.squawk_statements.specs.Groups.{Nesting, nesting_kinds, nesting_steps, is_nesting, stays_open}
 use Rattle.squawk_statements.specs.declared.division.Division.{Division}
 use Rattle.squawk_statements.specs.Opening.{Row, rows, is_prefix, longest}
 use Rattle.squawk_statements.specs.Plain.{body_steps}
@@ -64,21 +64,21 @@ NothingEndsOpenStatement = (division : Division) (roles : List Role)
 abbrev pub LastTokenIsNotTrivia : Type 0
 LastTokenIsNotTrivia = (roles : List Role) → IsTrimmed roles (trimmed_len roles)
 
--- kinds none of which ends the statement are the kinds of some parts, and have their steps
-abbrev pub PartsExist : Type 0
-PartsExist = (division : Division) (kinds : List ℕ) → IsTrue (stays_open division 0 kinds)
-    → (parts : Parts) × (kinds_of parts ≡ kinds) × (are_parts division 0 parts ≡ true)
-    × (body_steps division 0 kinds ≡ steps_of parts)
+-- kinds none of which ends the statement are the kinds of a nesting, and have its steps
+abbrev pub NestingExists : Type 0
+NestingExists = (division : Division) (kinds : List ℕ) → IsTrue (stays_open division 0 kinds)
+    → (nesting : Nesting) × (nesting_kinds nesting ≡ kinds) × (is_nesting division 0 nesting ≡ true)
+    × (body_steps division 0 kinds ≡ nesting_steps nesting)
 
--- parts with the same kinds are the same
-abbrev pub PartsAreUnique : Type 0
-PartsAreUnique = (division : Division) (parts others : Parts)
-    → IsTrue (are_parts division 0 parts) → IsTrue (are_parts division 0 others)
-    → kinds_of parts ≡ kinds_of others → parts ≡ others
+-- nestings with the same kinds are the same
+abbrev pub NestingIsUnique : Type 0
+NestingIsUnique = (division : Division) (nesting other : Nesting)
+    → IsTrue (is_nesting division 0 nesting) → IsTrue (is_nesting division 0 other)
+    → nesting_kinds nesting ≡ nesting_kinds other → nesting ≡ other
 
 -- the token that ends a statement stands after all of its groups
 abbrev pub EndingTokenIsLast : Type 0
 EndingTokenIsLast = (division : Division) (kinds : List ℕ) (kind : ℕ)
     → IsTrue (stays_open division 0 kinds)
-    → IsTrue (ends_statement division (open_groups_after_all 0 kinds) (role kind))
+    → IsTrue (ends_statement division (groups_left_open 0 (map role kinds)) (role kind))
     → body_steps division 0 (kinds ++ kind ∷ []) ≡ body_steps division 0 kinds ++ Token kind ∷ []

@@ -7,6 +7,14 @@ use Rattle.squawk_kinds.specs.declared.numbers.TheConstants.Number as kind
 abbrev pub Row : Type 0
 Row = List ℕ × ℕ
 
+-- the kinds of `TEXT SEARCH` and of an object
+abbrev pub text_search : ℕ → List ℕ
+text_search object = kind.TEXT_KW ∷ kind.SEARCH_KW ∷ object ∷ []
+
+-- the kinds of `FOREIGN DATA WRAPPER`
+abbrev pub foreign_data_wrapper : List ℕ
+foreign_data_wrapper = kind.FOREIGN_KW ∷ kind.DATA_KW ∷ kind.WRAPPER_KW ∷ []
+
 -- the rows with any other first kind
 unfoldable pub other_rows : List Row
 other_rows =
@@ -82,11 +90,8 @@ create_rows =
     (kind.CREATE_KW ∷ kind.DATABASE_KW ∷ [], kind.CREATE_DATABASE) ∷
     (kind.CREATE_KW ∷ kind.DOMAIN_KW ∷ [], kind.CREATE_DOMAIN) ∷
     (kind.CREATE_KW ∷ kind.EVENT_KW ∷ kind.TRIGGER_KW ∷ [], kind.CREATE_EVENT_TRIGGER) ∷
-    (kind.CREATE_KW ∷ kind.EXTENSION_KW ∷ [], kind.CREATE_EXTENSION) ∷ (
-      kind.CREATE_KW ∷ kind.FOREIGN_KW ∷ kind.DATA_KW ∷ kind.WRAPPER_KW
-          ∷ [],
-      kind.CREATE_FOREIGN_DATA_WRAPPER,
-    ) ∷
+    (kind.CREATE_KW ∷ kind.EXTENSION_KW ∷ [], kind.CREATE_EXTENSION) ∷
+    (kind.CREATE_KW ∷ foreign_data_wrapper, kind.CREATE_FOREIGN_DATA_WRAPPER) ∷
     (kind.CREATE_KW ∷ kind.FOREIGN_KW ∷ kind.TABLE_KW ∷ [], kind.CREATE_FOREIGN_TABLE) ∷
     (kind.CREATE_KW ∷ kind.FUNCTION_KW ∷ [], kind.CREATE_FUNCTION) ∷
     (kind.CREATE_KW ∷ kind.GROUP_KW ∷ [], kind.CREATE_GROUP) ∷
@@ -113,23 +118,11 @@ create_rows =
     (kind.CREATE_KW ∷ kind.TYPE_KW ∷ [], kind.CREATE_TYPE) ∷
     (kind.CREATE_KW ∷ kind.USER_KW ∷ kind.MAPPING_KW ∷ [], kind.CREATE_USER_MAPPING) ∷
     (kind.CREATE_KW ∷ kind.USER_KW ∷ [], kind.CREATE_USER) ∷
-    (kind.CREATE_KW ∷ kind.VIEW_KW ∷ [], kind.CREATE_VIEW) ∷ (
-      kind.CREATE_KW ∷ kind.TEXT_KW ∷ kind.SEARCH_KW ∷ kind.CONFIGURATION_KW
-          ∷ [],
-      kind.CREATE_TEXT_SEARCH_CONFIGURATION,
-    ) ∷ (
-      kind.CREATE_KW ∷ kind.TEXT_KW ∷ kind.SEARCH_KW ∷ kind.DICTIONARY_KW
-          ∷ [],
-      kind.CREATE_TEXT_SEARCH_DICTIONARY,
-    ) ∷ (
-      kind.CREATE_KW ∷ kind.TEXT_KW ∷ kind.SEARCH_KW ∷ kind.PARSER_KW
-          ∷ [],
-      kind.CREATE_TEXT_SEARCH_PARSER,
-    ) ∷ (
-      kind.CREATE_KW ∷ kind.TEXT_KW ∷ kind.SEARCH_KW ∷ kind.TEMPLATE_KW
-          ∷ [],
-      kind.CREATE_TEXT_SEARCH_TEMPLATE,
-    ) ∷
+    (kind.CREATE_KW ∷ kind.VIEW_KW ∷ [], kind.CREATE_VIEW) ∷
+    (kind.CREATE_KW ∷ text_search kind.CONFIGURATION_KW, kind.CREATE_TEXT_SEARCH_CONFIGURATION) ∷
+    (kind.CREATE_KW ∷ text_search kind.DICTIONARY_KW, kind.CREATE_TEXT_SEARCH_DICTIONARY) ∷
+    (kind.CREATE_KW ∷ text_search kind.PARSER_KW, kind.CREATE_TEXT_SEARCH_PARSER) ∷
+    (kind.CREATE_KW ∷ text_search kind.TEMPLATE_KW, kind.CREATE_TEXT_SEARCH_TEMPLATE) ∷
     (kind.CREATE_KW ∷ kind.ACCESS_KW ∷ kind.METHOD_KW ∷ [], kind.CREATE_ACCESS_METHOD) ∷
     (kind.CREATE_KW ∷ kind.CAST_KW ∷ [], kind.CREATE_CAST) ∷
     (kind.CREATE_KW ∷ kind.TRANSFORM_KW ∷ [], kind.CREATE_TRANSFORM) ∷
@@ -145,11 +138,8 @@ alter_rows =
     (kind.ALTER_KW ∷ kind.DATABASE_KW ∷ [], kind.ALTER_DATABASE) ∷
     (kind.ALTER_KW ∷ kind.DOMAIN_KW ∷ [], kind.ALTER_DOMAIN) ∷
     (kind.ALTER_KW ∷ kind.EVENT_KW ∷ kind.TRIGGER_KW ∷ [], kind.ALTER_EVENT_TRIGGER) ∷
-    (kind.ALTER_KW ∷ kind.EXTENSION_KW ∷ [], kind.ALTER_EXTENSION) ∷ (
-      kind.ALTER_KW ∷ kind.FOREIGN_KW ∷ kind.DATA_KW ∷ kind.WRAPPER_KW
-          ∷ [],
-      kind.ALTER_FOREIGN_DATA_WRAPPER,
-    ) ∷
+    (kind.ALTER_KW ∷ kind.EXTENSION_KW ∷ [], kind.ALTER_EXTENSION) ∷
+    (kind.ALTER_KW ∷ foreign_data_wrapper, kind.ALTER_FOREIGN_DATA_WRAPPER) ∷
     (kind.ALTER_KW ∷ kind.FOREIGN_KW ∷ kind.TABLE_KW ∷ [], kind.ALTER_FOREIGN_TABLE) ∷
     (kind.ALTER_KW ∷ kind.FUNCTION_KW ∷ [], kind.ALTER_FUNCTION) ∷
     (kind.ALTER_KW ∷ kind.GROUP_KW ∷ [], kind.ALTER_GROUP) ∷
@@ -176,23 +166,11 @@ alter_rows =
     (kind.ALTER_KW ∷ kind.TYPE_KW ∷ [], kind.ALTER_TYPE) ∷
     (kind.ALTER_KW ∷ kind.USER_KW ∷ kind.MAPPING_KW ∷ [], kind.ALTER_USER_MAPPING) ∷
     (kind.ALTER_KW ∷ kind.USER_KW ∷ [], kind.ALTER_USER) ∷
-    (kind.ALTER_KW ∷ kind.VIEW_KW ∷ [], kind.ALTER_VIEW) ∷ (
-      kind.ALTER_KW ∷ kind.TEXT_KW ∷ kind.SEARCH_KW ∷ kind.CONFIGURATION_KW
-          ∷ [],
-      kind.ALTER_TEXT_SEARCH_CONFIGURATION,
-    ) ∷ (
-      kind.ALTER_KW ∷ kind.TEXT_KW ∷ kind.SEARCH_KW ∷ kind.DICTIONARY_KW
-          ∷ [],
-      kind.ALTER_TEXT_SEARCH_DICTIONARY,
-    ) ∷ (
-      kind.ALTER_KW ∷ kind.TEXT_KW ∷ kind.SEARCH_KW ∷ kind.PARSER_KW
-          ∷ [],
-      kind.ALTER_TEXT_SEARCH_PARSER,
-    ) ∷ (
-      kind.ALTER_KW ∷ kind.TEXT_KW ∷ kind.SEARCH_KW ∷ kind.TEMPLATE_KW
-          ∷ [],
-      kind.ALTER_TEXT_SEARCH_TEMPLATE,
-    ) ∷
+    (kind.ALTER_KW ∷ kind.VIEW_KW ∷ [], kind.ALTER_VIEW) ∷
+    (kind.ALTER_KW ∷ text_search kind.CONFIGURATION_KW, kind.ALTER_TEXT_SEARCH_CONFIGURATION) ∷
+    (kind.ALTER_KW ∷ text_search kind.DICTIONARY_KW, kind.ALTER_TEXT_SEARCH_DICTIONARY) ∷
+    (kind.ALTER_KW ∷ text_search kind.PARSER_KW, kind.ALTER_TEXT_SEARCH_PARSER) ∷
+    (kind.ALTER_KW ∷ text_search kind.TEMPLATE_KW, kind.ALTER_TEXT_SEARCH_TEMPLATE) ∷
     (kind.ALTER_KW ∷ kind.DEFAULT_KW ∷ kind.PRIVILEGES_KW ∷ [], kind.ALTER_DEFAULT_PRIVILEGES) ∷
     (kind.ALTER_KW ∷ kind.LARGE_KW ∷ kind.OBJECT_KW ∷ [], kind.ALTER_LARGE_OBJECT) ∷
     (kind.ALTER_KW ∷ kind.ROUTINE_KW ∷ [], kind.ALTER_ROUTINE) ∷
@@ -209,11 +187,8 @@ drop_rows =
     (kind.DROP_KW ∷ kind.DATABASE_KW ∷ [], kind.DROP_DATABASE) ∷
     (kind.DROP_KW ∷ kind.DOMAIN_KW ∷ [], kind.DROP_DOMAIN) ∷
     (kind.DROP_KW ∷ kind.EVENT_KW ∷ kind.TRIGGER_KW ∷ [], kind.DROP_EVENT_TRIGGER) ∷
-    (kind.DROP_KW ∷ kind.EXTENSION_KW ∷ [], kind.DROP_EXTENSION) ∷ (
-      kind.DROP_KW ∷ kind.FOREIGN_KW ∷ kind.DATA_KW ∷ kind.WRAPPER_KW
-          ∷ [],
-      kind.DROP_FOREIGN_DATA_WRAPPER,
-    ) ∷
+    (kind.DROP_KW ∷ kind.EXTENSION_KW ∷ [], kind.DROP_EXTENSION) ∷
+    (kind.DROP_KW ∷ foreign_data_wrapper, kind.DROP_FOREIGN_DATA_WRAPPER) ∷
     (kind.DROP_KW ∷ kind.FOREIGN_KW ∷ kind.TABLE_KW ∷ [], kind.DROP_FOREIGN_TABLE) ∷
     (kind.DROP_KW ∷ kind.FUNCTION_KW ∷ [], kind.DROP_FUNCTION) ∷
     (kind.DROP_KW ∷ kind.GROUP_KW ∷ [], kind.DROP_GROUP) ∷
@@ -240,23 +215,11 @@ drop_rows =
     (kind.DROP_KW ∷ kind.TYPE_KW ∷ [], kind.DROP_TYPE) ∷
     (kind.DROP_KW ∷ kind.USER_KW ∷ kind.MAPPING_KW ∷ [], kind.DROP_USER_MAPPING) ∷
     (kind.DROP_KW ∷ kind.USER_KW ∷ [], kind.DROP_USER) ∷
-    (kind.DROP_KW ∷ kind.VIEW_KW ∷ [], kind.DROP_VIEW) ∷ (
-      kind.DROP_KW ∷ kind.TEXT_KW ∷ kind.SEARCH_KW ∷ kind.CONFIGURATION_KW
-          ∷ [],
-      kind.DROP_TEXT_SEARCH_CONFIG,
-    ) ∷ (
-      kind.DROP_KW ∷ kind.TEXT_KW ∷ kind.SEARCH_KW ∷ kind.DICTIONARY_KW
-          ∷ [],
-      kind.DROP_TEXT_SEARCH_DICT,
-    ) ∷ (
-      kind.DROP_KW ∷ kind.TEXT_KW ∷ kind.SEARCH_KW ∷ kind.PARSER_KW
-          ∷ [],
-      kind.DROP_TEXT_SEARCH_PARSER,
-    ) ∷ (
-      kind.DROP_KW ∷ kind.TEXT_KW ∷ kind.SEARCH_KW ∷ kind.TEMPLATE_KW
-          ∷ [],
-      kind.DROP_TEXT_SEARCH_TEMPLATE,
-    ) ∷
+    (kind.DROP_KW ∷ kind.VIEW_KW ∷ [], kind.DROP_VIEW) ∷
+    (kind.DROP_KW ∷ text_search kind.CONFIGURATION_KW, kind.DROP_TEXT_SEARCH_CONFIG) ∷
+    (kind.DROP_KW ∷ text_search kind.DICTIONARY_KW, kind.DROP_TEXT_SEARCH_DICT) ∷
+    (kind.DROP_KW ∷ text_search kind.PARSER_KW, kind.DROP_TEXT_SEARCH_PARSER) ∷
+    (kind.DROP_KW ∷ text_search kind.TEMPLATE_KW, kind.DROP_TEXT_SEARCH_TEMPLATE) ∷
     (kind.DROP_KW ∷ kind.ACCESS_KW ∷ kind.METHOD_KW ∷ [], kind.DROP_ACCESS_METHOD) ∷
     (kind.DROP_KW ∷ kind.CAST_KW ∷ [], kind.DROP_CAST) ∷
     (kind.DROP_KW ∷ kind.TRANSFORM_KW ∷ [], kind.DROP_TRANSFORM) ∷
@@ -271,10 +234,9 @@ rows = other_rows ++ create_rows ++ alter_rows ++ drop_rows
 -- the kinds that may stand between `CREATE` and the kind of object that is created
 unfoldable pub modifiers : List ℕ
 modifiers =
-    kind.OR_KW ∷ kind.REPLACE_KW ∷ kind.TEMP_KW ∷ kind.TEMPORARY_KW ∷ kind.GLOBAL_KW ∷ kind.LOCAL_KW
-    ∷
-    kind.UNLOGGED_KW ∷ kind.UNIQUE_KW ∷ kind.TRUSTED_KW ∷ kind.PROCEDURAL_KW ∷ kind.RECURSIVE_KW ∷
-    kind.CONSTRAINT_KW ∷ []
+    kind.OR_KW ∷ kind.REPLACE_KW ∷ kind.TEMP_KW ∷ kind.TEMPORARY_KW ∷ kind.GLOBAL_KW ∷
+    kind.LOCAL_KW ∷ kind.UNLOGGED_KW ∷ kind.UNIQUE_KW ∷ kind.TRUSTED_KW ∷ kind.PROCEDURAL_KW ∷
+    kind.RECURSIVE_KW ∷ kind.CONSTRAINT_KW ∷ []
 
 -- whether a kind is one of these
 unfoldable pub is_modifier : ℕ → Bool

@@ -8,14 +8,14 @@ use Rattle.squawk_statements.specs.declared.rows.Row.{Row}
 
 -- the kinds and the node of a row
 abbrev pub row_of : Row → opening.Row
-row_of row = (row.first ∷ row.more.now, row.node)
+row_of row = (row.first ∷ row.rest.now, row.node)
 
 -- for a statement with this first kind, the first of these rows that is a prefix is the longest
 -- such row of the whole table
 unfoldable pub FirstMatchIsLongest : ℕ → List opening.Row → Type 0
-FirstMatchIsLongest first rows = (more : List ℕ)
-    → find (λ (row : opening.Row). opening.is_prefix row.0 (first ∷ more)) rows
-    ≡ opening.longest opening.rows (first ∷ more)
+FirstMatchIsLongest first rows = (rest : List ℕ)
+    → find (λ (row : opening.Row). opening.is_prefix row.0 (first ∷ rest)) rows
+    ≡ opening.longest opening.rows (first ∷ rest)
 
 -- the kinds that are not trivia if the flag is set, else all
 abbrev pub without_trivia_if : Bool → List ℕ → List ℕ

@@ -6,8 +6,8 @@ ghost use Rattle.squawk_statements.specs.Laws as law;
 ///
 /// The token that ends a statement stands after all of its groups.
 pub fn groups_divide_uniquely()
-    ensures some { law.PartsExist }
-    ensures one { law.PartsAreUnique }
+    ensures some { law.NestingExists }
+    ensures one { law.NestingIsUnique }
     ensures closing { law.EndingTokenIsLast }
 {}
 

@@ -42,7 +42,7 @@ fn fits(row: &Row, start: &[u16]) -> bool
     requires { 0 < length start.now }
     ensures { result ≡ is_prefix (row_of row.now).0 start.now }
 {
-    row.first == start[0] && start[1..].starts_with(row.more)
+    row.first == start[0] && start[1..].starts_with(row.rest)
 }
 
 // The node of the longest row that is a prefix of these kinds.

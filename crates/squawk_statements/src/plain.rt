@@ -40,7 +40,7 @@ fn emit_token(
     ensures ok { OnOk result (output.new ≡ output.old ++ kind_steps division groups kind) }
     ensures groups { IfOk result (λ n. n ≡ groups_open_after division groups (role kind)) }
     ensures depth { IfOk result (λ n. depth_of output.new + groups ≡ depth_of output.old + n) }
-    ensures more { IfOk result (λ n. n ≤ groups + 1) }
+    ensures bound { IfOk result (λ n. n ≤ groups + 1) }
     ensures refusals { IfErr result IsOutOfMemory }
 {
     if ends_statement(division, groups, kind) {

@@ -11,7 +11,7 @@ use squawk_kinds::numbers::Number;
 // statement's node.
 pub(crate) struct Row {
     pub(crate) first: u16,
-    pub(crate) more: &'static [u16],
+    pub(crate) rest: &'static [u16],
     pub(crate) node: u16,
 }
 
@@ -30,10 +30,10 @@ pub(crate) fn rows_from(first: u16) -> &'static [Row]
 
 // Rows, written as the names of their kinds and of their node.
 macro_rules! rows {
-    ($($first:ident $($more:ident)* => $node:ident;)*) => {
+    ($($first:ident $($rest:ident)* => $node:ident;)*) => {
         [$(Row {
             first: Number::$first,
-            more: &[$(Number::$more),*],
+            rest: &[$(Number::$rest),*],
             node: Number::$node,
         }),*]
     };

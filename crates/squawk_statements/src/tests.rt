@@ -151,7 +151,7 @@ const OTHER_OPENINGS: &[(&str, &[u16], u16)] = &[
 ];
 
 // The kinds with these numbers.
-fn kinds_of(alloc: Global, numbers: &[u16]) -> Result<Vec<SyntaxKind>, AllocError> {
+fn kinds_with_numbers(alloc: Global, numbers: &[u16]) -> Result<Vec<SyntaxKind>, AllocError> {
     let mut kinds = Vec::new(alloc);
     for number in numbers {
         if let Some(kind) = SyntaxKind::from_raw(*number) {
@@ -173,12 +173,12 @@ fn node_number(kinds: &[SyntaxKind]) -> u16 {
 fn openings(rt: HostRuntime) {
     for row in OPENINGS {
         let (name, numbers, node) = *row;
-        let kinds = kinds_of(rt.alloc(), numbers).expect(&rt, "memory");
+        let kinds = kinds_with_numbers(rt.alloc(), numbers).expect(&rt, "memory");
         assert_eq!(rt; node_number(&kinds), node, "{name}");
     }
     for row in OTHER_OPENINGS {
         let (name, numbers, node) = *row;
-        let kinds = kinds_of(rt.alloc(), numbers).expect(&rt, "memory");
+        let kinds = kinds_with_numbers(rt.alloc(), numbers).expect(&rt, "memory");
         assert_eq!(rt; node_number(&kinds), node, "{name}");
     }
 }
