@@ -24,7 +24,8 @@ blocks() {
 }
 
 example=crates/squawk_example
-diff <(blocks '```rust' '## The library') "$example/src/main.rt" >&2 || differs "README.md does not show $example/src/main.rt"
+diff <(blocks '```rust' '## The library') "$example/src/main.rt" >&2 ||
+  differs "README.md does not show $example/src/main.rt"
 diff <(blocks '```' '## The library') "$example/stdout" >&2 || differs "README.md does not show $example/stdout"
 
 files=$(find . -name out -prune -o -name .git -prune -o -type f -print)
@@ -34,8 +35,10 @@ for page in README.md docs/*.md; do
   done
 done
 
-rows=$(sed -n '/^## The clauses of `run`/,/^## Sources/p' docs/PROGRAM.md | sed -nE 's/^\| `([a-z_0-9]+)` \|.*/\1/p' | sort)
-clauses=$(sed -n '/^pub fn run</,/^{/p' crates/squawk_show/src/program.rt | sed -nE 's/^ *ensures ([a-z_0-9]+) .*/\1/p' | sort)
+rows=$(sed -n '/^## The clauses of `run`/,/^## Sources/p' docs/PROGRAM.md |
+  sed -nE 's/^\| `([a-z_0-9]+)` \|.*/\1/p' | sort)
+clauses=$(sed -n '/^pub fn run</,/^{/p' crates/squawk_show/src/program.rt |
+  sed -nE 's/^ *ensures ([a-z_0-9]+) .*/\1/p' | sort)
 diff <(echo "$rows") <(echo "$clauses") >&2 || differs "docs/PROGRAM.md does not list the clauses of run"
 
 exit "$failed"
