@@ -1,4 +1,4 @@
-//! Laws of the words and sets, for proofs. Their contracts are what they are for.
+//! Laws of the words and sets, for proofs: these functions exist for their contracts.
 ghost use Rattle.std.specs.Prelude.{◌≡◌, ◌≢◌, ◌↔◌, ℕ, List, AllPairs, Any, Contains, IfSome};
 ghost use Rattle.std.specs.declared.cmp.Ordering.TheVariants.{Less};
 ghost use Rattle.squawk_words.specs.Categories.{categories, kind_sets};
