@@ -1,4 +1,4 @@
--- A child's tokens, divided by themselves, are one child.
+-- The tokens of a child, divided by themselves, are one child.
 use Rattle.std.proofs.Common.{◌≡◌, ℕ, zero, suc, ◌==◌, ◌≤◌, Bool, true, false, ◌&&◌, cond, List, [], ◌∷◌, length, take, drop, map, ap, refl, sym, ◌∙◌, arith}
 use Rattle.std.proofs.lemmas.List.{length-take-le, take_all, drop_all, take-map}
 use Rattle.std.specs.Prelude.{Option, Some, None, option_map}
@@ -11,16 +11,16 @@ use Rattle.squawk_statements.specs.Children.{ends_statement, open_groups_after, 
 use Rattle.squawk_tree.proofs.FirstPart.{rest_len, more, more_of, first_tokens, first_part}
 use Rattle.squawk_kinds.specs.Role.{role}
 use Rattle.squawk_statements.specs.declared.division.Division.{Division}
-use Rattle.squawk_tree.proofs.JoinIsParse.{parse-joined}
-use Rattle.squawk_tree.proofs.RootLemmas.{first-within}
+use Rattle.squawk_tree.proofs.JoinIsParse.{parse_joined}
+use Rattle.squawk_tree.proofs.RootLemmas.{more_within}
 
--- the first roles up to the one that closes
-closing-take : (d : Division) (g : ℕ) (fs : List Role) (k : ℕ) → statement_end d g fs ≡ Some k
+-- the tokens up to the end of a statement contain that end, at the same index
+statement_end_take : (d : Division) (g : ℕ) (fs : List Role) (k : ℕ) → statement_end d g fs ≡ Some k
     → statement_end d g (take k fs) ≡ Some k
-closing-take d g [] k h = cc
-closing-take d g (f ∷ fs) k h =
+statement_end_take d g [] k h = cc
+statement_end_take d g (f ∷ fs) k h =
     by (ends_statement d g f) refl (statement_end d (open_groups_after g f) fs) refl h (λ j e.
-    closing-take d (open_groups_after g f) fs j e)
+    statement_end_take d (open_groups_after g f) fs j e)
   where
     by : (b : Bool) → ends_statement d g f ≡ b → (o : Option ℕ)
         → statement_end d (open_groups_after g f) fs ≡ o
@@ -36,14 +36,14 @@ closing-take d g (f ∷ fs) k h =
         let next : k ≡ suc j = cc in
         rw next (rw is (ap (option_map suc) (more j found)))
 
--- where nothing closes, nothing does among the first
-none-take : (d : Division) (g n : ℕ) (fs : List Role) → statement_end d g fs ≡ None
+-- where no statement ends in a list, none ends in a prefix of it
+no_end_take : (d : Division) (g n : ℕ) (fs : List Role) → statement_end d g fs ≡ None
     → statement_end d g (take n fs) ≡ None
-none-take d g zero fs h = refl
-none-take d g (suc n) [] h = refl
-none-take d g (suc n) (f ∷ fs) h =
+no_end_take d g zero fs h = refl
+no_end_take d g (suc n) [] h = refl
+no_end_take d g (suc n) (f ∷ fs) h =
     by (ends_statement d g f) (statement_end d (open_groups_after g f) fs) refl h (λ e.
-    none-take d (open_groups_after g f) n fs e)
+    no_end_take d (open_groups_after g f) n fs e)
   where
     by : (b : Bool) (o : Option ℕ) → statement_end d (open_groups_after g f) fs ≡ o
         → cond b (Some 1) (option_map suc o) ≡ None
@@ -55,9 +55,10 @@ none-take d g (suc n) (f ∷ fs) h =
     by false None found e more = ap (option_map suc) (more found)
     by false (Some j) found e more = cc
 
-solid-take : (fs : List Role) → trimmed_len (take (trimmed_len fs) fs) ≡ trimmed_len fs
-solid-take [] = refl
-solid-take (f ∷ fs) = by (is_trivia f && trimmed_len fs == 0) refl (solid-take fs)
+-- trimming twice is trimming once
+trimmed_len_take : (fs : List Role) → trimmed_len (take (trimmed_len fs) fs) ≡ trimmed_len fs
+trimmed_len_take [] = refl
+trimmed_len_take (f ∷ fs) = by (is_trivia f && trimmed_len fs == 0) refl (trimmed_len_take fs)
   where
     by : (b : Bool) → (is_trivia f && trimmed_len fs == 0) ≡ b
         → trimmed_len (take (trimmed_len fs) fs) ≡ trimmed_len fs
@@ -67,39 +68,41 @@ solid-take (f ∷ fs) = by (is_trivia f && trimmed_len fs == 0) refl (solid-take
     by false is more = ap (λ n. cond (is_trivia f && n == 0) 0 (suc n)) more
         ∙ ap (λ b. cond b 0 (suc (trimmed_len fs))) is
 
-rest-alone : (d : Division) (g : ℕ) (fs : List Role)
+-- The tokens of a child are as many where no others follow it: of a statement, and of any child.
+rest_len_alone : (d : Division) (g : ℕ) (fs : List Role)
     → rest_len (statement_end d g (take (rest_len (statement_end d g fs) fs) fs))
     (take (rest_len (statement_end d g fs) fs) fs) ≡ rest_len (statement_end d g fs) fs
-rest-alone d g fs = by (statement_end d g fs) refl
+rest_len_alone d g fs = by (statement_end d g fs) refl
   where
     by : (o : Option ℕ) → statement_end d g fs ≡ o
         → rest_len (statement_end d g (take (rest_len o fs) fs)) (take (rest_len o fs) fs)
         ≡ rest_len o fs
     by None is = ap (λ o. rest_len o (take (trimmed_len fs) fs))
-        (none-take d g (trimmed_len fs) fs is) ∙ solid-take fs
-    by (Some k) is = ap (λ o. rest_len o (take k fs)) (closing-take d g fs k is)
+        (no_end_take d g (trimmed_len fs) fs is) ∙ trimmed_len_take fs
+    by (Some k) is = ap (λ o. rest_len o (take k fs)) (statement_end_take d g fs k is)
 
-more-alone : (d : Division) (f : Role) (fs : List Role)
+more_alone : (d : Division) (f : Role) (fs : List Role)
     → more d f (take (more d f fs) fs) ≡ more d f fs
-more-alone d Trivia fs = refl
-more-alone d Semicolon fs = refl
-more-alone d Terminator fs = refl
-more-alone d Command fs = refl
-more-alone d Open fs = rest-alone d 1 fs
-more-alone d Close fs = rest-alone d 0 fs
-more-alone d Other fs = rest-alone d 0 fs
+more_alone d Trivia fs = refl
+more_alone d Semicolon fs = refl
+more_alone d Terminator fs = refl
+more_alone d Command fs = refl
+more_alone d Open fs = rest_len_alone d 1 fs
+more_alone d Close fs = rest_len_alone d 0 fs
+more_alone d Other fs = rest_len_alone d 0 fs
 
-parts-alone : (d : Division) (t : LexedToken) (ts : List LexedToken)
+-- the tokens of a child, divided by themselves, are one part
+parts_alone : (d : Division) (t : LexedToken) (ts : List LexedToken)
     → parts lexed_role d (t ∷ take (more_of lexed_role d t ts) ts)
     ≡ (t ∷ take (more_of lexed_role d t ts) ts) ∷ []
-parts-alone d t ts =
+parts_alone d t ts =
     let m = more_of lexed_role d t ts in
     let us = take m ts in
-    let fits : m ≤ length ts = first-within d t ts in
+    let fits : m ≤ length ts = more_within d t ts in
     let size : length us ≡ m = length-take-le m ts fits in
     let roles : map lexed_role us ≡ take m (map lexed_role ts) = sym (take-map lexed_role m ts) in
     let same : more_of lexed_role d t us ≡ m = ap (λ fs. more d (role t.kind) fs) roles
-    ∙ more-alone d (role t.kind) (map lexed_role ts) in
+    ∙ more_alone d (role t.kind) (map lexed_role ts) in
     let whole : take (more_of lexed_role d t us) us ≡ us =
     take_all (more_of lexed_role d t us) us (omega arith) in
     let none : drop (more_of lexed_role d t us) us ≡ [] =
@@ -108,15 +111,15 @@ parts-alone d t ts =
     ∙ ap (λ xs. (t ∷ xs) ∷ parts lexed_role d (drop (more_of lexed_role d t us) us)) whole
     ∙ ap (λ rest. (t ∷ us) ∷ parts lexed_role d rest) none
 
--- a child parsed by itself is itself under a root
-pub parse-alone : (d : Division) (t : LexedToken) (ts : List LexedToken)
+-- the parse of the tokens of a child is that child under a root
+pub parse_alone : (d : Division) (t : LexedToken) (ts : List LexedToken)
     → are_sound (take (first_child_len lexed_role d (t ∷ ts)) (t ∷ ts)) ≡ true
     → parse_of_tokens d (take (first_child_len lexed_role d (t ∷ ts)) (t ∷ ts))
     ≡ join (child_of d (take (first_child_len lexed_role d (t ∷ ts)) (t ∷ ts)) ∷ [])
-parse-alone d t ts sound =
+parse_alone d t ts sound =
     let own : List LexedToken = t ∷ take (more_of lexed_role d t ts) ts in
     let own_is : take (first_child_len lexed_role d (t ∷ ts)) (t ∷ ts) ≡ own =
     ap (λ n. take n (t ∷ ts)) (first_tokens d (role t.kind) (map lexed_role ts)) in
-    parse-joined d (take (first_child_len lexed_role d (t ∷ ts)) (t ∷ ts)) sound
+    parse_joined d (take (first_child_len lexed_role d (t ∷ ts)) (t ∷ ts)) sound
     ∙ ap (λ ps. join (map (child_of d) ps)) (ap (parts lexed_role d) own_is
-    ∙ parts-alone d t ts ∙ ap (λ p. p ∷ []) (sym own_is))
+    ∙ parts_alone d t ts ∙ ap (λ p. p ∷ []) (sym own_is))

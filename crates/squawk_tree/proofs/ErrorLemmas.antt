@@ -1,4 +1,4 @@
--- The errors, token by token, are those read off the steps.
+-- The errors of a parse by token are those by step, where the steps cover the tokens in order.
 use Rattle.std.proofs.Common.{◌≡◌, ℕ, zero, suc, ◌+◌, ◌==◌, ◌<◌, ◌≤◌, Bool, true, false, ◌&&◌, cond, List, [], ◌∷◌, ◌++◌, drop, map, append_assoc, refl, ap, sym, ◌∙◌, arith, nat_lt}
 use Rattle.std.proofs.lemmas.Bool.Decides.{nat_tests}
 use Rattle.squawk_events.specs.Kinds.{is_trivia_kind}
@@ -14,22 +14,24 @@ use Rattle.squawk_lexed.specs.LexedToken.{LexedToken}
 use Rattle.squawk_tree.specs.Errors.{error, numbers_at, errors_by_token, errors}
 use Rattle.squawk_tree.specs.Walk.{errors_by_step}
 use Rattle.squawk_lexed.specs.Stored.{errors_at}
-use Rattle.squawk_tree.proofs.LeavesLemmas.{next_of, none_behind, kept_behind, never_closed}
+use Rattle.squawk_tree.proofs.LeavesLemmas.{next_of, none_after_trivia, kinds_after_trivia, never_closed}
 
--- whether steps give out all of the tokens from a place on, each Error at the start of the next
+-- whether steps contain all of the tokens from an offset, each `Error` at the start of the next one
 abbrev pub runs : ℕ → List LexedToken → List StrStep → Bool
 runs at ts [] = is_empty ts
 runs at ts (out.Enter kind ∷ xs) = runs at ts xs
 runs at ts (out.Exit ∷ xs) = runs at ts xs
-runs at ts (out.Error number place ∷ xs) = place == at && runs at ts xs
+runs at ts (out.Error number offset ∷ xs) = offset == at && runs at ts xs
 runs at [] (out.Token kind start end ∷ xs) = false
 runs at (t ∷ ts) (out.Token kind start end ∷ xs) = runs (at + t.len) ts xs
 
-runs_front : (at : ℕ) (ts : List LexedToken) (ys : List StrStep)
+-- reading leading trivia, before other steps and before one more step that is woven with it
+runs_leading_trivia : (at : ℕ) (ts : List LexedToken) (ys : List StrStep)
     → runs at ts (leading_trivia at ts ++ ys)
     ≡ runs (leading_trivia_end at ts) (after_leading_trivia ts) ys
-runs_front at [] ys = refl
-runs_front at (t ∷ ts) ys = by (is_trivia_kind t.kind) (runs_front (at + t.len) ts ys)
+runs_leading_trivia at [] ys = refl
+runs_leading_trivia at (t ∷ ts) ys =
+    by (is_trivia_kind t.kind) (runs_leading_trivia (at + t.len) ts ys)
   where
     by : (b : Bool) → runs (at + t.len) ts (leading_trivia (at + t.len) ts ++ ys)
         ≡ runs (leading_trivia_end (at + t.len) ts) (after_leading_trivia ts) ys
@@ -40,23 +42,25 @@ runs_front at (t ∷ ts) ys = by (is_trivia_kind t.kind) (runs_front (at + t.len
     by true rest = rest
     by false rest = refl
 
-runs_front_step : (at : ℕ) (ts : List LexedToken) (y : StrStep) (ys : List StrStep)
+runs_trivia_step : (at : ℕ) (ts : List LexedToken) (y : StrStep) (ys : List StrStep)
     → runs at ts ((leading_trivia at ts ++ y ∷ []) ++ ys)
     ≡ runs (leading_trivia_end at ts) (after_leading_trivia ts) (y ∷ ys)
-runs_front_step at ts y ys = ap (runs at ts) (append_assoc (leading_trivia at ts) (y ∷ []) ys)
-    ∙ runs_front at ts (y ∷ ys)
+runs_trivia_step at ts y ys = ap (runs at ts) (append_assoc (leading_trivia at ts) (y ∷ []) ys)
+    ∙ runs_leading_trivia at ts (y ∷ ys)
 
-pub same_place : (at : ℕ) (b : Bool) → (at == at && b) ≡ b
-same_place at b = grind (arith, nat_tests)
+-- an offset is equal to itself
+pub same_offset : (at : ℕ) (b : Bool) → (at == at && b) ≡ b
+same_offset at b = grind (arith, nat_tests)
 
+-- woven steps of a balanced output contain all of the tokens
 runs_woven : (d at : ℕ) (ts : List LexedToken) (xs : List Step) → closes (suc d) xs ≡ true
     → kinds_without_trivia ts ≡ token_kinds xs → runs at ts (weave_from at ts xs) ≡ true
 runs_woven d at ts [] h e = never_closed d h
 runs_woven d at ts (Enter kind ∷ xs) h e =
-    runs_front_step at ts (out.Enter kind) (weave_from (leading_trivia_end at ts)
+    runs_trivia_step at ts (out.Enter kind) (weave_from (leading_trivia_end at ts)
     (after_leading_trivia ts) xs)
     ∙ runs_woven (suc d) (leading_trivia_end at ts) (after_leading_trivia ts) xs h
-    (kept_behind ts ∙ e)
+    (kinds_after_trivia ts ∙ e)
 runs_woven d at ts (Token kind ∷ xs) h e =
     let next = next_of ts kind (token_kinds xs) e in
     let kinds : kinds_without_trivia (drop 1 (after_leading_trivia ts)) ≡ token_kinds xs =
@@ -72,7 +76,7 @@ runs_woven d at ts (Token kind ∷ xs) h e =
     ≡ runs end (drop 1 (after_leading_trivia ts)) rest =
     first_token (leading_trivia_end at ts) (after_leading_trivia ts) next.token next.rest kind
     (leading_trivia_end at ts) end rest next.is in
-    runs_front_step at ts (out.Token kind (leading_trivia_end at ts) end) rest ∙ here ∙ more
+    runs_trivia_step at ts (out.Token kind (leading_trivia_end at ts) end) rest ∙ here ∙ more
   where
     first_token : (at : ℕ) (us : List LexedToken) (t : LexedToken) (vs : List LexedToken)
         (kind start end : ℕ) (ys : List StrStep) → us ≡ t ∷ vs
@@ -80,45 +84,48 @@ runs_woven d at ts (Token kind ∷ xs) h e =
     first_token at [] t vs kind start end ys e = absurd (cc)
     first_token at (u ∷ us) t vs kind start end ys e = refl
 runs_woven d at ts (Exit ∷ []) h e =
-    let none = none_behind ts e in
-    runs_front_step at ts out.Exit []
+    let none = none_after_trivia ts e in
+    runs_trivia_step at ts out.Exit []
     ∙ ap (λ u. runs (leading_trivia_end at ts) u (out.Exit ∷ [])) none
 runs_woven zero at ts (Exit ∷ x ∷ xs) h e = absurd (cc)
 runs_woven (suc d) at ts (Exit ∷ x ∷ xs) h e = runs_woven d at ts (x ∷ xs) h e
-runs_woven d at ts (Error number ∷ xs) h e = same_place at (runs at ts (weave_from at ts xs))
+runs_woven d at ts (Error number ∷ xs) h e = same_offset at (runs at ts (weave_from at ts xs))
     ∙ runs_woven d at ts xs h e
 
+-- the parts of a conjunction
 pub split : (a b : Bool) → (a && b) ≡ true → (a ≡ true) × (b ≡ true)
 split true b h = (refl, h)
 split false b h = absurd (cc)
 
-is_place : (p at : ℕ) → (p == at) ≡ true → p ≡ at
-is_place p at h = grind (arith, nat_tests)
+-- equality of offsets as a truth value
+is_offset : (p at : ℕ) → (p == at) ≡ true → p ≡ at
+is_offset p at h = grind (arith, nat_tests)
 
-not_place : (p q : ℕ) → p < q → (p == q) ≡ false
-not_place p q h = grind (arith, nat_tests)
+not_offset_before : (p q : ℕ) → p < q → (p == q) ≡ false
+not_offset_before p q h = grind (arith, nat_tests)
 
-not_place_back : (p q : ℕ) → q < p → (p == q) ≡ false
-not_place_back p q h = grind (arith, nat_tests)
+not_offset_after : (p q : ℕ) → q < p → (p == q) ≡ false
+not_offset_after p q h = grind (arith, nat_tests)
 
+-- a nonempty token has a length above 0
 some_len : (n : ℕ) → nat_lt 0 n ≡ true → 0 < n
 some_len n h = grind (arith, nat_tests)
 
--- no Error stands before the place
+-- no `Error` step is before the offset at which the steps begin
 none_before : (q at : ℕ) (ts : List LexedToken) (xs : List StrStep) → q < at → runs at ts xs ≡ true
     → numbers_at q xs ≡ []
 none_before q at ts [] h r = refl
 none_before q at ts (out.Enter kind ∷ xs) h r = none_before q at ts xs h r
 none_before q at ts (out.Exit ∷ xs) h r = none_before q at ts xs h r
-none_before q at ts (out.Error number place ∷ xs) h r =
-    let s = split (place == at) (runs at ts xs) r in
-    let is = is_place place at s.0 in
-    rw (not_place_back place q (omega arith)) (none_before q at ts xs h s.1)
+none_before q at ts (out.Error number offset ∷ xs) h r =
+    let s = split (offset == at) (runs at ts xs) r in
+    let is = is_offset offset at s.0 in
+    rw (not_offset_after offset q (omega arith)) (none_before q at ts xs h s.1)
 none_before q at [] (out.Token kind start end ∷ xs) h r = absurd (cc)
 none_before q at (t ∷ ts) (out.Token kind start end ∷ xs) h r =
     none_before q (at + t.len) ts xs (omega arith) r
 
--- the errors from a place on are those of any list with the same numbers from there on
+-- the errors from an offset on depend only on the `Error` steps from there on
 same_errors : (p : ℕ) (ts : List LexedToken) (xs ys : List StrStep)
     → ((q : ℕ) → p ≤ q → numbers_at q xs ≡ numbers_at q ys)
     → errors_by_token p ts xs ≡ errors_by_token p ts ys
@@ -129,9 +136,7 @@ same_errors p (t ∷ ts) xs ys h =
     ∙ ap (λ es. map (error p (p + t.len)) (numbers_at p ys) ++ errors_at p t.faults
     ++ es) (same_errors (p + t.len) ts xs ys (λ q le. h q (omega arith)))
 
-at_place : (at : ℕ) → (at == at) ≡ true
-at_place at = grind (arith, nat_tests)
-
+-- the errors by token are those by step
 pub by_token_is_by_step : (at : ℕ) (ts : List LexedToken) (xs : List StrStep) → runs at ts xs ≡ true
     → are_sound ts ≡ true → errors_by_token at ts xs ≡ errors_by_step at ts xs
 by_token_is_by_step at [] [] r s = refl
@@ -140,18 +145,18 @@ by_token_is_by_step at ts (out.Enter kind ∷ xs) r s =
     same_errors at ts (out.Enter kind ∷ xs) xs (λ q le. refl) ∙ by_token_is_by_step at ts xs r s
 by_token_is_by_step at ts (out.Exit ∷ xs) r s = same_errors at ts (out.Exit ∷ xs) xs (λ q le. refl)
     ∙ by_token_is_by_step at ts xs r s
-by_token_is_by_step at [] (out.Error number place ∷ xs) r s =
-    let p = split (place == at) (runs at [] xs) r in
+by_token_is_by_step at [] (out.Error number offset ∷ xs) r s =
+    let p = split (offset == at) (runs at [] xs) r in
     let end : at ≡ at + 0 = omega arith in
     rw p.0 (ap (λ m. error at m number ∷ map (error at at) (numbers_at at xs)) end
     ∙ ap (λ es. error at (at + 0) number ∷ es) (by_token_is_by_step at [] xs p.1 s))
-by_token_is_by_step at (t ∷ ts) (out.Error number place ∷ xs) r s =
-    let p = split (place == at) (runs at (t ∷ ts) xs) r in
-    let is = is_place place at p.0 in
+by_token_is_by_step at (t ∷ ts) (out.Error number offset ∷ xs) r s =
+    let p = split (offset == at) (runs at (t ∷ ts) xs) r in
+    let is = is_offset offset at p.0 in
     let some = some_len t.len (split (nat_lt 0 t.len) (faults_within t.len t.faults
     && are_sound ts) s).0 in
-    let rest = same_errors (at + t.len) ts (out.Error number place ∷ xs) xs (λ q le. let e =
-    not_place place q (omega arith) in rw e refl) in
+    let rest = same_errors (at + t.len) ts (out.Error number offset ∷ xs) xs (λ q le. let e =
+    not_offset_before offset q (omega arith) in rw e refl) in
     rw (p.0, rest) (ap (λ es. error at (at + t.len) number
     ∷ es) (by_token_is_by_step at (t ∷ ts) xs p.1 s))
 by_token_is_by_step at [] (out.Token kind start end ∷ xs) r s = absurd (cc)
@@ -164,6 +169,7 @@ by_token_is_by_step at (t ∷ ts) (out.Token kind start end ∷ xs) r s =
     rw (none, rest) (ap (λ es. errors_at at t.faults
     ++ es) (by_token_is_by_step (at + t.len) ts xs r s2.1))
 
+-- the same for the woven steps of a balanced output
 pub errors_whole : (ts : List LexedToken) (xs : List Step) → is_balanced xs ≡ true
     → token_kinds xs ≡ kinds_without_trivia ts → are_sound ts ≡ true
     → errors ts (weave ts xs) ≡ errors_by_step 0 ts (weave ts xs)

@@ -1,4 +1,4 @@
--- The errors of a text are those of its children.
+-- The errors of a text are those of its children, shifted.
 use Rattle.std.proofs.Common.{◌≡◌, ℕ, zero, suc, ◌+◌, ◌==◌, ◌≤◌, Bool, true, false, ◌&&◌, cond, List, [], ◌∷◌, ◌++◌, length, take, drop, map, append_assoc, refl, ap, sym, ◌∙◌, arith, nat_lt}
 use Rattle.std.proofs.lemmas.List.{take-append-drop, length-drop, map-append}
 use Rattle.squawk_events.specs.Kinds.{is_trivia_kind, has_no_trivia}
@@ -23,28 +23,30 @@ use Rattle.squawk_tree.specs.Walk.{errors_by_step}
 use Rattle.squawk_lexed.specs.Stored.{errors_at}
 use Rattle.squawk_tree.specs.Join.{woven_child, shifted_step, shifted_error}
 use Rattle.squawk_tree.specs.ParseOf.{lexed_role}
-use Rattle.squawk_tree.proofs.CutLemmas.{trivia_form, first_cut}
+use Rattle.squawk_tree.proofs.CutLemmas.{trivia_role, first_cut}
 use Rattle.squawk_tree.specs.Errors.{errors}
 use Rattle.squawk_tree.proofs.JoinLemmas.{joined_errors}
 use Rattle.squawk_statements.specs.Plain.{plain}
-use Rattle.squawk_tree.proofs.ErrorLemmas.{runs, split, same_place, by_token_is_by_step}
+use Rattle.squawk_tree.proofs.ErrorLemmas.{runs, split, same_offset, by_token_is_by_step}
 use Rattle.squawk_tree.proofs.JoinLemmas.{placed as placed_law, fits, both, placed_from, fits_child, leaf_woven, node_woven, shift_child, further}
 
--- whether steps give out all of the tokens, each Error at the start of one of them
+-- whether steps contain all of the tokens, each `Error` at the start of one of them
 abbrev inner : ℕ → List LexedToken → List StrStep → Bool
 inner at ts [] = is_empty ts
 inner at ts (out.Enter kind ∷ xs) = inner at ts xs
 inner at ts (out.Exit ∷ xs) = inner at ts xs
-inner at [] (out.Error number place ∷ xs) = false
-inner at (t ∷ ts) (out.Error number place ∷ xs) = place == at && inner at (t ∷ ts) xs
+inner at [] (out.Error number offset ∷ xs) = false
+inner at (t ∷ ts) (out.Error number offset ∷ xs) = offset == at && inner at (t ∷ ts) xs
 inner at [] (out.Token kind start end ∷ xs) = false
 inner at (t ∷ ts) (out.Token kind start end ∷ xs) = inner (at + t.len) ts xs
 
-inner_front : (at : ℕ) (ts : List LexedToken) (ys : List StrStep)
+-- reading leading trivia, before other steps and before one more step that is woven with it
+inner_leading_trivia : (at : ℕ) (ts : List LexedToken) (ys : List StrStep)
     → inner at ts (leading_trivia at ts ++ ys)
     ≡ inner (leading_trivia_end at ts) (after_leading_trivia ts) ys
-inner_front at [] ys = refl
-inner_front at (t ∷ ts) ys = by (is_trivia_kind t.kind) (inner_front (at + t.len) ts ys)
+inner_leading_trivia at [] ys = refl
+inner_leading_trivia at (t ∷ ts) ys =
+    by (is_trivia_kind t.kind) (inner_leading_trivia (at + t.len) ts ys)
   where
     by : (b : Bool) → inner (at + t.len) ts (leading_trivia (at + t.len) ts ++ ys)
         ≡ inner (leading_trivia_end (at + t.len) ts) (after_leading_trivia ts) ys
@@ -55,12 +57,13 @@ inner_front at (t ∷ ts) ys = by (is_trivia_kind t.kind) (inner_front (at + t.l
     by true rest = rest
     by false rest = refl
 
-inner_step : (at : ℕ) (ts : List LexedToken) (y : StrStep) (ys : List StrStep)
+inner_trivia_step : (at : ℕ) (ts : List LexedToken) (y : StrStep) (ys : List StrStep)
     → inner at ts ((leading_trivia at ts ++ y ∷ []) ++ ys)
     ≡ inner (leading_trivia_end at ts) (after_leading_trivia ts) (y ∷ ys)
-inner_step at ts y ys = ap (inner at ts) (append_assoc (leading_trivia at ts) (y ∷ []) ys)
-    ∙ inner_front at ts (y ∷ ys)
+inner_trivia_step at ts y ys = ap (inner at ts) (append_assoc (leading_trivia at ts) (y ∷ []) ys)
+    ∙ inner_leading_trivia at ts (y ∷ ys)
 
+-- reading a `Token` and an `Error` where a token remains
 first_token : (at : ℕ) (us : List LexedToken) (kind start end : ℕ) (ys : List StrStep)
     → is_empty us ≡ false → inner at us (out.Token kind start end ∷ ys)
     ≡ inner (at + next_len us) (drop 1 us) ys
@@ -70,14 +73,15 @@ first_token at (u ∷ us) kind start end ys e = refl
 some_error : (at : ℕ) (us : List LexedToken) (number : ℕ) (ys : List StrStep) → is_empty us ≡ false
     → inner at us (out.Error number at ∷ ys) ≡ inner at us ys
 some_error at [] number ys e = absurd (cc)
-some_error at (u ∷ us) number ys e = same_place at (inner at (u ∷ us) ys)
+some_error at (u ∷ us) number ys e = same_offset at (inner at (u ∷ us) ys)
 
+-- woven steps that fit their tokens contain all of them
 inner_woven : (at : ℕ) (ts : List LexedToken) (xs : List Step) → fits xs ts ≡ true
     → inner at ts (weave_from at ts xs) ≡ true
 inner_woven at ts [] h = h
 inner_woven at ts (Enter kind ∷ xs) h =
     let hs = both (is_empty (after_leading_trivia ts)) (fits xs (after_leading_trivia ts)) h in
-    inner_step at ts (out.Enter kind) (weave_from (leading_trivia_end at ts)
+    inner_trivia_step at ts (out.Enter kind) (weave_from (leading_trivia_end at ts)
     (after_leading_trivia ts) xs)
     ∙ inner_woven (leading_trivia_end at ts) (after_leading_trivia ts) xs hs.1
 inner_woven at ts (Token kind ∷ xs) h =
@@ -87,7 +91,7 @@ inner_woven at ts (Token kind ∷ xs) h =
     let rest : List StrStep =
     weave_from (leading_trivia_end at ts + next_len (after_leading_trivia ts))
     (drop 1 (after_leading_trivia ts)) xs in
-    inner_step at ts (out.Token kind (leading_trivia_end at ts) end) rest
+    inner_trivia_step at ts (out.Token kind (leading_trivia_end at ts) end) rest
     ∙ first_token (leading_trivia_end at ts) (after_leading_trivia ts) kind
     (leading_trivia_end at ts) end rest hs.0
     ∙ inner_woven end (drop 1 (after_leading_trivia ts)) xs hs.1
@@ -98,16 +102,18 @@ inner_woven at ts (Error number ∷ xs) h =
     let hs = both (is_empty ts) (fits xs ts) h in
     some_error at ts number (weave_from at ts xs) hs.0 ∙ inner_woven at ts xs hs.1
 
+-- errors of steps that contain all of their tokens, before other steps and tokens
 by_step_append : (at : ℕ) (p r : List LexedToken) (xs ys : List StrStep) → inner at p xs ≡ true
-    → errors_by_step at (p ++ r) (xs ++ ys) ≡ errors_by_step at p xs ++ errors_by_step (at + total_len p) r ys
+    → errors_by_step at (p ++ r) (xs ++ ys)
+    ≡ errors_by_step at p xs ++ errors_by_step (at + total_len p) r ys
 by_step_append at [] r [] ys h = ap (λ n. errors_by_step n r ys) (omega arith)
 by_step_append at (t ∷ p) r [] ys h = absurd (cc)
 by_step_append at p r (out.Enter kind ∷ xs) ys h = by_step_append at p r xs ys h
 by_step_append at p r (out.Exit ∷ xs) ys h = by_step_append at p r xs ys h
-by_step_append at [] r (out.Error number place ∷ xs) ys h = absurd (cc)
-by_step_append at (t ∷ p) r (out.Error number place ∷ xs) ys h =
+by_step_append at [] r (out.Error number offset ∷ xs) ys h = absurd (cc)
+by_step_append at (t ∷ p) r (out.Error number offset ∷ xs) ys h =
     ap (λ es. error at (at + t.len) number ∷ es)
-    (by_step_append at (t ∷ p) r xs ys (split (place == at) (inner at (t ∷ p) xs) h).1)
+    (by_step_append at (t ∷ p) r xs ys (split (offset == at) (inner at (t ∷ p) xs) h).1)
 by_step_append at [] r (out.Token kind start end ∷ xs) ys h = absurd (cc)
 by_step_append at (t ∷ p) r (out.Token kind start end ∷ xs) ys h =
     let e : at + t.len + total_len p ≡ at + (t.len + total_len p) = omega arith in
@@ -116,11 +122,13 @@ by_step_append at (t ∷ p) r (out.Token kind start end ∷ xs) ys h =
     ∙ sym (append_assoc (errors_at at t.faults) (errors_by_step (at + t.len) p xs)
     (errors_by_step (at + (t.len + total_len p)) r ys))
 
+-- the errors of children, the first of which begins at an offset
 abbrev pub errors_of_parts : Division → ℕ → List (List LexedToken) → List ParseError
 errors_of_parts d at [] = []
 errors_of_parts d at (part ∷ rest) = errors_by_step at part (woven_child d at part)
     ++ errors_of_parts d (at + total_len part) rest
 
+-- a leaf, and a node, contain all of their tokens
 inner_leaf : (d : Division) (at : ℕ) (t : LexedToken) → is_trivia_kind t.kind ≡ true
     → inner at (t ∷ []) (woven_child d at (t ∷ [])) ≡ true
 inner_leaf d at t is = ap (inner at (t ∷ [])) (leaf_woven d at t [] is)
@@ -131,19 +139,22 @@ inner_node : (d : Division) (at : ℕ) (t : LexedToken) (ts : List LexedToken)
 inner_node d at t ts is h = ap (inner at (t ∷ ts)) (node_woven d at t ts is)
     ∙ inner_woven at (t ∷ ts) (child_steps d (kinds_without_trivia (t ∷ ts))) h
 
--- one child's errors, and those of the others
+-- the errors of the first child, and those of the others
 one_part : (d : Division) (at : ℕ) (p r : List LexedToken) (ps : List (List LexedToken))
     → inner at p (woven_child d at p) ≡ true
     → errors_by_step (at + total_len p) r (placed_from d (at + total_len p) ps ++ out.Exit ∷ [])
     ≡ errors_of_parts d (at + total_len p) ps
-    → errors_by_step at (p ++ r) (placed_from d at (p ∷ ps) ++ out.Exit ∷ []) ≡ errors_of_parts d at (p ∷ ps)
+    → errors_by_step at (p ++ r) (placed_from d at (p ∷ ps) ++ out.Exit ∷ [])
+    ≡ errors_of_parts d at (p ∷ ps)
 one_part d at p r ps h rest =
-    ap (errors_by_step at (p ++ r)) (append_assoc (woven_child d at p) (placed_from d (at + total_len p) ps)
+    ap (errors_by_step at (p ++ r))
+    (append_assoc (woven_child d at p) (placed_from d (at + total_len p) ps)
     (out.Exit ∷ []))
     ∙ by_step_append at p r (woven_child d at p) (placed_from d (at + total_len p) ps ++ out.Exit
     ∷ []) h
     ∙ ap (λ es. errors_by_step at p (woven_child d at p) ++ es) rest
 
+-- the errors of the steps of all children are those of each
 pub errors_placed : (n : ℕ) (d : Division) (at : ℕ) (ts : List LexedToken) → length ts ≤ n
     → errors_by_step at ts (placed_from d at (parts lexed_role d ts) ++ out.Exit ∷ [])
     ≡ errors_of_parts d at (parts lexed_role d ts)
@@ -160,13 +171,13 @@ errors_placed (suc n) d at (t ∷ ts) h =
     whole true is =
         let none : more_of lexed_role d t ts ≡ 0 =
         ap (λ f. more d f (map lexed_role ts))
-        (trivia_form (role t.kind) (role_trivia t.kind ∙ is)) in
+        (trivia_role (role t.kind) (role_trivia t.kind ∙ is)) in
         ap (λ m. inner at (t ∷ take m ts) (woven_child d at (t ∷ take m ts))) none
         ∙ inner_leaf d at t is
     whole false is =
         inner_node d at t (take (more_of lexed_role d t ts) ts) is
         (fits_child d t (take (more_of lexed_role d t ts) ts) is
-        (first_cut d (role t.kind) ts).solid)
+        (first_cut d (role t.kind) ts).trimmed)
 
     by : errors_by_step (at + total_len (t ∷ take (more_of lexed_role d t ts) ts))
         (drop (more_of lexed_role d t ts) ts)
@@ -174,7 +185,8 @@ errors_placed (suc n) d at (t ∷ ts) h =
         (parts lexed_role d (drop (more_of lexed_role d t ts) ts)) ++ out.Exit ∷ [])
         ≡ errors_of_parts d (at + total_len (t ∷ take (more_of lexed_role d t ts) ts))
         (parts lexed_role d (drop (more_of lexed_role d t ts) ts))
-        → errors_by_step at (t ∷ ts) (placed_from d at (parts lexed_role d (t ∷ ts)) ++ out.Exit ∷ [])
+        → errors_by_step at (t ∷ ts)
+        (placed_from d at (parts lexed_role d (t ∷ ts)) ++ out.Exit ∷ [])
         ≡ errors_of_parts d at (parts lexed_role d (t ∷ ts))
     by rest =
         let m = more_of lexed_role d t ts in
@@ -192,49 +204,58 @@ errors_placed (suc n) d at (t ∷ ts) h =
 
 -- ---- shifts
 
-moved_placed : (n at : ℕ) (fs : List Fault)
+-- Errors are shifted with the offset at which the tokens begin: those of faults, of steps, and of a
+-- child.
+shifted_faults : (n at : ℕ) (fs : List Fault)
     → errors_at (at + n) fs ≡ map (shifted_error n) (errors_at at fs)
-moved_placed n at [] = refl
-moved_placed n at (f ∷ fs) =
+shifted_faults n at [] = refl
+shifted_faults n at (f ∷ fs) =
     ap (λ a. error a (at + n + f.end) f.number ∷ errors_at (at + n) fs) (further at n f.start)
     ∙ ap (λ b. error (at + f.start + n) b f.number ∷ errors_at (at + n) fs) (further at n f.end)
-    ∙ ap (λ es. error (at + f.start + n) (at + f.end + n) f.number ∷ es) (moved_placed n at fs)
+    ∙ ap (λ es. error (at + f.start + n) (at + f.end + n) f.number ∷ es) (shifted_faults n at fs)
 
-moved_by_step : (n at : ℕ) (ts : List LexedToken) (xs : List StrStep)
-    → errors_by_step (at + n) ts (map (shifted_step n) xs) ≡ map (shifted_error n) (errors_by_step at ts xs)
-moved_by_step n at ts [] = refl
-moved_by_step n at ts (out.Enter kind ∷ xs) = moved_by_step n at ts xs
-moved_by_step n at ts (out.Exit ∷ xs) = moved_by_step n at ts xs
-moved_by_step n at ts (out.Error number place ∷ xs) =
+shifted_by_step : (n at : ℕ) (ts : List LexedToken) (xs : List StrStep)
+    → errors_by_step (at + n) ts (map (shifted_step n) xs)
+    ≡ map (shifted_error n) (errors_by_step at ts xs)
+shifted_by_step n at ts [] = refl
+shifted_by_step n at ts (out.Enter kind ∷ xs) = shifted_by_step n at ts xs
+shifted_by_step n at ts (out.Exit ∷ xs) = shifted_by_step n at ts xs
+shifted_by_step n at ts (out.Error number offset ∷ xs) =
     ap (λ e. error (at + n) e number ∷ errors_by_step (at + n) ts (map (shifted_step n) xs))
     (further at n (next_len ts)) ∙ ap (λ es.
-    error (at + n) (at + next_len ts + n) number ∷ es) (moved_by_step n at ts xs)
-moved_by_step n at [] (out.Token kind start end ∷ xs) =
-    ap (λ m. errors_by_step m [] (map (shifted_step n) xs)) (further at n 0) ∙ moved_by_step n (at + 0) [] xs
-moved_by_step n at (t ∷ ts) (out.Token kind start end ∷ xs) =
-    ap (λ m. errors_at (at + n) t.faults ++ errors_by_step m ts (map (shifted_step n) xs)) (further at n t.len)
-    ∙ ap (λ es. errors_at (at + n) t.faults ++ es) (moved_by_step n (at + t.len) ts xs)
-    ∙ ap (λ es. es ++ map (shifted_error n) (errors_by_step (at + t.len) ts xs)) (moved_placed n at t.faults)
+    error (at + n) (at + next_len ts + n) number ∷ es) (shifted_by_step n at ts xs)
+shifted_by_step n at [] (out.Token kind start end ∷ xs) =
+    ap (λ m. errors_by_step m [] (map (shifted_step n) xs)) (further at n 0)
+    ∙ shifted_by_step n (at + 0) [] xs
+shifted_by_step n at (t ∷ ts) (out.Token kind start end ∷ xs) =
+    ap (λ m. errors_at (at + n) t.faults ++ errors_by_step m ts (map (shifted_step n) xs))
+    (further at n t.len)
+    ∙ ap (λ es. errors_at (at + n) t.faults ++ es) (shifted_by_step n (at + t.len) ts xs)
+    ∙ ap (λ es. es ++ map (shifted_error n) (errors_by_step (at + t.len) ts xs))
+    (shifted_faults n at t.faults)
     ∙ sym (map-append (shifted_error n) (errors_at at t.faults) (errors_by_step (at + t.len) ts xs))
 
-pub moved_part : (d : Division) (n : ℕ) (p : List LexedToken)
-    → errors_by_step n p (woven_child d n p) ≡ map (shifted_error n) (errors_by_step 0 p (woven_child d 0 p))
-moved_part d n p = let e : n ≡ 0 + n = omega arith in ap (errors_by_step n p) (shift_child d n p)
+pub shifted_part : (d : Division) (n : ℕ) (p : List LexedToken)
+    → errors_by_step n p (woven_child d n p)
+    ≡ map (shifted_error n) (errors_by_step 0 p (woven_child d 0 p))
+shifted_part d n p = let e : n ≡ 0 + n = omega arith in ap (errors_by_step n p) (shift_child d n p)
     ∙ ap (λ m. errors_by_step m p (map (shifted_step n) (woven_child d 0 p))) e
-    ∙ moved_by_step n 0 p (woven_child d 0 p)
+    ∙ shifted_by_step n 0 p (woven_child d 0 p)
 
+-- steps whose errors are each at the start of a token have each at the start of the next token
 inner_runs : (at : ℕ) (ts : List LexedToken) (xs : List StrStep) → inner at ts xs ≡ true
     → runs at ts xs ≡ true
 inner_runs at ts [] h = h
 inner_runs at ts (out.Enter kind ∷ xs) h = inner_runs at ts xs h
 inner_runs at ts (out.Exit ∷ xs) h = inner_runs at ts xs h
-inner_runs at [] (out.Error number place ∷ xs) h = absurd (cc)
-inner_runs at (t ∷ ts) (out.Error number place ∷ xs) h =
-    let hs = split (place == at) (inner at (t ∷ ts) xs) h in
+inner_runs at [] (out.Error number offset ∷ xs) h = absurd (cc)
+inner_runs at (t ∷ ts) (out.Error number offset ∷ xs) h =
+    let hs = split (offset == at) (inner at (t ∷ ts) xs) h in
     rw hs.0 (inner_runs at (t ∷ ts) xs hs.1)
 inner_runs at [] (out.Token kind start end ∷ xs) h = absurd (cc)
 inner_runs at (t ∷ ts) (out.Token kind start end ∷ xs) h = inner_runs (at + t.len) ts xs h
 
+-- parts of sound tokens are sound
 tail_sound : (t : LexedToken) (ts : List LexedToken) → are_sound (t ∷ ts) ≡ true
     → are_sound ts ≡ true
 tail_sound t ts s =
@@ -254,7 +275,7 @@ sound_drop zero ts s = s
 sound_drop (suc m) [] s = refl
 sound_drop (suc m) (t ∷ ts) s = sound_drop m ts (tail_sound t ts s)
 
--- a child of its own tokens gives out all of them
+-- a child contains all of its tokens
 child_inner : (d : Division) (at : ℕ) (t : LexedToken) (ts : List LexedToken)
     → inner at (t ∷ take (more_of lexed_role d t ts) ts)
     (woven_child d at (t ∷ take (more_of lexed_role d t ts) ts)) ≡ true
@@ -266,18 +287,19 @@ child_inner d at t ts = by (is_trivia_kind t.kind) refl
     by true is =
         let none : more_of lexed_role d t ts ≡ 0 =
         ap (λ f. more d f (map lexed_role ts))
-        (trivia_form (role t.kind) (role_trivia t.kind ∙ is)) in
+        (trivia_role (role t.kind) (role_trivia t.kind ∙ is)) in
         ap (λ m. inner at (t ∷ take m ts) (woven_child d at (t ∷ take m ts))) none
         ∙ inner_leaf d at t is
     by false is =
         inner_node d at t (take (more_of lexed_role d t ts) ts) is
         (fits_child d t (take (more_of lexed_role d t ts) ts) is
-        (first_cut d (role t.kind) ts).solid)
+        (first_cut d (role t.kind) ts).trimmed)
 
+-- the errors of one child, and of all children, are shifted from those at offset 0
 own_errors : (d : Division) (at : ℕ) (p : List LexedToken) → inner 0 p (woven_child d 0 p) ≡ true
     → are_sound p ≡ true → errors_by_step at p (woven_child d at p)
     ≡ map (shifted_error at) (errors p (woven_child d 0 p))
-own_errors d at p h s = moved_part d at p
+own_errors d at p h s = shifted_part d at p
     ∙ ap (map (shifted_error at)) (sym (by_token_is_by_step 0 p (woven_child d 0 p)
     (inner_runs 0 p (woven_child d 0 p) h) s))
 
@@ -302,7 +324,7 @@ parts_errors (suc n) d at (t ∷ ts) h s =
     ++ es) rest
     ∙ ap (joined_errors d at) (sym tokens)
 
--- the errors of a text are its children's, joined
+-- the errors of a text are those of its children, joined
 pub join_errors_law : (d : Division) (ts : List LexedToken) → are_sound ts ≡ true
     → errors ts (weave ts (plain d (kinds_without_trivia ts)))
     ≡ errors_by_step 0 ts (weave ts (plain d (kinds_without_trivia ts)))
@@ -313,6 +335,7 @@ join_errors_law d ts sound walks =
     ∙ errors_placed (length ts) d 0 ts (omega arith)
     ∙ parts_errors (length ts) d 0 ts (omega arith) sound
 
+-- kinds without trivia contain no trivia
 one_kept : (kind : ℕ) (b : Bool) → is_trivia_kind kind ≡ b → (kinds : List ℕ)
     → has_no_trivia (cond b [] (kind ∷ []) ++ kinds) ≡ has_no_trivia kinds
 one_kept kind true is kinds = refl

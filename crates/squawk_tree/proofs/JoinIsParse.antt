@@ -1,4 +1,4 @@
--- The parse of tokens is the join of its children's.
+-- The parse of tokens is the join of its children.
 use Rattle.std.proofs.Common.{◌≡◌, ℕ, ◌+◌, true, List, [], ◌∷◌, ◌++◌, length, map, ap, refl, ◌∙◌, arith}
 use Rattle.squawk_events.specs.declared.steps.StrStep.{StrStep}
 use Rattle.squawk_events.specs.declared.steps.StrStep.TheVariants.{Enter, Token, Exit, Error}
@@ -18,52 +18,59 @@ use Rattle.squawk_tree.proofs.ErrorLemmas.{errors_whole}
 use Rattle.squawk_tree.proofs.JoinLemmas.{joined_from, joined_errors, join_law, parts_len}
 use Rattle.squawk_tree.proofs.JoinErrorLemmas.{join_errors_law, has_no_trivia_kept}
 
-pub without-append : (xs ys : List StrStep) → without_errors (xs ++ ys)
+-- Leaving out `Error` steps commutes with appending, and with shifting.
+pub without_errors_append : (xs ys : List StrStep) → without_errors (xs ++ ys)
     ≡ without_errors xs ++ without_errors ys
-without-append [] ys = refl
-without-append (Enter kind ∷ xs) ys = ap (λ zs. Enter kind ∷ zs) (without-append xs ys)
-without-append (Token kind start end ∷ xs) ys =
-    ap (λ zs. Token kind start end ∷ zs) (without-append xs ys)
-without-append (Exit ∷ xs) ys = ap (λ zs. Exit ∷ zs) (without-append xs ys)
-without-append (Error number at ∷ xs) ys = without-append xs ys
+without_errors_append [] ys = refl
+without_errors_append (Enter kind ∷ xs) ys =
+    ap (λ zs. Enter kind ∷ zs) (without_errors_append xs ys)
+without_errors_append (Token kind start end ∷ xs) ys =
+    ap (λ zs. Token kind start end ∷ zs) (without_errors_append xs ys)
+without_errors_append (Exit ∷ xs) ys = ap (λ zs. Exit ∷ zs) (without_errors_append xs ys)
+without_errors_append (Error number at ∷ xs) ys = without_errors_append xs ys
 
-without-shifted_step : (n : ℕ) (xs : List StrStep)
+without_errors_shifted : (n : ℕ) (xs : List StrStep)
     → without_errors (map (shifted_step n) xs) ≡ map (shifted_step n) (without_errors xs)
-without-shifted_step n [] = refl
-without-shifted_step n (Enter kind ∷ xs) = ap (λ zs. Enter kind ∷ zs) (without-shifted_step n xs)
-without-shifted_step n (Token kind start end ∷ xs) =
-    ap (λ zs. Token kind (start + n) (end + n) ∷ zs) (without-shifted_step n xs)
-without-shifted_step n (Exit ∷ xs) = ap (λ zs. Exit ∷ zs) (without-shifted_step n xs)
-without-shifted_step n (Error number at ∷ xs) = without-shifted_step n xs
+without_errors_shifted n [] = refl
+without_errors_shifted n (Enter kind ∷ xs) =
+    ap (λ zs. Enter kind ∷ zs) (without_errors_shifted n xs)
+without_errors_shifted n (Token kind start end ∷ xs) =
+    ap (λ zs. Token kind (start + n) (end + n) ∷ zs) (without_errors_shifted n xs)
+without_errors_shifted n (Exit ∷ xs) = ap (λ zs. Exit ∷ zs) (without_errors_shifted n xs)
+without_errors_shifted n (Error number at ∷ xs) = without_errors_shifted n xs
 
-steps-joined : (d : Division) (at : ℕ) (ps : List (List LexedToken))
+-- the steps and the errors of joined children
+steps_joined : (d : Division) (at : ℕ) (ps : List (List LexedToken))
     → without_errors (joined_from d at ps) ≡ steps_from at (map (child_of d) ps)
-steps-joined d at [] = refl
-steps-joined d at (p ∷ ps) =
-    without-append (map (shifted_step at) (woven_child d 0 p)) (joined_from d (at + total_len p) ps)
+steps_joined d at [] = refl
+steps_joined d at (p ∷ ps) =
+    without_errors_append (map (shifted_step at) (woven_child d 0 p))
+    (joined_from d (at + total_len p) ps)
     ∙ ap (λ zs. zs ++ without_errors (joined_from d (at + total_len p) ps))
-    (without-shifted_step at (woven_child d 0 p))
+    (without_errors_shifted at (woven_child d 0 p))
     ∙ ap (λ zs. map (shifted_step at) (without_errors (woven_child d 0 p))
-    ++ zs) (steps-joined d (at + total_len p) ps)
+    ++ zs) (steps_joined d (at + total_len p) ps)
 
-errors-joined : (d : Division) (at : ℕ) (ps : List (List LexedToken))
+errors_joined : (d : Division) (at : ℕ) (ps : List (List LexedToken))
     → joined_errors d at ps ≡ errors_from at (map (child_of d) ps)
-errors-joined d at [] = refl
-errors-joined d at (p ∷ ps) = ap (λ es. map (shifted_error at) (errors p (woven_child d 0 p))
-    ++ es) (errors-joined d (at + total_len p) ps)
+errors_joined d at [] = refl
+errors_joined d at (p ∷ ps) = ap (λ es. map (shifted_error at) (errors p (woven_child d 0 p))
+    ++ es) (errors_joined d (at + total_len p) ps)
 
-pub parse-joined : (d : Division) (ts : List LexedToken) → are_sound ts ≡ true
+-- the parse of tokens is the join of its children
+pub parse_joined : (d : Division) (ts : List LexedToken) → are_sound ts ≡ true
     → parse_of_tokens d ts ≡ join (map (child_of d) (parts lexed_role d ts))
-parse-joined d ts sound =
+parse_joined d ts sound =
     let lawful = plain_lawful d (kinds_without_trivia ts) (has_no_trivia_kept ts) in
     let steps : without_errors (weave ts (plain d (kinds_without_trivia ts)))
     ≡ Enter SOURCE_FILE ∷ steps_from 0 (map (child_of d) (parts lexed_role d ts)) ++ Exit ∷ [] =
     ap without_errors (join_law d ts)
-    ∙ ap (λ zs. Enter SOURCE_FILE ∷ zs) (without-append (joined_from d 0 (parts lexed_role d ts))
-    (Exit ∷ []) ∙ ap (λ zs. zs ++ Exit ∷ []) (steps-joined d 0 (parts lexed_role d ts))) in
+    ∙ ap (λ zs. Enter SOURCE_FILE ∷ zs)
+    (without_errors_append (joined_from d 0 (parts lexed_role d ts))
+    (Exit ∷ []) ∙ ap (λ zs. zs ++ Exit ∷ []) (steps_joined d 0 (parts lexed_role d ts))) in
     let len = parts_len (length ts) d ts (omega arith) in
     let own : errors ts (weave ts (plain d (kinds_without_trivia ts)))
     ≡ errors_from 0 (map (child_of d) (parts lexed_role d ts)) =
     join_errors_law d ts sound (errors_whole ts (plain d (kinds_without_trivia ts)) lawful.balanced
-    lawful.tokens sound) ∙ errors-joined d 0 (parts lexed_role d ts) in
+    lawful.tokens sound) ∙ errors_joined d 0 (parts lexed_role d ts) in
     rw (steps, own, len) refl

@@ -1,4 +1,4 @@
--- What is given out for a text is what is given out for each child of its own tokens.
+-- The woven steps of a text are those of its children, each built from its own tokens, shifted.
 use Rattle.std.proofs.Common.{◌≡◌, ℕ, zero, suc, ◌+◌, ◌==◌, ◌≤◌, Bool, true, false, not, ◌&&◌, cond, List, [], ◌∷◌, ◌++◌, length, take, drop, map, append_assoc, refl, ap, sym, ◌∙◌, arith}
 use Rattle.std.proofs.lemmas.List.{take-append-drop, length-drop, map-append}
 use Rattle.squawk_events.specs.Kinds.{is_trivia_kind}
@@ -23,32 +23,33 @@ use Rattle.squawk_statements.specs.declared.division.Division.TheVariants.{Flat,
 use Rattle.squawk_tree.specs.Errors.{errors}
 use Rattle.squawk_tree.specs.Join.{woven_child, shifted_step, shifted_error, child_of, children_len}
 use Rattle.squawk_tree.specs.ParseOf.{lexed_role}
-use Rattle.squawk_tree.proofs.CutLemmas.{trivia_form, ends_solid, first_cut}
+use Rattle.squawk_tree.proofs.CutLemmas.{trivia_role, is_trimmed, first_cut}
 
 -- ---- children one after another, each of its own tokens
 
--- their steps, the first of which begins at an offset
+-- the steps of children, the first of which begins at an offset
 abbrev pub joined_from : Division → ℕ → List (List LexedToken) → List StrStep
 joined_from d at [] = []
 joined_from d at (part ∷ rest) =
     map (shifted_step at) (woven_child d 0 part) ++ joined_from d (at + total_len part) rest
 
--- under one root
+-- the steps of children under a root
 abbrev pub joined : Division → List (List LexedToken) → List StrStep
 joined d children = out.Enter SOURCE_FILE ∷ joined_from d 0 children ++ out.Exit ∷ []
 
--- their errors
+-- the errors of children, the first of which begins at an offset
 abbrev pub joined_errors : Division → ℕ → List (List LexedToken) → List ParseError
 joined_errors d at [] = []
 joined_errors d at (part ∷ rest) =
     map (shifted_error at) (errors part (woven_child d 0 part))
     ++ joined_errors d (at + total_len part) rest
 
+-- the length of an appended list of tokens
 total_append : (xs ys : List LexedToken) → total_len (xs ++ ys) ≡ total_len xs + total_len ys
 total_append [] ys = omega arith
 total_append (x ∷ xs) ys = let rest = total_append xs ys in omega arith
 
--- together they are as long as the whole
+-- the children are together as long as the text
 pub parts_len : (n : ℕ) (d : Division) (ts : List LexedToken) → length ts ≤ n
     → total_len ts ≡ children_len (map (child_of d) (parts lexed_role d ts))
 parts_len n d [] h = refl
@@ -67,6 +68,7 @@ parts_len (suc n) d (t ∷ ts) h =
 
 -- ---- steps that use up their tokens
 
+-- whether the woven steps contain all of these tokens, none of them only as trivia at the end
 abbrev pub fits : List Step → List LexedToken → Bool
 fits [] ts = is_empty ts
 fits (Enter kind ∷ xs) ts = not (is_empty (after_leading_trivia ts))
@@ -76,26 +78,28 @@ fits (Token kind ∷ xs) ts = not (is_empty (after_leading_trivia ts))
 fits (Exit ∷ xs) ts = fits xs ts
 fits (Error number ∷ xs) ts = not (is_empty ts) && fits xs ts
 
+-- the parts of a conjunction, the first of which is negated
 pub both : (a b : Bool) → (not a && b) ≡ true → (a ≡ false) × (b ≡ true)
 both true b h = absurd (cc)
 both false b h = (refl, h)
 
--- more tokens behind those whose front is followed by one of them
-pub record FrontOf (at : ℕ) (p r : List LexedToken) : Type 0 where
+-- the leading trivia of tokens p, which are not all trivia, with and without tokens r after them
+pub record LeadingTriviaOf (at : ℕ) (p r : List LexedToken) : Type 0 where
   steps : leading_trivia at (p ++ r) ≡ leading_trivia at p
   end : leading_trivia_end at (p ++ r) ≡ leading_trivia_end at p
   left : after_leading_trivia (p ++ r) ≡ after_leading_trivia p ++ r
   size : leading_trivia_end at p + total_len (after_leading_trivia p) ≡ at + total_len p
 
-pub front_of : (at : ℕ) (p r : List LexedToken) → is_empty (after_leading_trivia p) ≡ false
-    → FrontOf at p r
-front_of at [] r h = absurd (cc)
-front_of at (t ∷ p) r h = by (is_trivia_kind t.kind) refl h (front_of (at + t.len) p r)
+pub leading_trivia_of : (at : ℕ) (p r : List LexedToken) → is_empty (after_leading_trivia p) ≡ false
+    → LeadingTriviaOf at p r
+leading_trivia_of at [] r h = absurd (cc)
+leading_trivia_of at (t ∷ p) r h =
+    by (is_trivia_kind t.kind) refl h (leading_trivia_of (at + t.len) p r)
   where
     by : (b : Bool) → is_trivia_kind t.kind ≡ b
         → is_empty (cond b (after_leading_trivia p) (t ∷ p)) ≡ false
-        → (is_empty (after_leading_trivia p) ≡ false → FrontOf (at + t.len) p r)
-        → FrontOf at (t ∷ p) r
+        → (is_empty (after_leading_trivia p) ≡ false → LeadingTriviaOf (at + t.len) p r)
+        → LeadingTriviaOf at (t ∷ p) r
     by true is h more =
         let rest = more h in
         record {
@@ -114,7 +118,7 @@ front_of at (t ∷ p) r h = by (is_trivia_kind t.kind) refl h (front_of (at + t.
           rw is refl;
     }
 
--- the first of some tokens
+-- the first of tokens u, with and without tokens r after them
 pub record NextOf (u r : List LexedToken) : Type 0 where
   len : next_len (u ++ r) ≡ next_len u
   rest : drop 1 (u ++ r) ≡ drop 1 u ++ r
@@ -124,6 +128,7 @@ pub next_of : (u r : List LexedToken) → is_empty u ≡ false → NextOf u r
 next_of [] r h = absurd (cc)
 next_of (t ∷ u) r h = record { len = refl; rest = refl; size = refl }
 
+-- weaving of steps that fit their tokens, before other steps and tokens
 pub append_woven : (xs : List Step) (at : ℕ) (p r : List LexedToken) (y : Step) (ys : List Step)
     → fits xs p ≡ true → weave_from at (p ++ r) (xs ++ y ∷ ys)
     ≡ weave_from at p xs ++ weave_from (at + total_len p) r (y ∷ ys)
@@ -131,7 +136,7 @@ append_woven [] at [] r y ys h = ap (λ n. weave_from n r (y ∷ ys)) (omega ari
 append_woven [] at (t ∷ p) r y ys h = absurd (cc)
 append_woven (Enter kind ∷ xs) at p r y ys h =
     let hs = both (is_empty (after_leading_trivia p)) (fits xs (after_leading_trivia p)) h in
-    let f = front_of at p r hs.0 in
+    let f = leading_trivia_of at p r hs.0 in
     let rest = append_woven xs (leading_trivia_end at p) (after_leading_trivia p) r y ys hs.1 in
     rw (f.steps, f.end, f.left, rest, f.size)
     (sym (append_assoc (leading_trivia at p ++ out.Enter kind
@@ -140,14 +145,14 @@ append_woven (Enter kind ∷ xs) at p r y ys h =
 append_woven (Token kind ∷ xs) at p r y ys h =
     let hs = both (is_empty (after_leading_trivia p)) (fits xs (drop 1 (after_leading_trivia p))) h
     in
-    let f = front_of at p r hs.0 in
+    let f = leading_trivia_of at p r hs.0 in
     let n = next_of (after_leading_trivia p) r hs.0 in
     let rest = append_woven xs (leading_trivia_end at p + next_len (after_leading_trivia p))
     (drop 1 (after_leading_trivia p)) r y ys hs.1 in
-    let place : leading_trivia_end at p + next_len (after_leading_trivia p)
+    let sum : leading_trivia_end at p + next_len (after_leading_trivia p)
     + total_len (drop 1 (after_leading_trivia p)) ≡ at + total_len p = let a = f.size in let b =
     n.size in omega arith in
-    rw (f.steps, f.end, f.left, n.len, n.rest, rest, place)
+    rw (f.steps, f.end, f.left, n.len, n.rest, rest, sum)
     (sym (append_assoc (leading_trivia at p
     ++ out.Token kind (leading_trivia_end at p) (leading_trivia_end at p
     + next_len (after_leading_trivia p)) ∷ [])
@@ -163,14 +168,17 @@ append_woven (Error number ∷ xs) at p r y ys h =
 
 -- ---- a child's steps use up its tokens
 
-past_front : (xs : List Step) (t : LexedToken) (ts : List LexedToken) → is_trivia_kind t.kind ≡ true
+-- Steps fit one token more: a trivia token before others, and a token with the steps that the
+-- division makes for it.
+fits_after_trivia : (xs : List Step) (t : LexedToken) (ts : List LexedToken)
+    → is_trivia_kind t.kind ≡ true
     → is_empty ts ≡ false → fits xs ts ≡ true → fits xs (t ∷ ts) ≡ true
-past_front [] t ts is some h = absurd (cc)
-past_front (Enter kind ∷ xs) t ts is some h = rw is h
-past_front (Token kind ∷ xs) t ts is some h = rw is h
-past_front (Exit ∷ xs) t ts is some h = past_front xs t ts is some h
-past_front (Error number ∷ xs) t ts is some h =
-    past_front xs t ts is some (both (is_empty ts) (fits xs ts) h).1
+fits_after_trivia [] t ts is some h = absurd (cc)
+fits_after_trivia (Enter kind ∷ xs) t ts is some h = rw is h
+fits_after_trivia (Token kind ∷ xs) t ts is some h = rw is h
+fits_after_trivia (Exit ∷ xs) t ts is some h = fits_after_trivia xs t ts is some h
+fits_after_trivia (Error number ∷ xs) t ts is some h =
+    fits_after_trivia xs t ts is some (both (is_empty ts) (fits xs ts) h).1
 
 fits_exits : (n : ℕ) (xs : List Step) (ts : List LexedToken) → fits xs ts ≡ true
     → fits (exits n ++ xs) ts ≡ true
@@ -203,33 +211,35 @@ fits_kind d zero kind Close xs t ts is h = fits_token kind xs t ts is h
 fits_kind d (suc n) kind Close xs t ts is h = fits_token kind (Exit ∷ xs) t ts is h
 fits_kind d n kind Other xs t ts is h = fits_token kind xs t ts is h
 
+-- the steps of a body fit its tokens
 fits_core : (d : Division) (n : ℕ) (ts : List LexedToken) (xs : List Step) → fits xs [] ≡ true
-    → ends_solid true ts ≡ true → fits (body_steps d n (kinds_without_trivia ts) ++ xs) ts ≡ true
-fits_core d n [] xs last solid = fits_exits n xs [] last
-fits_core d n (t ∷ ts) xs last solid =
+    → is_trimmed true ts ≡ true → fits (body_steps d n (kinds_without_trivia ts) ++ xs) ts ≡ true
+fits_core d n [] xs last trimmed = fits_exits n xs [] last
+fits_core d n (t ∷ ts) xs last trimmed =
     by (is_trivia_kind t.kind) refl (fits_core d n ts xs last)
     (fits_core d (groups_open_after d n (role t.kind)) ts xs last)
   where
-    some : (us : List LexedToken) → ends_solid false us ≡ true → (is_empty us ≡ false)
-        × (ends_solid true us ≡ true)
+    some : (us : List LexedToken) → is_trimmed false us ≡ true → (is_empty us ≡ false)
+        × (is_trimmed true us ≡ true)
     some [] h = absurd (cc)
     some (u ∷ us) h = (refl, h)
 
     by : (b : Bool) → is_trivia_kind t.kind ≡ b
-        → (ends_solid true ts ≡ true → fits (body_steps d n (kinds_without_trivia ts) ++ xs) ts
+        → (is_trimmed true ts ≡ true → fits (body_steps d n (kinds_without_trivia ts) ++ xs) ts
         ≡ true)
-        → (ends_solid true ts ≡ true
+        → (is_trimmed true ts ≡ true
         → fits (body_steps d (groups_open_after d n (role t.kind)) (kinds_without_trivia ts)
         ++ xs) ts ≡ true) → fits (body_steps d n (kinds_without_trivia (t ∷ ts)) ++ xs) (t ∷ ts)
         ≡ true
     by true is same after =
-        let left : ends_solid false ts ≡ true = ap (λ b. ends_solid (not b) ts) (sym is) ∙ solid in
+        let left : is_trimmed false ts ≡ true = ap (λ b. is_trimmed (not b) ts) (sym is)
+        ∙ trimmed in
         let more = some ts left in
         let here : kinds_without_trivia (t ∷ ts) ≡ kinds_without_trivia ts = rw is refl in
-        rw here (past_front (body_steps d n (kinds_without_trivia ts)
+        rw here (fits_after_trivia (body_steps d n (kinds_without_trivia ts)
         ++ xs) t ts is more.0 (same more.1))
     by false is same after =
-        let left : ends_solid true ts ≡ true = ap (λ b. ends_solid (not b) ts) (sym is) ∙ solid in
+        let left : is_trimmed true ts ≡ true = ap (λ b. is_trimmed (not b) ts) (sym is) ∙ trimmed in
         let here : kinds_without_trivia (t ∷ ts) ≡ t.kind ∷ kinds_without_trivia ts = rw is refl in
         rw here (ap (λ zs.
         fits zs (t ∷ ts)) (append_assoc (kind_steps d n t.kind)
@@ -237,57 +247,60 @@ fits_core d n (t ∷ ts) xs last solid =
         ∙ fits_kind d n t.kind (role t.kind) (body_steps d (groups_open_after d n (role t.kind))
         (kinds_without_trivia ts) ++ xs) t ts is (after left))
 
+-- the error of an unknown statement fits any tokens
 fits_fault : (b : Bool) (xs : List Step) (t : LexedToken) (ts : List LexedToken)
     → fits xs (t ∷ ts) ≡ true → fits (cond b (Error 10 ∷ []) [] ++ xs) (t ∷ ts) ≡ true
 fits_fault true xs t ts h = h
 fits_fault false xs t ts h = h
 
+-- the steps of a child fit its tokens
 pub fits_child : (d : Division) (t : LexedToken) (ts : List LexedToken)
-    → is_trivia_kind t.kind ≡ false → ends_solid true ts ≡ true
+    → is_trivia_kind t.kind ≡ false → is_trimmed true ts ≡ true
     → fits (child_steps d (kinds_without_trivia (t ∷ ts))) (t ∷ ts) ≡ true
-fits_child d t ts is solid =
+fits_child d t ts is trimmed =
     let node = node_of (kinds_without_trivia (t ∷ ts)) in
-    let whole : ends_solid true (t ∷ ts) ≡ true = ap (λ b. ends_solid (not b) ts) is ∙ solid in
+    let whole : is_trimmed true (t ∷ ts) ≡ true = ap (λ b. is_trimmed (not b) ts) is ∙ trimmed in
     let inner : fits ((unknown_statement_error node
     ++ body_steps d 0 (kinds_without_trivia (t ∷ ts))) ++ Exit ∷ []) (t ∷ ts) ≡ true =
     ap (λ zs. fits zs (t ∷ ts)) (append_assoc (unknown_statement_error node)
     (body_steps d 0 (kinds_without_trivia (t ∷ ts))) (Exit ∷ []))
     ∙ fits_fault (node == ERROR) (body_steps d 0 (kinds_without_trivia (t ∷ ts)) ++ Exit
     ∷ []) t ts (fits_core d 0 (t ∷ ts) (Exit ∷ []) refl whole) in
-    let behind : after_leading_trivia (t ∷ ts) ≡ t ∷ ts = rw is refl in
+    let unchanged : after_leading_trivia (t ∷ ts) ≡ t ∷ ts = rw is refl in
     ap (λ u. not (is_empty u) && fits ((unknown_statement_error node
-    ++ body_steps d 0 (kinds_without_trivia (t ∷ ts))) ++ Exit ∷ []) u) behind ∙ inner
+    ++ body_steps d 0 (kinds_without_trivia (t ∷ ts))) ++ Exit ∷ []) u) unchanged ∙ inner
 
 -- ---- the text
 
--- children one after another, each of its own tokens at their own place
+-- the steps of children, each woven at its own offset
 abbrev pub placed_from : Division → ℕ → List (List LexedToken) → List StrStep
 placed_from d at [] = []
 placed_from d at (part ∷ rest) = woven_child d at part ++ placed_from d (at + total_len part) rest
 
--- trivia before a child or at the end
-front_leaf : (d : Division) (at : ℕ) (t : LexedToken) (ts : List LexedToken) (ps : List (List ℕ))
+-- weaving of a trivia token before a child or the end
+leaf_first : (d : Division) (at : ℕ) (t : LexedToken) (ts : List LexedToken) (ps : List (List ℕ))
     → is_trivia_kind t.kind ≡ true
     → weave_from at (t ∷ ts) (children_steps d ps ++ Exit ∷ [])
     ≡ out.Token t.kind at (at + t.len) ∷ weave_from (at + t.len) ts (children_steps d ps ++ Exit
     ∷ [])
-front_leaf d at t ts [] is = rw is refl
-front_leaf d at t ts (p ∷ ps) is = rw is refl
+leaf_first d at t ts [] is = rw is refl
+leaf_first d at t ts (p ∷ ps) is = rw is refl
 
--- a child before others or before the end
-front_child : (d : Division) (at : ℕ) (p r : List LexedToken) (ks : List ℕ) (ps : List (List ℕ))
+-- weaving of a child before other children or the end
+child_first : (d : Division) (at : ℕ) (p r : List LexedToken) (ks : List ℕ) (ps : List (List ℕ))
     → fits (child_steps d ks) p ≡ true
     → weave_from at (p ++ r) (children_steps d (ks ∷ ps) ++ Exit ∷ [])
     ≡ weave_from at p (child_steps d ks) ++ weave_from (at + total_len p) r (children_steps d ps
     ++ Exit ∷ [])
-front_child d at p r ks [] h =
+child_first d at p r ks [] h =
     ap (λ zs. weave_from at (p ++ r) zs) (append_assoc (child_steps d ks) [] (Exit ∷ []))
     ∙ append_woven (child_steps d ks) at p r Exit [] h
-front_child d at p r ks (q ∷ ps) h =
+child_first d at p r ks (q ∷ ps) h =
     ap (λ zs. weave_from at (p ++ r) zs) (append_assoc (child_steps d ks)
     (children_steps d (q ∷ ps)) (Exit ∷ []))
     ∙ append_woven (child_steps d ks) at p r (Enter (node_of q)) _ h
 
+-- the woven steps of all children are those of each at its own offset
 pub placed : (n : ℕ) (d : Division) (at : ℕ) (ts : List LexedToken) → length ts ≤ n
     → weave_from at ts (children_steps d (parts role d (kinds_without_trivia ts)) ++ Exit ∷ [])
     ≡ placed_from d at (parts lexed_role d ts) ++ out.Exit ∷ []
@@ -312,13 +325,13 @@ placed (suc n) d at (t ∷ ts) h =
         ++ Exit ∷ []) ≡ placed_from d at (parts lexed_role d (t ∷ ts)) ++ out.Exit ∷ []
     by true is leaf child =
         let here : kinds_without_trivia (t ∷ ts) ≡ kinds_without_trivia ts = rw is refl in
-        let f = trivia_form (role t.kind) (role_trivia t.kind ∙ is) in
+        let f = trivia_role (role t.kind) (role_trivia t.kind ∙ is) in
         let none : more_of lexed_role d t ts ≡ 0 =
         ap (λ f. more d f (map lexed_role ts)) f in
         let ps : parts lexed_role d (t ∷ ts) ≡ (t ∷ []) ∷ parts lexed_role d ts =
         first_part lexed_role d t ts
         ∙ ap (λ m. (t ∷ take m ts) ∷ parts lexed_role d (drop m ts)) none in
-        let place : at + (t.len + 0) ≡ at + t.len = omega arith in
+        let sum : at + (t.len + 0) ≡ at + t.len = omega arith in
         let this : woven_child d at (t ∷ []) ≡ out.Token t.kind at (at + t.len) ∷ [] = rw is refl in
         let right : placed_from d at (parts lexed_role d (t ∷ ts))
         ≡ out.Token t.kind at (at + t.len)
@@ -326,9 +339,9 @@ placed (suc n) d at (t ∷ ts) h =
         ap (placed_from d at) ps ∙ ap (λ zs. zs
         ++ placed_from d (at + (t.len + 0)) (parts lexed_role d ts)) this
         ∙ ap (λ m. out.Token t.kind at (at + t.len)
-        ∷ placed_from d m (parts lexed_role d ts)) place in
+        ∷ placed_from d m (parts lexed_role d ts)) sum in
         ap (λ ks. weave_from at (t ∷ ts) (children_steps d (parts role d ks) ++ Exit ∷ [])) here
-        ∙ front_leaf d at t ts (parts role d (kinds_without_trivia ts)) is
+        ∙ leaf_first d at t ts (parts role d (kinds_without_trivia ts)) is
         ∙ ap (λ zs. out.Token t.kind at (at + t.len) ∷ zs) leaf
         ∙ ap (λ zs. zs ++ out.Exit ∷ []) (sym right)
     by false is leaf child =
@@ -341,7 +354,7 @@ placed (suc n) d at (t ∷ ts) h =
         ≡ kinds_without_trivia (t ∷ take m ts)
         ∷ parts role d (kinds_without_trivia (drop m ts)) =
         rw (here, part) (first_part role d t.kind (kinds_without_trivia ts)
-        ∙ rw (cut.front, cut.left) refl) in
+        ∙ rw (cut.prefix, cut.left) refl) in
         let tokens : parts lexed_role d (t ∷ ts)
         ≡ (t ∷ take m ts) ∷ parts lexed_role d (drop m ts) =
         first_part lexed_role d t ts in
@@ -350,9 +363,9 @@ placed (suc n) d at (t ∷ ts) h =
         let this : woven_child d at (t ∷ take m ts)
         ≡ weave_from at (t ∷ take m ts) (child_steps d (kinds_without_trivia (t ∷ take m ts))) =
         rw is refl in
-        let step = front_child d at (t ∷ take m ts) (drop m ts) (kinds_without_trivia (t
+        let step = child_first d at (t ∷ take m ts) (drop m ts) (kinds_without_trivia (t
         ∷ take m ts)) (parts role d (kinds_without_trivia (drop m ts)))
-        (fits_child d t (take m ts) is cut.solid) in
+        (fits_child d t (take m ts) is cut.trimmed) in
         ap (λ ps. weave_from at (t ∷ ts) (children_steps d ps ++ Exit ∷ [])) kinds
         ∙ ap (λ us. weave_from at us (children_steps d (kinds_without_trivia (t ∷ take m ts)
         ∷ parts role d (kinds_without_trivia (drop m ts))) ++ Exit ∷ [])) whole
@@ -369,16 +382,19 @@ placed (suc n) d at (t ∷ ts) h =
 
 -- ---- shifts
 
+-- addition of three numbers in another order
 pub further : (a n l : ℕ) → a + n + l ≡ a + l + n
 further a n l = omega arith
 
+-- Leading trivia, a step, and woven steps are shifted with the offset at which the tokens begin.
 record Shifted (n at : ℕ) (ts : List LexedToken) : Type 0 where
   steps : leading_trivia (at + n) ts ≡ map (shifted_step n) (leading_trivia at ts)
   end : leading_trivia_end (at + n) ts ≡ leading_trivia_end at ts + n
 
-shift_front : (n at : ℕ) (ts : List LexedToken) → Shifted n at ts
-shift_front n at [] = record { steps = refl; end = refl }
-shift_front n at (t ∷ ts) = by (is_trivia_kind t.kind) refl (shift_front n (at + t.len) ts)
+shift_leading_trivia : (n at : ℕ) (ts : List LexedToken) → Shifted n at ts
+shift_leading_trivia n at [] = record { steps = refl; end = refl }
+shift_leading_trivia n at (t ∷ ts) =
+    by (is_trivia_kind t.kind) refl (shift_leading_trivia n (at + t.len) ts)
   where
     by : (b : Bool) → is_trivia_kind t.kind ≡ b → Shifted n (at + t.len) ts → Shifted n at (t ∷ ts)
     by true is rest = record {
@@ -393,17 +409,20 @@ shift_front n at (t ∷ ts) = by (is_trivia_kind t.kind) refl (shift_front n (at
 shift_step : (last : Bool) (n at : ℕ) (ts : List LexedToken) (x : Step)
     → (weave_step last (at + n) ts x ≡ map (shifted_step n) (weave_step last at ts x))
     × (offset_after_step last (at + n) ts x ≡ offset_after_step last at ts x + n)
-shift_step last n at ts (Enter kind) = let f = shift_front n at ts in
-    (rw f.steps (sym (map-append (shifted_step n) (leading_trivia at ts) (out.Enter kind ∷ []))), f.end)
+shift_step last n at ts (Enter kind) = let f = shift_leading_trivia n at ts in (
+  rw f.steps
+      (sym (map-append (shifted_step n) (leading_trivia at ts) (out.Enter kind ∷ []))),
+  f.end,
+)
 shift_step last n at ts (Token kind) =
-    let f = shift_front n at ts in (
+    let f = shift_leading_trivia n at ts in (
       rw (f.steps, f.end, further (leading_trivia_end at ts) n (next_len (after_leading_trivia ts)))
           (sym (map-append (shifted_step n) (leading_trivia at ts)
           (out.Token kind (leading_trivia_end at ts) (leading_trivia_end at ts
           + next_len (after_leading_trivia ts)) ∷ []))),
       rw (f.end, further (leading_trivia_end at ts) n (next_len (after_leading_trivia ts))) refl,
     )
-shift_step true n at ts Exit = let f = shift_front n at ts in
+shift_step true n at ts Exit = let f = shift_leading_trivia n at ts in
     (rw f.steps (sym (map-append (shifted_step n) (leading_trivia at ts) (out.Exit ∷ []))), f.end)
 shift_step false n at ts Exit = (refl, refl)
 shift_step last n at ts (Error number) = (refl, refl)
@@ -419,6 +438,7 @@ shift_woven n at ts (x ∷ xs) =
     (weave_from (offset_after_step (is_empty xs) at ts x) (tokens_after_step (is_empty xs) ts x)
     xs)))
 
+-- the steps of a child: a node, and a leaf
 pub node_woven : (d : Division) (at : ℕ) (t : LexedToken) (ts : List LexedToken)
     → is_trivia_kind t.kind ≡ false → woven_child d at (t ∷ ts)
     ≡ weave_from at (t ∷ ts) (child_steps d (kinds_without_trivia (t ∷ ts)))
@@ -433,6 +453,7 @@ leaf_woven d at t ts is =
     ap (λ b. cond b (out.Token t.kind at (at + t.len)
     ∷ []) (weave_from at (t ∷ ts) (child_steps d (kinds_without_trivia (t ∷ ts))))) is
 
+-- the steps of one child, and of all children, are shifted from those at offset 0
 pub shift_child : (d : Division) (n : ℕ) (part : List LexedToken)
     → woven_child d n part ≡ map (shifted_step n) (woven_child d 0 part)
 shift_child d n [] = refl
@@ -463,7 +484,7 @@ pub shift_all : (d : Division) (at : ℕ) (ps : List (List LexedToken))
 shift_all d at [] = refl
 shift_all d at (p ∷ ps) = rw (shift_child d at p, shift_all d (at + total_len p) ps) refl
 
--- what is given out for a text is its children's, joined
+-- the woven steps of a text are those of its children, joined
 pub join_law : (d : Division) (ts : List LexedToken)
     → weave ts (plain d (kinds_without_trivia ts)) ≡ joined d (parts lexed_role d ts)
 join_law d ts = ap (λ ys. out.Enter SOURCE_FILE ∷ ys) (placed (length ts) d 0 ts (omega arith)

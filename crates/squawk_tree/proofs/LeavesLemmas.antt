@@ -1,4 +1,4 @@
--- The tokens of what is given out are the tokens of the text.
+-- The tokens of woven steps are the tokens of the text.
 use Rattle.std.proofs.Common.{◌≡◌, ℕ, zero, suc, ◌+◌, Bool, true, false, ◌&&◌, cond, List, [], ◌∷◌, ◌++◌, drop, append_assoc, refl, ap, sym, ◌∙◌, arith}
 use Rattle.std.proofs.lemmas.Bool.Decides.{nat_tests}
 use Rattle.std.proofs.lemmas.List.{append-nil}
@@ -14,6 +14,7 @@ use Rattle.squawk_lexed.specs.LexedToken.{LexedToken}
 use Rattle.squawk_tree.specs.ParseOf.{token_steps}
 use Rattle.squawk_tree.specs.Steps.{only_tokens, without_errors}
 
+-- a list begins with itself, and with a list that is equal to it
 same_kind : (k : ℕ) (b : Bool) → (Rattle.std.specs.Prelude.nat_eq k k && b) ≡ b
 same_kind k b = grind (arith, nat_tests)
 
@@ -24,6 +25,7 @@ begins_with_same (x ∷ xs) = same_kind x (begins_with xs xs) ∙ begins_with_sa
 pub begins_with_of : (xs ys : List ℕ) → ys ≡ xs → begins_with xs ys ≡ true
 begins_with_of xs ys is = rw is (begins_with_same xs)
 
+-- the tokens of appended steps
 leaves_append : (xs ys : List StrStep) → only_tokens (xs ++ ys) ≡ only_tokens xs ++ only_tokens ys
 leaves_append [] ys = refl
 leaves_append (out.Enter kind ∷ xs) ys = leaves_append xs ys
@@ -32,6 +34,7 @@ leaves_append (out.Token kind start end ∷ xs) ys =
 leaves_append (out.Exit ∷ xs) ys = leaves_append xs ys
 leaves_append (out.Error number at ∷ xs) ys = leaves_append xs ys
 
+-- leaving out `Error` steps leaves out no token
 pub leaves_kept : (xs : List StrStep) → only_tokens (without_errors xs) ≡ only_tokens xs
 leaves_kept [] = refl
 leaves_kept (out.Enter kind ∷ xs) = leaves_kept xs
@@ -40,25 +43,27 @@ leaves_kept (out.Token kind start end ∷ xs) =
 leaves_kept (out.Exit ∷ xs) = leaves_kept xs
 leaves_kept (out.Error number at ∷ xs) = leaves_kept xs
 
--- the trivia at the front, and then what is behind them
-front_laid : (at : ℕ) (ts : List LexedToken) → only_tokens (leading_trivia at ts)
+-- the leading trivia, and the tokens after them, are all tokens
+leading_trivia_steps : (at : ℕ) (ts : List LexedToken) → only_tokens (leading_trivia at ts)
     ++ token_steps (leading_trivia_end at ts) (after_leading_trivia ts) ≡ token_steps at ts
-front_laid at [] = refl
-front_laid at (t ∷ ts) = by (is_trivia_kind t.kind) (front_laid (at + t.len) ts)
+leading_trivia_steps at [] = refl
+leading_trivia_steps at (t ∷ ts) = by (is_trivia_kind t.kind) (leading_trivia_steps (at + t.len) ts)
   where
     by : (b : Bool) → only_tokens (leading_trivia (at + t.len) ts)
         ++ token_steps (leading_trivia_end (at + t.len) ts) (after_leading_trivia ts)
         ≡ token_steps (at + t.len) ts
-        → only_tokens (cond b (out.Token t.kind at (at + t.len) ∷ leading_trivia (at + t.len) ts) [])
+        → only_tokens
+        (cond b (out.Token t.kind at (at + t.len) ∷ leading_trivia (at + t.len) ts) [])
         ++ token_steps (cond b (leading_trivia_end (at + t.len) ts) at)
         (cond b (after_leading_trivia ts) (t ∷ ts)) ≡ token_steps at (t ∷ ts)
     by true rest = ap (λ ls. out.Token t.kind at (at + t.len) ∷ ls) rest
     by false rest = refl
 
-pub kept_behind : (ts : List LexedToken) → kinds_without_trivia (after_leading_trivia ts)
+-- leading trivia have no kinds without trivia
+pub kinds_after_trivia : (ts : List LexedToken) → kinds_without_trivia (after_leading_trivia ts)
     ≡ kinds_without_trivia ts
-kept_behind [] = refl
-kept_behind (t ∷ ts) = by (is_trivia_kind t.kind) refl (kept_behind ts)
+kinds_after_trivia [] = refl
+kinds_after_trivia (t ∷ ts) = by (is_trivia_kind t.kind) refl (kinds_after_trivia ts)
   where
     by : (b : Bool) → is_trivia_kind t.kind ≡ b
         → kinds_without_trivia (after_leading_trivia ts) ≡ kinds_without_trivia ts
@@ -68,13 +73,14 @@ kept_behind (t ∷ ts) = by (is_trivia_kind t.kind) refl (kept_behind ts)
     by false is rest = rw is refl
 
 -- the next token that is not trivia
-pub record Next (behind : List LexedToken) (kind : ℕ) (kinds : List ℕ) : Type 0 where
+pub record Next (ts : List LexedToken) (kind : ℕ) (kinds : List ℕ) : Type 0 where
   pub token : LexedToken
   pub rest : List LexedToken
-  pub is : behind ≡ token ∷ rest
+  pub is : ts ≡ token ∷ rest
   pub kind_is : token.kind ≡ kind
   pub kinds_are : kinds_without_trivia rest ≡ kinds
 
+-- the token of the first kind without trivia
 pub next_of : (ts : List LexedToken) (kind : ℕ) (kinds : List ℕ)
     → kinds_without_trivia ts ≡ kind ∷ kinds → Next (after_leading_trivia ts) kind kinds
 next_of [] kind kinds e = absurd (cc)
@@ -86,10 +92,11 @@ next_of (t ∷ ts) kind kinds e = by (is_trivia_kind t.kind) e (next_of ts kind 
     by true e rest = rest e
     by false e rest = record { token = t; rest = ts; is = refl; kind_is = cc; kinds_are = cc }
 
-pub none_behind : (ts : List LexedToken) → kinds_without_trivia ts ≡ []
+-- where no kind is without trivia, only trivia remain
+pub none_after_trivia : (ts : List LexedToken) → kinds_without_trivia ts ≡ []
     → after_leading_trivia ts ≡ []
-none_behind [] e = refl
-none_behind (t ∷ ts) e = by (is_trivia_kind t.kind) e (none_behind ts)
+none_after_trivia [] e = refl
+none_after_trivia (t ∷ ts) e = by (is_trivia_kind t.kind) e (none_after_trivia ts)
   where
     by : (b : Bool) → cond b [] (t.kind ∷ []) ++ kinds_without_trivia ts ≡ []
         → (kinds_without_trivia ts ≡ [] → after_leading_trivia ts ≡ [])
@@ -97,26 +104,31 @@ none_behind (t ∷ ts) e = by (is_trivia_kind t.kind) e (none_behind ts)
     by true e rest = rest e
     by false e rest = absurd (cc)
 
+-- steps that end inside a node are not balanced
 pub never_closed : (d : ℕ) {P : Type 0} → closes (suc d) [] ≡ true → P
 never_closed d h = absurd (let e : suc d ≡ 0 = grind (arith, nat_tests) in omega arith)
 
+-- the tokens of woven steps, inside a node and as a whole
 pub leaves_woven : (d at : ℕ) (ts : List LexedToken) (xs : List Step) → closes (suc d) xs ≡ true
-    → kinds_without_trivia ts ≡ token_kinds xs → only_tokens (weave_from at ts xs) ≡ token_steps at ts
+    → kinds_without_trivia ts ≡ token_kinds xs → only_tokens (weave_from at ts xs)
+    ≡ token_steps at ts
 leaves_woven d at ts [] h e = never_closed d h
 leaves_woven d at ts (Enter kind ∷ xs) h e =
     leaves_append (leading_trivia at ts ++ out.Enter kind
     ∷ []) (weave_from (leading_trivia_end at ts) (after_leading_trivia ts) xs)
-    ∙ ap (λ ls. ls ++ only_tokens (weave_from (leading_trivia_end at ts) (after_leading_trivia ts) xs))
+    ∙ ap (λ ls. ls
+    ++ only_tokens (weave_from (leading_trivia_end at ts) (after_leading_trivia ts) xs))
     (leaves_append (leading_trivia at ts) (out.Enter kind ∷ [])
     ∙ append-nil (only_tokens (leading_trivia at ts)))
     ∙ ap (λ ls. only_tokens (leading_trivia at ts)
     ++ ls) (leaves_woven (suc d) (leading_trivia_end at ts) (after_leading_trivia ts) xs h
-    (kept_behind ts ∙ e))
-    ∙ front_laid at ts
+    (kinds_after_trivia ts ∙ e))
+    ∙ leading_trivia_steps at ts
 leaves_woven d at ts (Token kind ∷ xs) h e =
     let next = next_of ts kind (token_kinds xs) e in
     let here : token_steps (leading_trivia_end at ts) (after_leading_trivia ts)
-    ≡ out.Token kind (leading_trivia_end at ts) (leading_trivia_end at ts + next_len (after_leading_trivia ts))
+    ≡ out.Token kind (leading_trivia_end at ts)
+    (leading_trivia_end at ts + next_len (after_leading_trivia ts))
     ∷ token_steps (leading_trivia_end at ts + next_len (after_leading_trivia ts))
     (drop 1 (after_leading_trivia ts)) = rw (next.is, next.kind_is) refl in
     let kinds : kinds_without_trivia (drop 1 (after_leading_trivia ts)) ≡ token_kinds xs =
@@ -134,23 +146,28 @@ leaves_woven d at ts (Token kind ∷ xs) h e =
     (leaves_append (leading_trivia at ts)
     (out.Token kind (leading_trivia_end at ts) (leading_trivia_end at ts
     + next_len (after_leading_trivia ts)) ∷ []))
-    ∙ append_assoc (only_tokens (leading_trivia at ts)) (out.Token kind (leading_trivia_end at ts) (leading_trivia_end at ts + next_len (after_leading_trivia ts)) ∷ []) _
-    ∙ ap (λ ls. only_tokens (leading_trivia at ts) ++ out.Token kind (leading_trivia_end at ts) (leading_trivia_end at ts + next_len (after_leading_trivia ts)) ∷ ls) more
+    ∙ append_assoc (only_tokens (leading_trivia at ts))
+    (out.Token kind (leading_trivia_end at ts)
+    (leading_trivia_end at ts + next_len (after_leading_trivia ts)) ∷ []) _
+    ∙ ap (λ ls. only_tokens (leading_trivia at ts)
+    ++ out.Token kind (leading_trivia_end at ts)
+    (leading_trivia_end at ts + next_len (after_leading_trivia ts)) ∷ ls) more
     ∙ ap (λ ls. only_tokens (leading_trivia at ts) ++ ls) (sym here)
-    ∙ front_laid at ts
+    ∙ leading_trivia_steps at ts
 leaves_woven d at ts (Exit ∷ []) h e =
-    let none = none_behind ts e in
+    let none = none_after_trivia ts e in
     ap only_tokens (append-nil (leading_trivia at ts ++ out.Exit ∷ []))
     ∙ leaves_append (leading_trivia at ts) (out.Exit ∷ [])
     ∙ ap (λ ls. only_tokens (leading_trivia at ts) ++ ls) (let e : []
     ≡ token_steps (leading_trivia_end at ts) (after_leading_trivia ts) = rw none refl in e)
-    ∙ front_laid at ts
+    ∙ leading_trivia_steps at ts
 leaves_woven zero at ts (Exit ∷ x ∷ xs) h e = absurd (cc)
 leaves_woven (suc d) at ts (Exit ∷ x ∷ xs) h e = leaves_woven d at ts (x ∷ xs) h e
 leaves_woven d at ts (Error number ∷ xs) h e = leaves_woven d at ts xs h e
 
 pub leaves_whole : (ts : List LexedToken) (xs : List Step) → is_balanced xs ≡ true
-    → token_kinds xs ≡ kinds_without_trivia ts → only_tokens (without_errors (weave ts xs)) ≡ token_steps 0 ts
+    → token_kinds xs ≡ kinds_without_trivia ts → only_tokens (without_errors (weave ts xs))
+    ≡ token_steps 0 ts
 leaves_whole ts [] h e = absurd (cc)
 leaves_whole ts (Enter kind ∷ xs) h e = leaves_kept (weave ts (Enter kind ∷ xs))
     ∙ leaves_woven 0 0 ts xs h (sym e)

@@ -21,13 +21,13 @@ use Rattle.squawk_statements.specs.Kinds.{role_trivia}
 use Rattle.squawk_statements.specs.Plain.{node_of, unknown_statement_error, body_steps, child_steps, plain}
 use Rattle.squawk_statements.specs.PlainIsLawful.{child_balanced, child_tokens}
 use Rattle.squawk_statements.specs.declared.division.Division.{Division}
-use Rattle.squawk_tree.proofs.Balanced.{closes-woven}
-use Rattle.squawk_tree.proofs.CutLemmas.{trivia_form}
-use Rattle.squawk_tree.proofs.JoinIsParse.{without-append}
+use Rattle.squawk_tree.proofs.Balanced.{closes_woven}
+use Rattle.squawk_tree.proofs.CutLemmas.{trivia_role}
+use Rattle.squawk_tree.proofs.JoinIsParse.{without_errors_append}
 use Rattle.squawk_tree.proofs.JoinLemmas.{placed, placed_from, node_woven, leaf_woven}
 use Rattle.squawk_tree.proofs.LeavesLemmas.{leaves_woven, leaves_kept}
 
--- from inside a node, up to its Exit
+-- the number of tokens of a node, by the steps up to its `Exit`
 inside : (d n : ℕ) (xs rest : List StrStep) → closes (suc d) xs ≡ true
     → root_children_from (suc d) n (xs ++ rest)
     ≡ Node (n + length (only_tokens xs)) ∷ root_children_from 0 0 rest
@@ -46,24 +46,28 @@ inside zero n (out.Exit ∷ x ∷ xs) rest h = absurd (cc)
 inside (suc d) n (out.Exit ∷ xs) rest h = inside d n xs rest h
 inside d n (out.Error number at ∷ xs) rest h = inside d n xs rest h
 
-solid_len-le : (fs : List Role) → trimmed_len fs ≤ length fs
-solid_len-le [] = omega arith
-solid_len-le (f ∷ fs) = by (is_trivia f && trimmed_len fs == 0) (solid_len-le fs)
+-- A trimmed list is no longer than the list, and a statement ends within it.
+trimmed_len_le : (fs : List Role) → trimmed_len fs ≤ length fs
+trimmed_len_le [] = omega arith
+trimmed_len_le (f ∷ fs) = by (is_trivia f && trimmed_len fs == 0) (trimmed_len_le fs)
   where
     by : (b : Bool) → trimmed_len fs ≤ length fs → cond b 0 (suc (trimmed_len fs)) ≤ suc (length fs)
     by true h = omega arith
     by false h = omega arith
 
+-- an index, if there is one, of at most n
 Within : Option ℕ → ℕ → Type 0
 Within None n = Unit {0}
 Within (Some m) n = m ≤ n
 
-closing-le : (d : Division) (g : ℕ) (fs : List Role) → Within (statement_end d g fs) (length fs)
+-- a statement ends within its tokens, and has no more tokens than there are
+statement_end_le : (d : Division) (g : ℕ) (fs : List Role)
+    → Within (statement_end d g fs) (length fs)
 unfolding Within
-closing-le d g [] = tt
-closing-le d g (f ∷ fs) =
+statement_end_le d g [] = tt
+statement_end_le d g (f ∷ fs) =
     by (ends_statement d g f) (statement_end d (open_groups_after g f) fs)
-    (closing-le d (open_groups_after g f) fs)
+    (statement_end_le d (open_groups_after g f) fs)
   where
     by : (b : Bool) (found : Option ℕ) → Within found (length fs)
         → Within (cond b (Some 1) (option_map suc found)) (suc (length fs))
@@ -71,26 +75,26 @@ closing-le d g (f ∷ fs) =
     by false None h = tt
     by false (Some m) h = omega arith
 
-rest_len-le : (found : Option ℕ) (fs : List Role) → Within found (length fs)
+rest_len_le : (found : Option ℕ) (fs : List Role) → Within found (length fs)
     → rest_len found fs ≤ length fs
 unfolding Within
-rest_len-le None fs h = solid_len-le fs
-rest_len-le (Some m) fs h = h
+rest_len_le None fs h = trimmed_len_le fs
+rest_len_le (Some m) fs h = h
 
 -- a child has no more tokens than there are
-more-le : (d : Division) (f : Role) (fs : List Role) → more d f fs ≤ length fs
-more-le d Trivia fs = omega arith
-more-le d Semicolon fs = omega arith
-more-le d Terminator fs = omega arith
-more-le d Command fs = omega arith
-more-le d Open fs = rest_len-le (statement_end d 1 fs) fs (closing-le d 1 fs)
-more-le d Close fs = rest_len-le (statement_end d 0 fs) fs (closing-le d 0 fs)
-more-le d Other fs = rest_len-le (statement_end d 0 fs) fs (closing-le d 0 fs)
+more_le : (d : Division) (f : Role) (fs : List Role) → more d f fs ≤ length fs
+more_le d Trivia fs = omega arith
+more_le d Semicolon fs = omega arith
+more_le d Terminator fs = omega arith
+more_le d Command fs = omega arith
+more_le d Open fs = rest_len_le (statement_end d 1 fs) fs (statement_end_le d 1 fs)
+more_le d Close fs = rest_len_le (statement_end d 0 fs) fs (statement_end_le d 0 fs)
+more_le d Other fs = rest_len_le (statement_end d 0 fs) fs (statement_end_le d 0 fs)
 
 -- a child whose first token is not trivia is a node
-first-node : (d : Division) (f : Role) (fs : List Role) → is_trivia f ≡ false
+first_is_node : (d : Division) (f : Role) (fs : List Role) → is_trivia f ≡ false
     → (first_child d (f ∷ fs)).is_node ≡ true
-first-node d f fs solid = by f solid
+first_is_node d f fs not_trivia = by f not_trivia
   where
     statement_node : (end : Option ℕ) (gs : List Role) → (statement_to end gs).is_node ≡ true
     statement_node None gs = refl
@@ -105,11 +109,12 @@ first-node d f fs solid = by f solid
     by Close h = statement_node (statement_end d 0 (Close ∷ fs)) (Close ∷ fs)
     by Other h = statement_node (statement_end d 0 (Other ∷ fs)) (Other ∷ fs)
 
-length-token_steps : (at : ℕ) (ts : List LexedToken) → length (token_steps at ts) ≡ length ts
-length-token_steps at [] = refl
-length-token_steps at (t ∷ ts) = ap suc (length-token_steps (at + t.len) ts)
+-- there are as many `Token` steps as tokens
+length_token_steps : (at : ℕ) (ts : List LexedToken) → length (token_steps at ts) ≡ length ts
+length_token_steps at [] = refl
+length_token_steps at (t ∷ ts) = ap suc (length_token_steps (at + t.len) ts)
 
--- a child that is a node
+-- the first child in the tree, where it is a node
 node_root : (d : Division) (at : ℕ) (t : LexedToken) (ts : List LexedToken) (rest : List StrStep)
     → is_trivia_kind t.kind ≡ false
     → root_children_from 0 0 (without_errors (woven_child d at (t ∷ ts)) ++ rest)
@@ -121,17 +126,17 @@ node_root d at t ts rest is =
     let none : weave_from at (t ∷ ts) (child_steps d ks) ≡ out.Enter (node_of ks) ∷ inner =
     rw is refl in
     let tree : closes 1 (without_errors inner) ≡ true =
-    closes-woven 0 at (t ∷ ts) xs (child_balanced d ks) in
+    closes_woven 0 at (t ∷ ts) xs (child_balanced d ks) in
     let count : length (only_tokens (without_errors inner)) ≡ length (t ∷ ts) =
     ap length (leaves_kept inner ∙ leaves_woven 0 at (t
-    ∷ ts) xs (child_balanced d ks) (sym (child_tokens d ks))) ∙ length-token_steps at (t ∷ ts) in
+    ∷ ts) xs (child_balanced d ks) (sym (child_tokens d ks))) ∙ length_token_steps at (t ∷ ts) in
     ap (λ zs. root_children_from 0 0 (without_errors zs ++ rest)) (node_woven d at t ts is ∙ none)
     ∙ inside 0 0 (without_errors inner) rest tree
     ∙ ap (λ m. Node m ∷ root_children_from 0 0 rest)
     (let e : 0 + length (only_tokens (without_errors inner))
     ≡ length (only_tokens (without_errors inner)) = omega arith in e ∙ count)
 
--- the first child
+-- the first child in the tree
 child_root : (d : Division) (at : ℕ) (t : LexedToken) (ts : List LexedToken) (rest : List StrStep)
     → root_children_from 0 0 (without_errors (woven_child d at (t
     ∷ take (more_of lexed_role d t ts) ts)) ++ rest)
@@ -147,15 +152,15 @@ child_root d at t ts rest = by (is_trivia_kind t.kind) refl
         ap (λ zs. root_children_from 0 0 (without_errors zs ++ rest))
         (leaf_woven d at t (take (more_of lexed_role d t ts) ts) is)
         ∙ ap (λ f. root_child (first_child d (f ∷ map lexed_role ts))
-        ∷ root_children_from 0 0 rest) (sym (trivia_form (role t.kind) (role_trivia t.kind
+        ∷ root_children_from 0 0 rest) (sym (trivia_role (role t.kind) (role_trivia t.kind
         ∙ is)))
     by false is =
         let fs = map lexed_role ts in
         let all : length fs ≡ length ts = length-map ts lexed_role in
-        let within = more-le d (role t.kind) fs in
+        let within = more_le d (role t.kind) fs in
         let taken : length (take (more_of lexed_role d t ts) ts) ≡ more_of lexed_role d t ts =
         length-take-le (more_of lexed_role d t ts) ts (omega arith) in
-        let node = first-node d (role t.kind) fs (role_trivia t.kind ∙ is) in
+        let node = first_is_node d (role t.kind) fs (role_trivia t.kind ∙ is) in
         let size = first_tokens d (role t.kind) fs in
         let child : Node (length (t ∷ take (more_of lexed_role d t ts) ts))
         ≡ root_child (first_child d (map lexed_role (t ∷ ts))) =
@@ -164,13 +169,14 @@ child_root d at t ts rest = by (is_trivia_kind t.kind) refl
         node_root d at t (take (more_of lexed_role d t ts) ts) rest is
         ∙ ap (λ c. c ∷ root_children_from 0 0 rest) child
 
-placed-children : (d : Division) (skip at : ℕ) (ts : List LexedToken)
+-- the children of the root are those of the roles of the tokens: of a suffix, and of all tokens
+placed_children : (d : Division) (skip at : ℕ) (ts : List LexedToken)
     → root_children_from 0 0 (without_errors (placed_from d at (parts_from lexed_role skip d ts))
     ++ out.Exit ∷ []) ≡ map root_child (children_from skip d (map lexed_role ts))
-placed-children d zero at [] = refl
-placed-children d (suc skip) at [] = refl
-placed-children d (suc skip) at (t ∷ ts) = placed-children d skip at ts
-placed-children d zero at (t ∷ ts) =
+placed_children d zero at [] = refl
+placed_children d (suc skip) at [] = refl
+placed_children d (suc skip) at (t ∷ ts) = placed_children d skip at ts
+placed_children d zero at (t ∷ ts) =
     let len = first_child_len lexed_role d (t ∷ ts) in
     let part = t ∷ take (more_of lexed_role d t ts) ts in
     let part_is : take len (t ∷ ts) ≡ part =
@@ -180,26 +186,26 @@ placed-children d zero at (t ∷ ts) =
     ap (λ p. root_children_from 0 0 (without_errors
     (placed_from d at (p ∷ parts_from lexed_role (len - 1) d ts)) ++ out.Exit ∷ [])) part_is
     ∙ ap (λ zs. root_children_from 0 0 (zs ++ out.Exit ∷ []))
-    (without-append (woven_child d at part) others)
+    (without_errors_append (woven_child d at part) others)
     ∙ ap (root_children_from 0 0) (append_assoc (without_errors (woven_child d at part))
     (without_errors others) (out.Exit ∷ []))
     ∙ child_root d at t ts (without_errors others ++ out.Exit ∷ [])
     ∙ ap (λ cs. root_child (first_child d (map lexed_role (t ∷ ts)))
-    ∷ cs) (placed-children d (len - 1) next ts)
+    ∷ cs) (placed_children d (len - 1) next ts)
 
--- the root's children are those of the roles of the tokens
-pub root_children-woven : (d : Division) (ts : List LexedToken)
+pub root_children_woven : (d : Division) (ts : List LexedToken)
     → root_children (without_errors (weave ts (plain d (kinds_without_trivia ts))))
     ≡ map root_child (children d (map lexed_role ts))
-root_children-woven d ts =
+root_children_woven d ts =
     ap (λ zs. root_children_from 0 0 (without_errors zs)) (placed (length ts) d 0 ts (omega arith))
-    ∙ ap (root_children_from 0 0) (without-append (placed_from d 0 (parts lexed_role d ts))
+    ∙ ap (root_children_from 0 0) (without_errors_append (placed_from d 0 (parts lexed_role d ts))
     (out.Exit ∷ []))
-    ∙ placed-children d 0 0 ts
+    ∙ placed_children d 0 0 ts
 
-pub first-within : (d : Division) (t : LexedToken) (ts : List LexedToken)
+-- a first child has no more tokens than there are
+pub more_within : (d : Division) (t : LexedToken) (ts : List LexedToken)
     → more_of lexed_role d t ts ≤ length ts
-first-within d t ts =
-    let within = more-le d (role t.kind) (map lexed_role ts) in
+more_within d t ts =
+    let within = more_le d (role t.kind) (map lexed_role ts) in
     let all : length (map lexed_role ts) ≡ length ts = length-map ts lexed_role in
     omega arith

@@ -1,4 +1,4 @@
--- What a sink has taken is a tree.
+-- The steps and errors that a sink has received make a tree.
 use Rattle.std.proofs.Common.{◌≡◌, ℕ, true, List, [], ◌∷◌, ap, refl, ◌∙◌}
 use Rattle.std.specs.Prelude.{All}
 use Rattle.squawk_events.specs.declared.steps.ParseError.{ParseError}
@@ -7,23 +7,26 @@ use Rattle.squawk_events.specs.declared.steps.StrStep.TheVariants.{Enter, Token,
 use Rattle.squawk_tree.specs.Steps.{is_balanced, without_errors, leaves, tiles}
 use Rattle.squawk_tree.specs.Taken.{Taken, IsError, EndsBy, tokens_end}
 use Rattle.squawk_tree.specs.Tree.{IsTree}
-use Rattle.squawk_tree.proofs.Balanced.{without-has_none}
+use Rattle.squawk_tree.proofs.Balanced.{without_errors_has_none}
 use Rattle.squawk_tree.proofs.TreeLaws.{kept_tree}
 
-leaves-without : (xs : List StrStep) → leaves (without_errors xs) ≡ leaves xs
-leaves-without [] = refl
-leaves-without (Enter kind ∷ xs) = leaves-without xs
-leaves-without (Token kind start end ∷ xs) = ap (λ rs. (start, end) ∷ rs) (leaves-without xs)
-leaves-without (Exit ∷ xs) = leaves-without xs
-leaves-without (Error number at ∷ xs) = leaves-without xs
+-- leaving out `Error` steps leaves out no leaf
+leaves_without_errors : (xs : List StrStep) → leaves (without_errors xs) ≡ leaves xs
+leaves_without_errors [] = refl
+leaves_without_errors (Enter kind ∷ xs) = leaves_without_errors xs
+leaves_without_errors (Token kind start end ∷ xs) =
+    ap (λ rs. (start, end) ∷ rs) (leaves_without_errors xs)
+leaves_without_errors (Exit ∷ xs) = leaves_without_errors xs
+leaves_without_errors (Error number at ∷ xs) = leaves_without_errors xs
 
+-- what `finish` makes is a tree: by its steps and errors, and by the value of the sink
 pub finished : (steps : List StrStep) (own : List ParseError) (len : ℕ)
     → is_balanced (without_errors steps) ≡ true → tiles 0 (leaves steps) len ≡ true
     → All IsError own → All (EndsBy len) own → IsTree (kept_tree steps own len)
 finished steps own len balanced tiled errors ends = record {
   balanced = balanced;
-  no_errors = without-has_none steps;
-  tiled = ap (λ rs. tiles 0 rs len) (leaves-without steps) ∙ tiled;
+  no_errors = without_errors_has_none steps;
+  tiled = ap (λ rs. tiles 0 rs len) (leaves_without_errors steps) ∙ tiled;
   errors_within = λ k d lt. let e = errors k d lt in record {
     first_number = e.first_number;
     last_number = e.last_number;

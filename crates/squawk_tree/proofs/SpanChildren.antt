@@ -1,4 +1,4 @@
--- The spans of the root's children show the children of the root.
+-- `ChildSpan` values, without their ranges, are the children of the root.
 use Rattle.std.proofs.Common.{◌≡◌, ℕ, zero, suc, ◌+◌, ◌==◌, true, List, [], ◌∷◌, map, ap, refl, ◌∙◌, arith}
 use Rattle.std.proofs.lemmas.Bool.{eqb-true}
 use Rattle.squawk_events.specs.declared.steps.StrStep.{StrStep}
@@ -6,6 +6,7 @@ use Rattle.squawk_events.specs.declared.steps.StrStep.TheVariants.{Enter, Token,
 use Rattle.squawk_tree.specs.ChildSpans.{node_tokens, child_spans_from, child_spans, span_child}
 use Rattle.squawk_tree.specs.Steps.{Leaf, Node, closes, is_balanced, root_children_from, root_children}
 
+-- a number above 0 is not 0
 pub never : (d : ℕ) {P : Type 0} → (suc d == 0) ≡ true → P
 never d h = absurd (let e : suc d ≡ 0 = eqb-true (suc d) 0 h in omega arith)
 
@@ -20,7 +21,7 @@ mutual
       (let e : node_tokens 0 xs ≡ 0 + node_tokens 0 xs = omega arith in e)
       ∙ in_child 0 0 (i + 1) at xs h
   under_root i at (Exit ∷ xs) h = refl
-  under_root i at (Error number place ∷ xs) h = under_root (i + 1) at xs h
+  under_root i at (Error number offset ∷ xs) h = under_root (i + 1) at xs h
 
   -- in a child that has n tokens so far, and inside which d nodes are open
   in_child : (d n i at : ℕ) (xs : List StrStep) → closes (suc (suc d)) xs ≡ true
@@ -37,8 +38,9 @@ mutual
       (let e : n + 0 ≡ n = omega arith in e)
       ∙ ap (λ cs. Node n ∷ cs) (under_root (i + 1) at xs h)
   in_child (suc d) n i at (Exit ∷ xs) h = in_child d n (i + 1) at xs h
-  in_child d n i at (Error number place ∷ xs) h = in_child d n (i + 1) at xs h
+  in_child d n i at (Error number offset ∷ xs) h = in_child d n (i + 1) at xs h
 
+-- the `ChildSpan` values of a balanced tree are its root children
 pub spans_are_children : (steps : List StrStep) → is_balanced steps ≡ true
     → map span_child (child_spans steps) ≡ root_children steps
 spans_are_children [] h = refl

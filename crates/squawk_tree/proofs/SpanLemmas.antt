@@ -1,144 +1,151 @@
--- The ranges so far, the open nodes and the steps that are left make the ranges of all steps.
+-- The ranges of the steps that a pass has read, and of those that remain, are those of all steps.
 use Rattle.std.proofs.Common.{◌≡◌, ℕ, suc, zero, ◌<◌, ◌≤◌, true, List, [], ◌∷◌, ◌++◌, length, slice_set, ap, sym, ◌∙◌, refl, subst, append_assoc, arith}
 use Rattle.std.proofs.lemmas.List.{set-append_left, set_at, length-set, length_push}
 use Rattle.std.proofs.lemmas.Bool.Decides.{nat_tests}
-use Rattle.squawk_tree.specs.Spans.{AreBelow, spans_after, open_after, place_after}
+use Rattle.squawk_tree.specs.Spans.{AreBelow, spans_after, open_nodes_after, offset_after}
 use Rattle.squawk_tree.specs.Steps.{closes, is_balanced}
 use Rattle.squawk_tree.specs.Ranges.{ranges, ranges_from, node_end}
 use Rattle.squawk_events.specs.declared.steps.StrStep.{StrStep}
 use Rattle.squawk_events.specs.declared.steps.StrStep.TheVariants.{Enter, Token, Exit, Error}
 
--- the ranges with the ends of the open nodes, the innermost first
+-- the ranges, completed with the ends of the open nodes, the innermost first
 abbrev pub closing : List (ℕ × ℕ) → List (ℕ × ℕ) → (ℕ → ℕ) → List (ℕ × ℕ)
 closing spans [] end_at = spans
 closing spans (p ∷ ps) end_at = closing (slice_set spans p.0 (p.1, end_at 0)) ps (λ d.
     end_at (suc d))
 
+-- the offsets at which the open nodes begin
 abbrev pub starts : List (ℕ × ℕ) → List ℕ
 starts [] = []
 starts (p ∷ ps) = p.1 ∷ starts ps
 
--- how many nodes are open after the steps
+-- the number of open nodes after the steps
 abbrev pub open_count : ℕ → List StrStep → ℕ
 open_count n [] = n
 open_count n (Enter kind ∷ xs) = open_count (suc n) xs
 open_count n (Token kind start end ∷ xs) = open_count n xs
 open_count zero (Exit ∷ xs) = open_count zero xs
 open_count (suc n) (Exit ∷ xs) = open_count n xs
-open_count n (Error number place ∷ xs) = open_count n xs
+open_count n (Error number offset ∷ xs) = open_count n xs
 
-pub AreBelow-le : (m n : ℕ) (ps : List (ℕ × ℕ)) → m ≤ n → AreBelow m ps → AreBelow n ps
-AreBelow-le m n [] le h = tt
-AreBelow-le m n (p ∷ ps) le h = (
+-- indices below a number are below any larger number
+pub are_below_le : (m n : ℕ) (ps : List (ℕ × ℕ)) → m ≤ n → AreBelow m ps → AreBelow n ps
+are_below_le m n [] le h = tt
+are_below_le m n (p ∷ ps) le h = (
   let below : p.0 < m = h.0 in
       omega arith,
-  AreBelow-le m n ps le h.1,
+  are_below_le m n ps le h.1,
 )
 
-pub closing-push : (spans : List (ℕ × ℕ)) (ps : List (ℕ × ℕ)) (end_at : ℕ → ℕ) (ys : List (ℕ × ℕ))
+-- the range of a step that is no `Enter` does not change with the ends of open nodes
+pub closing_push : (spans : List (ℕ × ℕ)) (ps : List (ℕ × ℕ)) (end_at : ℕ → ℕ) (ys : List (ℕ × ℕ))
     → AreBelow (length spans) ps → closing (spans ++ ys) ps end_at ≡ closing spans ps end_at ++ ys
-closing-push spans [] end_at ys h = refl
-closing-push spans (p ∷ ps) end_at ys h =
+closing_push spans [] end_at ys h = refl
+closing_push spans (p ∷ ps) end_at ys h =
     let e = set-append_left spans ys p.0 (p.1, end_at 0) h.0 in
     let below = subst (λ (n : ℕ). AreBelow n ps) (sym (length-set spans p.0 (p.1, end_at 0))) h.1 in
     ap (λ zs. closing zs ps (λ d. end_at (suc d))) e
-    ∙ closing-push (slice_set spans p.0 (p.1, end_at 0)) ps (λ d. end_at (suc d)) ys below
+    ∙ closing_push (slice_set spans p.0 (p.1, end_at 0)) ps (λ d. end_at (suc d)) ys below
 
--- one more range at the end
+-- the same for one range
 push_one : (spans : List (ℕ × ℕ)) (ps : List (ℕ × ℕ)) (end_at : ℕ → ℕ) (y : ℕ
     × ℕ) (rest : List (ℕ × ℕ)) → AreBelow (length spans) ps
     → closing (spans ++ y ∷ []) ps end_at ++ rest ≡ closing spans ps end_at ++ (y ∷ rest)
-push_one spans ps end_at y rest h = ap (λ zs. zs ++ rest) (closing-push spans ps end_at (y ∷ []) h)
+push_one spans ps end_at y rest h = ap (λ zs. zs ++ rest) (closing_push spans ps end_at (y ∷ []) h)
     ∙ append_assoc (closing spans ps end_at) (y ∷ []) rest
 
+-- the ranges of all steps, by those that were read, the open nodes, and the remaining steps
 abbrev pub whole : List (ℕ × ℕ) → List (ℕ × ℕ) → ℕ → List StrStep → List (ℕ × ℕ)
 whole spans ps at xs = closing spans ps (λ d. node_end d at xs) ++ ranges_from (starts ps) at xs
 
-pub whole-step : (spans : List (ℕ × ℕ)) (ps : List (ℕ
+-- reading a step keeps: the ranges of all steps, the bound of the indices, the number of open nodes
+pub whole_step : (spans : List (ℕ × ℕ)) (ps : List (ℕ
     × ℕ)) (at : ℕ) (x : StrStep) (xs : List StrStep) → AreBelow (length spans) ps
-    → whole (spans_after spans ps at x) (open_after (length spans) ps at x) (place_after at x) xs
+    → whole (spans_after spans ps at x) (open_nodes_after (length spans) ps at x)
+    (offset_after at x) xs
     ≡ whole spans ps at (x ∷ xs)
-whole-step spans ps at (Enter kind) xs h =
+whole_step spans ps at (Enter kind) xs h =
     ap (λ zs. closing zs ps (λ d. node_end (suc d) at xs)
     ++ ranges_from (at ∷ starts ps) at xs)
     (set_at spans (at, at) [] (at, node_end 0 at xs) (length spans) refl)
     ∙ push_one spans ps (λ d. node_end (suc d) at xs) (at, node_end 0 at xs)
     (ranges_from (at ∷ starts ps) at xs) h
-whole-step spans ps at (Token kind start end) xs h =
+whole_step spans ps at (Token kind start end) xs h =
     push_one spans ps (λ d. node_end d end xs) (start, end) (ranges_from (starts ps) end xs) h
-whole-step spans ps at (Error number place) xs h =
+whole_step spans ps at (Error number offset) xs h =
     push_one spans ps (λ d. node_end d at xs) (at, at) (ranges_from (starts ps) at xs) h
-whole-step spans [] at Exit xs h = append_assoc spans ((0, at) ∷ []) (ranges_from [] at xs)
-whole-step spans (p ∷ ps) at Exit xs h =
+whole_step spans [] at Exit xs h = append_assoc spans ((0, at) ∷ []) (ranges_from [] at xs)
+whole_step spans (p ∷ ps) at Exit xs h =
     let below = subst (λ (n : ℕ). AreBelow n ps) (sym (length-set spans p.0 (p.1, at))) h.1 in
     push_one (slice_set spans p.0 (p.1, at)) ps (λ d.
     node_end d at xs) (p.1, at) (ranges_from (starts ps) at xs) below
 
-pub below-step : (spans : List (ℕ × ℕ)) (ps : List (ℕ × ℕ)) (at : ℕ) (x : StrStep)
+pub below_step : (spans : List (ℕ × ℕ)) (ps : List (ℕ × ℕ)) (at : ℕ) (x : StrStep)
     → AreBelow (length spans) ps
-    → AreBelow (length (spans_after spans ps at x)) (open_after (length spans) ps at x)
-below-step spans ps at (Enter kind) h = let e = length_push spans (at, at) in
-    (omega arith, AreBelow-le (length spans) (length (spans ++ (at, at) ∷ [])) ps (omega arith) h)
-below-step spans ps at (Token kind start end) h = let e = length_push spans (start, end) in
-    AreBelow-le (length spans) (length (spans ++ (start, end) ∷ [])) ps (omega arith) h
-below-step spans ps at (Error number place) h = let e = length_push spans (at, at) in
-    AreBelow-le (length spans) (length (spans ++ (at, at) ∷ [])) ps (omega arith) h
-below-step spans [] at Exit h = tt
-below-step spans (p ∷ ps) at Exit h =
+    → AreBelow (length (spans_after spans ps at x)) (open_nodes_after (length spans) ps at x)
+below_step spans ps at (Enter kind) h = let e = length_push spans (at, at) in
+    (omega arith, are_below_le (length spans) (length (spans ++ (at, at) ∷ [])) ps (omega arith) h)
+below_step spans ps at (Token kind start end) h = let e = length_push spans (start, end) in
+    are_below_le (length spans) (length (spans ++ (start, end) ∷ [])) ps (omega arith) h
+below_step spans ps at (Error number offset) h = let e = length_push spans (at, at) in
+    are_below_le (length spans) (length (spans ++ (at, at) ∷ [])) ps (omega arith) h
+below_step spans [] at Exit h = tt
+below_step spans (p ∷ ps) at Exit h =
     let e = length_push (slice_set spans p.0 (p.1, at)) (p.1, at) in
     let f = length-set spans p.0 (p.1, at) in
-    AreBelow-le (length spans) (length (slice_set spans p.0 (p.1, at) ++ (p.1, at) ∷ [])) ps
+    are_below_le (length spans) (length (slice_set spans p.0 (p.1, at) ++ (p.1, at) ∷ [])) ps
     (omega arith) h.1
 
-pub open_count-step : (n : ℕ) (ps : List (ℕ × ℕ)) (at : ℕ) (x : StrStep) (xs : List StrStep)
-    → open_count (length (open_after n ps at x)) xs ≡ open_count (length ps) (x ∷ xs)
-open_count-step n ps at (Enter kind) xs = refl
-open_count-step n ps at (Token kind start end) xs = refl
-open_count-step n ps at (Error number place) xs = refl
-open_count-step n [] at Exit xs = refl
-open_count-step n (p ∷ ps) at Exit xs = refl
+pub open_count_step : (n : ℕ) (ps : List (ℕ × ℕ)) (at : ℕ) (x : StrStep) (xs : List StrStep)
+    → open_count (length (open_nodes_after n ps at x)) xs ≡ open_count (length ps) (x ∷ xs)
+open_count_step n ps at (Enter kind) xs = refl
+open_count_step n ps at (Token kind start end) xs = refl
+open_count_step n ps at (Error number offset) xs = refl
+open_count_step n [] at Exit xs = refl
+open_count_step n (p ∷ ps) at Exit xs = refl
 
-closes-open_count : (d : ℕ) (xs : List StrStep) → closes d xs ≡ true → open_count d xs ≡ 0
-closes-open_count d [] h = grind (arith, nat_tests)
-closes-open_count zero (x ∷ xs) h = cc
-closes-open_count (suc d) (Enter kind ∷ xs) h = closes-open_count (suc (suc d)) xs h
-closes-open_count (suc d) (Token kind start end ∷ xs) h = closes-open_count (suc d) xs h
-closes-open_count (suc d) (Error number place ∷ xs) h = closes-open_count (suc d) xs h
-closes-open_count (suc d) (Exit ∷ xs) h = closes-open_count d xs h
+-- no node is open after the steps of a node, and of a whole tree
+closes_open_count : (d : ℕ) (xs : List StrStep) → closes d xs ≡ true → open_count d xs ≡ 0
+closes_open_count d [] h = grind (arith, nat_tests)
+closes_open_count zero (x ∷ xs) h = cc
+closes_open_count (suc d) (Enter kind ∷ xs) h = closes_open_count (suc (suc d)) xs h
+closes_open_count (suc d) (Token kind start end ∷ xs) h = closes_open_count (suc d) xs h
+closes_open_count (suc d) (Error number offset ∷ xs) h = closes_open_count (suc d) xs h
+closes_open_count (suc d) (Exit ∷ xs) h = closes_open_count d xs h
 
-pub is_balanced-open_count : (xs : List StrStep) → is_balanced xs ≡ true → open_count 0 xs ≡ 0
-is_balanced-open_count [] h = refl
-is_balanced-open_count (Enter kind ∷ xs) h = closes-open_count 1 xs h
-is_balanced-open_count (Token kind start end ∷ xs) h = cc
-is_balanced-open_count (Error number place ∷ xs) h = cc
-is_balanced-open_count (Exit ∷ xs) h = cc
+pub balanced_open_count : (xs : List StrStep) → is_balanced xs ≡ true → open_count 0 xs ≡ 0
+balanced_open_count [] h = refl
+balanced_open_count (Enter kind ∷ xs) h = closes_open_count 1 xs h
+balanced_open_count (Token kind start end ∷ xs) h = cc
+balanced_open_count (Error number offset ∷ xs) h = cc
+balanced_open_count (Exit ∷ xs) h = cc
 
--- the ranges and the open nodes after some of the steps, where these are left and all ranges are
--- those
+-- the state of the pass before the steps `left`, where `all` are the ranges of all steps
 pub record SpansSoFar (spans : List (ℕ × ℕ)) (ps : List (ℕ
     × ℕ)) (at : ℕ) (left : List StrStep) (all : List (ℕ × ℕ)) : Type 0 where
   pub below : AreBelow (length spans) ps
   pub whole_is : whole spans ps at left ≡ all
   pub count : open_count (length ps) left ≡ 0
 
-pub so_far-step : (spans ps : List (ℕ × ℕ)) (at : ℕ) (x : StrStep) (xs left : List StrStep)
+-- the state after a step, and at the start
+pub so_far_step : (spans ps : List (ℕ × ℕ)) (at : ℕ) (x : StrStep) (xs left : List StrStep)
     (all spans' ps' : List (ℕ × ℕ)) (at' : ℕ) → SpansSoFar spans ps at left all → left ≡ x ∷ xs
-    → spans' ≡ spans_after spans ps at x → ps' ≡ open_after (length spans) ps at x
-    → at' ≡ place_after at x → SpansSoFar spans' ps' at' xs all
-so_far-step spans ps at x xs left all spans' ps' at' h is spans_is ps_is at_is =
+    → spans' ≡ spans_after spans ps at x → ps' ≡ open_nodes_after (length spans) ps at x
+    → at' ≡ offset_after at x → SpansSoFar spans' ps' at' xs all
+so_far_step spans ps at x xs left all spans' ps' at' h is spans_is ps_is at_is =
     rw (spans_is, ps_is, at_is) (record {
-      below = below-step spans ps at x h.below;
-      whole_is = whole-step spans ps at x xs h.below
+      below = below_step spans ps at x h.below;
+      whole_is = whole_step spans ps at x xs h.below
           ∙ (ap (λ ys. whole spans ps at ys) (sym is) ∙ h.whole_is);
-      count = open_count-step (length spans) ps at x xs
+      count = open_count_step (length spans) ps at x xs
           ∙ (ap (λ ys. open_count (length ps) ys) (sym is) ∙ h.count);
     })
 
-pub so_far-start : (steps : List StrStep) → is_balanced steps ≡ true
+pub so_far_start : (steps : List StrStep) → is_balanced steps ≡ true
     → SpansSoFar [] [] 0 steps (ranges steps)
-so_far-start steps h = record {
+so_far_start steps h = record {
   below = tt;
   whole_is = refl;
   count =
-      is_balanced-open_count steps h;
+      balanced_open_count steps h;
 }

@@ -16,41 +16,42 @@ use Rattle.squawk_statements.specs.declared.division.Division.{Division}
 use Rattle.squawk_tree.specs.ParseOf.{lexed_role, roles_of, token_steps, tokens_of, parse_of_tokens}
 use Rattle.squawk_tree.specs.Steps.{leaves, only_tokens, ranges_through, root_children, root_child}
 use Rattle.squawk_tree.specs.Tree.{Tree}
-use Rattle.squawk_tree.proofs.TreeLaws.{leaves-only_tokens}
+use Rattle.squawk_tree.proofs.TreeLaws.{leaves_only_tokens}
 
--- what holds of a parse holds of an answer that is the parse
+-- a property of the parse holds of a result that is equal to it
 pub on_parse : {E : Type 0} (r : Result Tree E) (parse : Tree) (P : Tree → Type 0)
     → IfOk r (λ t. t ≡ parse) → P parse → IfOk r P
 on_parse (Ok t) parse P is h = subst P (sym is) h
 on_parse (Err e) parse P is h = tt
 
--- the Token steps are laid from end to end of the tokens
-leaves-token_steps : (text : List ℕ) (at : ℕ) (ts : List lexer.Token)
+-- the ranges of the `Token` steps are those of the tokens that the lexer cuts
+leaves_token_steps : (text : List ℕ) (at : ℕ) (ts : List lexer.Token)
     → leaves (token_steps at (lexed_tokens text at ts)) ≡ ranges_through at (token_ends at ts)
-leaves-token_steps text at [] = refl
-leaves-token_steps text at (t ∷ ts) =
-    ap (λ rs. (at, at + t.len) ∷ rs) (leaves-token_steps text (at + t.len) ts)
+leaves_token_steps text at [] = refl
+leaves_token_steps text at (t ∷ ts) =
+    ap (λ rs. (at, at + t.len) ∷ rs) (leaves_token_steps text (at + t.len) ts)
 
+-- the leaves of the parse of a text are the tokens of the text
 pub leaves_of_text : {E : Type 0} (r : Result Tree E) (strings : Strings) (text : List ℕ)
     (ts : List LexedToken) → ts ≡ tokens_of strings text
     → IfOk r (λ tree. only_tokens tree.steps ≡ token_steps 0 ts)
     → IfOk r (λ tree. leaves tree.steps
     ≡ ranges_through 0 (token_ends 0 (tokens strings (chars text))))
-leaves_of_text (Ok tree) strings text ts ts_are is = sym (leaves-only_tokens tree.steps)
+leaves_of_text (Ok tree) strings text ts ts_are is = sym (leaves_only_tokens tree.steps)
     ∙ ap leaves is ∙ ap (λ us. leaves (token_steps 0 us)) ts_are
-    ∙ leaves-token_steps text 0 (tokens strings (chars text))
+    ∙ leaves_token_steps text 0 (tokens strings (chars text))
 leaves_of_text (Err e) strings text ts ts_are is = tt
 
 -- a token keeps its role as a leaf
 module _ (keep : (token : TokenKind) (text : List ℕ) → role (leaf_kind token text)
     ≡ token_role token) where
-  roles-lexed : (text : List ℕ) (at : ℕ) (ts : List lexer.Token)
+  roles_lexed : (text : List ℕ) (at : ℕ) (ts : List lexer.Token)
       → map lexed_role (lexed_tokens text at ts) ≡ roles_of ts
-  roles-lexed text at [] = refl
-  roles-lexed text at (t ∷ ts) =
+  roles_lexed text at [] = refl
+  roles_lexed text at (t ∷ ts) =
       ap (λ r. r ∷ map lexed_role (lexed_tokens text (at + t.len) ts))
       (keep t.kind (slice_range text at (at + t.len)))
-      ∙ ap (λ rs. token_role t.kind ∷ rs) (roles-lexed text (at + t.len) ts)
+      ∙ ap (λ rs. token_role t.kind ∷ rs) (roles_lexed text (at + t.len) ts)
 
   pub children_of_text : {E : Type 0} (r : Result Tree E) (strings : Strings) (division : Division)
       (text : List ℕ) (ts : List LexedToken) → ts ≡ tokens_of strings text
@@ -64,5 +65,5 @@ module _ (keep : (token : TokenKind) (text : List ℕ) → role (leaf_kind token
       ap (λ (t : Tree). root_children t.steps) is ∙ law division ts
       ∙ ap (λ us. map root_child (children division (map lexed_role us))) ts_are
       ∙ ap (λ rs. map root_child (children division rs))
-      (roles-lexed text 0 (tokens strings (chars text)))
+      (roles_lexed text 0 (tokens strings (chars text)))
   children_of_text (Err e) strings division text ts ts_are law is = tt

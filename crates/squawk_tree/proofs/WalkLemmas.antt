@@ -15,7 +15,7 @@ use Rattle.squawk_lexed.specs.declared.fault.Fault.{Fault}
 use Rattle.squawk_tree.specs.Errors.{error}
 use Rattle.squawk_tree.specs.Walk.{step_errors, errors_before, errors_not_before, EndsBelow, IsWalk, IsWalkAfter}
 
--- a fault of a sound token begins before the token's end and ends by it
+-- a fault of a sound token begins before the end of the token and ends by it
 pub record InToken (len : ℕ) (f : Fault) : Type 0 where
   pub starts : f.start < len
   pub ends : f.end ≤ len
@@ -30,7 +30,7 @@ in_token len f h =
     let inside = leb-true f.end len c.1 in
     record { starts = omega arith; ends = inside }
 
--- the parts of a sound token
+-- what holds of a sound token and of the tokens after it
 pub record SoundParts (t : LexedToken) (ts : List LexedToken) : Type 0 where
   pub some : 0 < t.len
   pub faults : faults_within t.len t.faults ≡ true
@@ -43,6 +43,7 @@ sound_parts t ts s =
     let b = and_parts (faults_within t.len t.faults) (are_sound ts) a.1 in
     record { some = ltb-true 0 t.len a.0; faults = b.0; rest = b.1 }
 
+-- an offset before another, and one that is not
 starts_before : (m n : ℕ) → m < n → nat_lt m n ≡ true
 starts_before m n h = grind (arith, nat_tests)
 
@@ -60,6 +61,7 @@ none_before end at (t ∷ ts) le = by t.faults (none_before end (at + t.len) ts 
     by [] rest = rest
     by (f ∷ fs) rest = let e = starts_after (at + f.start) end (omega arith) in rw e refl
 
+-- all errors of tokens begin at the first of them or after it
 all_from : (end at : ℕ) (ts : List LexedToken) → end ≤ at
     → errors_not_before end (errors_of at ts) ≡ errors_of at ts
 all_from end at [] le = refl
@@ -85,6 +87,7 @@ faults_before at len (f ∷ fs) ts h =
     rw e (ap (λ es. error (at + f.start) (at + f.end) f.number ∷ es)
     (faults_before at len fs ts parts.1))
 
+-- the errors of the tokens after it are the others
 faults_from : (at len : ℕ) (fs : List Fault) (ts : List LexedToken) → faults_within len fs ≡ true
     → errors_not_before (at + len) (errors_at at fs ++ errors_of (at + len) ts)
     ≡ errors_of (at + len) ts
@@ -96,6 +99,7 @@ faults_from at len (f ∷ fs) ts h =
     let e = starts_before (at + f.start) (at + len) (omega arith) in
     rw e (faults_from at len fs ts parts.1)
 
+-- the next index
 next : (i : ℕ) → suc i ≡ i + 1
 next i = omega arith
 
@@ -106,6 +110,7 @@ pub record TokenAt (ts : List LexedToken) (i : ℕ) : Type 0 where
   pub end : total_len (take (i + 1) ts) ≡ total_len (take i ts) + token.len
   pub faults : faults_within token.len token.faults ≡ true
 
+-- the same with the next index as a successor
 record TokenBefore (ts : List LexedToken) (i after : ℕ) : Type 0 where
   token : LexedToken
   is : drop i ts ≡ token ∷ drop after ts
@@ -144,6 +149,7 @@ pub token_end : (ts : List LexedToken) (i : ℕ)
     → total_len (take (i + 1) ts) ≡ total_len (take i ts) + next_len (drop i ts)
 token_end ts i = ap (λ n. total_len (take n ts)) (sym (next i)) ∙ end_before ts i
 
+-- no token is at an index past the last
 pub no_token : (ts : List LexedToken) (i : ℕ) → length ts ≤ i → drop i ts ≡ []
 no_token [] zero h = refl
 no_token [] (suc i) h = refl
@@ -169,6 +175,7 @@ ends_below n at (t ∷ ts) h s =
         All-cons (EndsBelow n) (error (at + f.start) (at + f.end) f.number) (errors_at at fs)
         (omega arith) (by fs both.1)
 
+-- a prefix is no longer than the whole
 pub take_within : (i : ℕ) (ts : List LexedToken) → total_len (take i ts) ≤ total_len ts
 take_within zero ts = omega arith
 take_within (suc i) [] = omega arith
@@ -200,7 +207,8 @@ module _ (ts : List LexedToken) (i j end : ℕ) (lexical : List ParseError)
       (drop (i + 1) ts) token.faults ∙ sym own
 
   -- and the walk goes on with the others
-  pub walk_on : (k : ℕ) → drop k lexical ≡ errors_not_before end (drop j lexical) → k ≤ length lexical
+  pub walk_on : (k : ℕ) → drop k lexical ≡ errors_not_before end (drop j lexical)
+      → k ≤ length lexical
       → IsWalkAfter ts i (Token kind start stop) (i + 1) k
   walk_on k rest within =
       let token = token_at ts i some sound in

@@ -6,7 +6,7 @@ use Rattle.squawk_tree.specs.Ranges.{node_end}
 use Rattle.squawk_tree.specs.Steps.{RootChild, Leaf, Node}
 use Rattle.squawk_tree.specs.declared.children.ChildSpan.{ChildSpan}
 
--- the number of Token steps before the Exit of the node in which d inner nodes are open
+-- the number of `Token` steps up to the `Exit` of a node, in which d inner nodes are open
 abbrev pub node_tokens : ℕ → List StrStep → ℕ
 node_tokens d [] = 0
 node_tokens d (Token kind start end ∷ xs) = suc (node_tokens d xs)
@@ -25,7 +25,7 @@ leaf_span i start end = record {
   node = None;
 }
 
--- a node that is entered at the i-th step and at an offset, by the steps after its Enter
+-- a node whose `Enter` is the i-th step, at an offset, by the steps after it
 abbrev pub node_span : (kind i at : ℕ) → List StrStep → ChildSpan
 node_span kind i at xs = record {
   step = i;
@@ -35,7 +35,8 @@ node_span kind i at xs = record {
   node = Some kind;
 }
 
--- the children from the i-th step and an offset on, where d nodes are open inside the root
+-- the children that begin in these steps, the first of which is the i-th step and is at an offset;
+-- d nodes are open inside the root
 abbrev pub child_spans_from : (d i at : ℕ) → List StrStep → List ChildSpan
 child_spans_from d i at [] = []
 child_spans_from zero i at (Token kind start end ∷ xs) =
@@ -43,11 +44,11 @@ child_spans_from zero i at (Token kind start end ∷ xs) =
 child_spans_from zero i at (Enter kind ∷ xs) =
     node_span kind i at xs ∷ child_spans_from 1 (i + 1) at xs
 child_spans_from zero i at (Exit ∷ xs) = []
-child_spans_from zero i at (Error number place ∷ xs) = child_spans_from 0 (i + 1) at xs
+child_spans_from zero i at (Error number offset ∷ xs) = child_spans_from 0 (i + 1) at xs
 child_spans_from (suc d) i at (Token kind start end ∷ xs) = child_spans_from (suc d) (i + 1) end xs
 child_spans_from (suc d) i at (Enter kind ∷ xs) = child_spans_from (suc (suc d)) (i + 1) at xs
 child_spans_from (suc d) i at (Exit ∷ xs) = child_spans_from d (i + 1) at xs
-child_spans_from (suc d) i at (Error number place ∷ xs) = child_spans_from (suc d) (i + 1) at xs
+child_spans_from (suc d) i at (Error number offset ∷ xs) = child_spans_from (suc d) (i + 1) at xs
 
 -- the children of the root
 abbrev pub child_spans : List StrStep → List ChildSpan
@@ -59,5 +60,6 @@ abbrev pub child_by : Option ℕ → ℕ → RootChild
 child_by None tokens = Leaf
 child_by (Some kind) tokens = Node tokens
 
+-- a child of the root, without its range
 abbrev pub span_child : ChildSpan → RootChild
 span_child child = child_by child.node child.tokens

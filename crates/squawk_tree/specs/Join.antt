@@ -1,4 +1,4 @@
--- The children of a parse, each made of its own tokens alone, and how they are joined to one tree.
+-- The children of a parse, each built from its own tokens alone, and the tree that they make.
 use Rattle.std.specs.Prelude.{ℕ, ◌+◌, List, [], ◌∷◌, ◌++◌, map, if◌then◌else◌}
 use Rattle.squawk_events.specs.Kinds.{is_trivia_kind}
 use Rattle.squawk_events.specs.declared.steps.ParseError.{ParseError}
@@ -25,7 +25,7 @@ woven_child d at (t ∷ ts) =
     if is_trivia_kind t.kind then Token t.kind at (at + t.len) ∷ []
     else weave_from at (t ∷ ts) (child_steps d (kinds_without_trivia (t ∷ ts)))
 
--- one child: its steps, its errors and its length, with offsets from its start
+-- one child: its steps, its errors and its length in bytes; offsets are from its start
 pub record ChildTree : Type 0 where
   pub steps : List StrStep
   pub errors : List ParseError
@@ -43,14 +43,14 @@ child_of d ts = record {
 abbrev pub children_of : Strings → Division → List ℕ → List ChildTree
 children_of strings d text = map (child_of d) (parts lexed_role d (tokens_of strings text))
 
--- a step n bytes later
+-- a step of a child that begins n bytes into the text
 abbrev pub shifted_step : ℕ → StrStep → StrStep
 shifted_step n (Enter kind) = Enter kind
 shifted_step n (Token kind start end) = Token kind (start + n) (end + n)
 shifted_step n Exit = Exit
 shifted_step n (Error number at) = Error number (at + n)
 
--- an error n bytes later
+-- an error of a child that begins n bytes into the text
 abbrev pub shifted_error : ℕ → ParseError → ParseError
 shifted_error n e = error (e.start + n) (e.end + n) e.number
 
@@ -60,18 +60,18 @@ steps_from at [] = []
 steps_from at (child ∷ rest) =
     map (shifted_step at) child.steps ++ steps_from (at + child.len) rest
 
--- their errors
+-- the errors of children, the first of which begins at an offset
 abbrev pub errors_from : ℕ → List ChildTree → List ParseError
 errors_from at [] = []
 errors_from at (child ∷ rest) =
     map (shifted_error at) child.errors ++ errors_from (at + child.len) rest
 
--- their length
+-- the length of children in bytes
 abbrev pub children_len : List ChildTree → ℕ
 children_len [] = 0
 children_len (child ∷ rest) = child.len + children_len rest
 
--- children in order under one root
+-- the tree whose root has these children
 abbrev pub join : List ChildTree → Tree
 join children = record {
   steps = Enter SOURCE_FILE ∷ steps_from 0 children ++ Exit ∷ [];

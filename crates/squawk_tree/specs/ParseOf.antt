@@ -24,12 +24,12 @@ lexed_role t = role t.kind
 abbrev pub roles_of : List lexer.Token → List Role
 roles_of ts = map (λ (t : lexer.Token). token_role t.kind) ts
 
--- the Token steps of tokens, the first of which begins at an offset
+-- the `Token` steps of tokens, the first of which begins at an offset
 abbrev pub token_steps : ℕ → List LexedToken → List StrStep
 token_steps at [] = []
 token_steps at (t ∷ ts) = Token t.kind at (at + t.len) ∷ token_steps (at + t.len) ts
 
--- the tree over tokens whose steps, Error steps included, are these
+-- the tree over tokens whose steps, `Error` steps included, are these
 abbrev pub tree_of : List LexedToken → List StrStep → Tree
 tree_of ts steps = record {
   steps = without_errors steps;
@@ -37,7 +37,7 @@ tree_of ts steps = record {
   len = total_len ts;
 }
 
--- the parse of tokens by a grammar that gives these steps for a list of kinds
+-- the parse of tokens by a grammar whose output for a list of kinds is `told`
 abbrev pub parse_by : (List ℕ → List Step) → List LexedToken → Tree
 parse_by told ts = tree_of ts (weave ts (told (kinds_without_trivia ts)))
 

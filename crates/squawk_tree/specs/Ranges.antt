@@ -1,38 +1,39 @@
--- The range of each step of a tree: a token's own, and for an Enter and its Exit the node's. A node
--- begins where the last token before its Enter ends and ends where the last token before its Exit
--- does; before the first token this is 0.
+-- The byte range of each step of a tree: of a token its own, of an `Enter` and its `Exit` that of
+-- the node. A node begins at the end of the last token before its `Enter`, and ends at the end of
+-- the last token before its `Exit`; before the first token that offset is 0.
 use Rattle.std.specs.Prelude.{ℕ, zero, suc, List, [], ◌∷◌}
 use Rattle.squawk_events.specs.declared.steps.StrStep.{StrStep}
 use Rattle.squawk_events.specs.declared.steps.StrStep.TheVariants.{Enter, Token, Exit, Error}
 
--- the end of the last token before the Exit of the node in which d inner nodes are open, from a
--- place on
+-- the end of a node that is open at the offset `at` with d nodes open inside it
 abbrev pub node_end : (d at : ℕ) → List StrStep → ℕ
 node_end d at [] = at
 node_end d at (Token kind start end ∷ xs) = node_end d end xs
 node_end d at (Enter kind ∷ xs) = node_end (suc d) at xs
 node_end zero at (Exit ∷ xs) = at
 node_end (suc d) at (Exit ∷ xs) = node_end d at xs
-node_end d at (Error number place ∷ xs) = node_end d at xs
+node_end d at (Error number offset ∷ xs) = node_end d at xs
 
--- the first of some places, or 0
-abbrev pub first_place : List ℕ → ℕ
-first_place [] = 0
-first_place (p ∷ ps) = p
+-- the first of these offsets, or 0
+abbrev pub first_offset : List ℕ → ℕ
+first_offset [] = 0
+first_offset (p ∷ ps) = p
 
--- the others
-abbrev pub other_places : List ℕ → List ℕ
-other_places [] = []
-other_places (p ∷ ps) = ps
+-- all but the first
+abbrev pub other_offsets : List ℕ → List ℕ
+other_offsets [] = []
+other_offsets (p ∷ ps) = ps
 
--- the ranges from a place on, where the open nodes, the innermost first, begin at these places
-abbrev pub ranges_from : (opened : List ℕ) (at : ℕ) → List StrStep → List (ℕ × ℕ)
-ranges_from opened at [] = []
-ranges_from opened at (Enter kind ∷ xs) = (at, node_end 0 at xs) ∷ ranges_from (at ∷ opened) at xs
-ranges_from opened at (Token kind start end ∷ xs) = (start, end) ∷ ranges_from opened end xs
-ranges_from opened at (Exit ∷ xs) = (first_place opened, at)
-    ∷ ranges_from (other_places opened) at xs
-ranges_from opened at (Error number place ∷ xs) = (at, at) ∷ ranges_from opened at xs
+-- the ranges of steps from the offset `at` on, where the open nodes begin at these offsets, the
+-- innermost first
+abbrev pub ranges_from : (open_nodes : List ℕ) (at : ℕ) → List StrStep → List (ℕ × ℕ)
+ranges_from open_nodes at [] = []
+ranges_from open_nodes at (Enter kind ∷ xs) = (at, node_end 0 at xs)
+    ∷ ranges_from (at ∷ open_nodes) at xs
+ranges_from open_nodes at (Token kind start end ∷ xs) = (start, end) ∷ ranges_from open_nodes end xs
+ranges_from open_nodes at (Exit ∷ xs) = (first_offset open_nodes, at)
+    ∷ ranges_from (other_offsets open_nodes) at xs
+ranges_from open_nodes at (Error number offset ∷ xs) = (at, at) ∷ ranges_from open_nodes at xs
 
 -- the ranges of all steps
 abbrev pub ranges : List StrStep → List (ℕ × ℕ)

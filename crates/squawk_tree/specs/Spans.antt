@@ -1,41 +1,41 @@
--- The ranges of the steps so far, where the nodes that are still open wait for their ends.
+-- The ranges of the steps that a pass has read. The range of a node that is still open is empty. An
+-- open node is the index of its `Enter` and the offset at which it begins; the innermost is first.
 use Rattle.std.specs.Prelude.{ℕ, ◌<◌, List, [], ◌∷◌, ◌++◌, slice_set, ⊤}
 use Rattle.squawk_events.specs.declared.steps.StrStep.{StrStep}
 use Rattle.squawk_events.specs.declared.steps.StrStep.TheVariants.{Enter, Token, Exit, Error}
 
--- the place of each open node's Enter among the steps is below a number
+-- the index of each open node is below n
 abbrev pub AreBelow : ℕ → List (ℕ × ℕ) → Type 0
 AreBelow n [] = ⊤
 AreBelow n (p ∷ ps) = (p.0 < n) × AreBelow n ps
 
--- the ranges behind an Exit at a place
-abbrev pub closed_spans : List (ℕ × ℕ) → List (ℕ × ℕ) → ℕ → List (ℕ × ℕ)
-closed_spans spans [] at = spans ++ (0, at) ∷ []
-closed_spans spans (p ∷ ps) at = slice_set spans p.0 (p.1, at) ++ (p.1, at) ∷ []
+-- the ranges after an `Exit` at the offset `at`, which ends the innermost open node
+abbrev pub spans_after_exit : List (ℕ × ℕ) → List (ℕ × ℕ) → ℕ → List (ℕ × ℕ)
+spans_after_exit spans [] at = spans ++ (0, at) ∷ []
+spans_after_exit spans (p ∷ ps) at = slice_set spans p.0 (p.1, at) ++ (p.1, at) ∷ []
 
--- the ranges behind a step at a place; the open nodes stand with the innermost first, each by the
--- place of its Enter among the steps and its start
+-- the ranges after a step at the offset `at`
 abbrev pub spans_after : List (ℕ × ℕ) → List (ℕ × ℕ) → ℕ → StrStep → List (ℕ × ℕ)
-spans_after spans opened at (Enter kind) = spans ++ (at, at) ∷ []
-spans_after spans opened at (Token kind start end) = spans ++ (start, end) ∷ []
-spans_after spans opened at Exit = closed_spans spans opened at
-spans_after spans opened at (Error number place) = spans ++ (at, at) ∷ []
+spans_after spans open_nodes at (Enter kind) = spans ++ (at, at) ∷ []
+spans_after spans open_nodes at (Token kind start end) = spans ++ (start, end) ∷ []
+spans_after spans open_nodes at Exit = spans_after_exit spans open_nodes at
+spans_after spans open_nodes at (Error number offset) = spans ++ (at, at) ∷ []
 
 -- all but the first
 abbrev pub without_first : List (ℕ × ℕ) → List (ℕ × ℕ)
 without_first [] = []
 without_first (p ∷ ps) = ps
 
--- the open nodes behind the n-th step
-abbrev pub open_after : ℕ → List (ℕ × ℕ) → ℕ → StrStep → List (ℕ × ℕ)
-open_after n opened at (Enter kind) = (n, at) ∷ opened
-open_after n opened at (Token kind start end) = opened
-open_after n opened at Exit = without_first opened
-open_after n opened at (Error number place) = opened
+-- the open nodes after the step with index n
+abbrev pub open_nodes_after : ℕ → List (ℕ × ℕ) → ℕ → StrStep → List (ℕ × ℕ)
+open_nodes_after n open_nodes at (Enter kind) = (n, at) ∷ open_nodes
+open_nodes_after n open_nodes at (Token kind start end) = open_nodes
+open_nodes_after n open_nodes at Exit = without_first open_nodes
+open_nodes_after n open_nodes at (Error number offset) = open_nodes
 
--- the place behind a step
-abbrev pub place_after : ℕ → StrStep → ℕ
-place_after at (Enter kind) = at
-place_after at (Token kind start end) = end
-place_after at Exit = at
-place_after at (Error number place) = at
+-- the end of the last token after a step
+abbrev pub offset_after : ℕ → StrStep → ℕ
+offset_after at (Enter kind) = at
+offset_after at (Token kind start end) = end
+offset_after at Exit = at
+offset_after at (Error number offset) = at

@@ -1,10 +1,10 @@
--- What a sink has taken.
+-- The value of a `TreeSink`.
 use Rattle.std.specs.Prelude.{ℕ, ◌≤◌, List, [], ◌∷◌}
 use Rattle.squawk_events.specs.declared.steps.ParseError.{ParseError}
 use Rattle.squawk_events.specs.declared.steps.StrStep.{StrStep}
 use Rattle.squawk_events.specs.declared.steps.StrStep.TheVariants.{Enter, Token, Exit, Error}
 
--- steps, Error steps among them, and pushed errors
+-- the steps that a sink has received, `Error` steps among them, and the errors pushed to it
 pub record Taken : Type 0 where
   pub steps : List StrStep
   pub errors : List ParseError

@@ -1,4 +1,4 @@
--- What a parse is seen as, and what holds of it.
+-- The value of a `Parse`, and what holds of every parse.
 use Rattle.std.specs.Prelude.{ℕ, ◌≡◌, ◌≤◌, List, All, IsTrue}
 use Rattle.std.specs.Str.{IsCharBoundary}
 use Rattle.squawk_events.specs.declared.steps.StrStep.{StrStep}
@@ -8,20 +8,21 @@ use Rattle.squawk_tree.specs.Steps.{is_balanced, has_no_errors, leaves, tiles}
 use Rattle.squawk_tree.specs.ChildSpans.{child_spans}
 use Rattle.squawk_tree.specs.Ranges.{ranges}
 
--- the steps of a tree, its errors, and the length of its text in bytes
+-- the steps of a tree, the errors in its text, and the length of its text in bytes
 pub record Tree : Type 0 where
   pub steps : List StrStep
   pub errors : List ParseError
   pub len : ℕ
 
--- an error with one of the ten messages, within a text of this length
+-- the error has one of the ten messages, and lies in a text of `len` bytes
 pub record IsErrorWithin (len : ℕ) (e : ParseError) : Type 0 where
   pub first_number : 1 ≤ e.number
   pub last_number : e.number ≤ 10
   pub ordered : e.start ≤ e.end
   pub within : e.end ≤ len
 
--- the steps are balanced, their tokens cover a text of this length, and the errors lie in it
+-- the steps are balanced, no `Error` is among them, the tokens cover the text from its start to its
+-- end, and the errors lie in it
 pub record IsTree (t : Tree) : Type 0 where
   pub balanced : IsTrue (is_balanced t.steps)
   pub no_errors : IsTrue (has_no_errors t.steps)
@@ -32,7 +33,7 @@ pub record IsTree (t : Tree) : Type 0 where
 abbrev pub IsRangeOf : List ℕ → ℕ × ℕ → Type 0
 IsRangeOf text range = IsCharBoundary text range.0 × IsCharBoundary text range.1
 
--- what is kept of a parse: a tree, the range of each step, and the children of the root
+-- what a `Parse` stores: a tree, the range of each step, and the children of the root
 pub record IsKept (t : Tree) (spans : List (ℕ × ℕ)) (children : List ChildSpan) : Type 0 where
   pub tree : IsTree t
   pub spans_are : spans ≡ ranges t.steps

@@ -1,4 +1,4 @@
--- The errors of a parse as one walk over its steps finds them.
+-- The errors of a parse, collected in one walk over its steps.
 use Rattle.std.specs.Prelude.{◌≡◌, ℕ, ◌+◌, ◌<◌, ◌≤◌, nat_lt, List, [], ◌∷◌, ◌++◌, drop, take, length, if◌then◌else◌}
 use Rattle.squawk_events.specs.declared.steps.ParseError.{ParseError}
 use Rattle.squawk_events.specs.declared.steps.StrStep.{StrStep}
@@ -9,7 +9,7 @@ use Rattle.squawk_lexed.specs.Stored.{errors_at, errors_of}
 use Rattle.squawk_lexed.specs.Weave.{next_len}
 use Rattle.squawk_tree.specs.Errors.{error}
 
--- the error of an Error step has the range of the next token, and an empty one where none remains
+-- the error of an `Error` step: its range is that of the next token, and empty where none remains
 abbrev pub step_error : ℕ → List LexedToken → ℕ → List ParseError
 step_error at ts number = error at (at + next_len ts) number ∷ []
 
@@ -21,31 +21,32 @@ step_errors at (t ∷ ts) (Token kind start end) = errors_at at t.faults
 step_errors at ts Exit = []
 step_errors at ts (Error number offset) = step_error at ts number
 
--- where the tokens that remain after it begin
-abbrev pub offset_after : ℕ → List LexedToken → StrStep → ℕ
-offset_after at ts (Enter kind) = at
-offset_after at ts (Token kind start end) = at + next_len ts
-offset_after at ts Exit = at
-offset_after at ts (Error number offset) = at
+-- the offset at which the tokens that remain after a step begin
+abbrev pub next_start : ℕ → List LexedToken → StrStep → ℕ
+next_start at ts (Enter kind) = at
+next_start at ts (Token kind start end) = at + next_len ts
+next_start at ts Exit = at
+next_start at ts (Error number offset) = at
 
--- the tokens that remain after it
+-- the tokens that remain after a step
 abbrev pub tokens_after : List LexedToken → StrStep → List LexedToken
 tokens_after ts (Enter kind) = ts
 tokens_after ts (Token kind start end) = drop 1 ts
 tokens_after ts Exit = ts
 tokens_after ts (Error number offset) = ts
 
+-- the errors of steps, where the first of the remaining tokens begins at an offset
 abbrev pub errors_by_step : ℕ → List LexedToken → List StrStep → List ParseError
 errors_by_step at ts [] = []
 errors_by_step at ts (x ∷ xs) =
-    step_errors at ts x ++ errors_by_step (offset_after at ts x) (tokens_after ts x) xs
+    step_errors at ts x ++ errors_by_step (next_start at ts x) (tokens_after ts x) xs
 
--- the first of some errors, up to one that does not begin before an offset
+-- the errors before the first that does not begin before an offset
 abbrev pub errors_before : ℕ → List ParseError → List ParseError
 errors_before end [] = []
 errors_before end (e ∷ es) = if nat_lt e.start end then e ∷ errors_before end es else []
 
--- the others
+-- the remaining errors
 abbrev pub errors_not_before : ℕ → List ParseError → List ParseError
 errors_not_before end [] = []
 errors_not_before end (e ∷ es) = if nat_lt e.start end then errors_not_before end es else e ∷ es
@@ -61,10 +62,10 @@ pub record IsWalk (ts : List LexedToken) (token error : ℕ) : Type 0 where
   pub errors_left : drop error (errors_of 0 ts)
       ≡ errors_of (total_len (take token ts)) (drop token ts)
 
--- after a step, where `before` tokens were passed before it
+-- the walk after a step, before which `before` tokens were read
 pub record IsWalkAfter (ts : List LexedToken) (before : ℕ) (step : StrStep) (token error : ℕ)
     : Type 0 where
   pub walk : IsWalk ts token error
   pub offset : total_len (take token ts)
-      ≡ offset_after (total_len (take before ts)) (drop before ts) step
+      ≡ next_start (total_len (take before ts)) (drop before ts) step
   pub tokens_left : drop token ts ≡ tokens_after (drop before ts) step

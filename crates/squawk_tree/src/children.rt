@@ -2,32 +2,32 @@
 ghost use Rattle.std.specs.Prelude.{◌≡◌, ◌≤◌, ◌<◌, ◌+◌, ◌++◌, ◌^◌, ◌∷◌, [], ℕ, List, IfOk, IsTrue, length, drop};
 ghost use Rattle.squawk_events.specs.declared.steps.StrStep.{StrStep as Given};
 ghost use Rattle.squawk_tree.specs.ChildSpans.{child_spans};
-ghost use Rattle.squawk_tree.specs.ChildPass.{remaining, open_nodes, IsCounted};
-ghost use Rattle.squawk_tree.specs.Spans.{place_after};
-ghost use Rattle.squawk_tree.specs.declared.children.Place.TheVariants.{UnderRoot, InChild};
+ghost use Rattle.squawk_tree.specs.ChildPass.{remaining, depth, IsCounted};
+ghost use Rattle.squawk_tree.specs.Spans.{offset_after};
+ghost use Rattle.squawk_tree.specs.declared.children.PassState.TheVariants.{UnderRoot, InChild};
 ghost use Rattle.squawk_tree.specs.Steps.{closes, is_balanced};
 
 use squawk_events::StrStep;
 use squawk_kinds::SyntaxKind;
 use std::alloc::{AllocError, Global};
 
-/// A child of the root: a leaf, or a node with all that it holds.
+/// A child of the root: a leaf, or a node with all of its descendants.
 #[derive(Clone, Copy, Debug, PartialEq, Eq)]
 pub struct ChildSpan {
     /// The index of its first step.
     pub step: usize,
-    /// The number of its `Token` steps.
+    /// The number of its `Token` steps: 1 for a leaf.
     pub tokens: usize,
-    /// Where it begins, in bytes.
+    /// The offset of its first byte.
     pub start: u32,
-    /// Where it ends, in bytes.
+    /// The offset after its last byte.
     pub end: u32,
     /// The kind of its node; `None` for a leaf.
     pub node: Option<SyntaxKind>,
 }
 
-// A node under the root that is entered and not left: its first step, its tokens so far, its start,
-// its kind, and the number of nodes that are open inside it.
+// A child of the root whose `Exit` was not read yet: its first step, the number of its tokens that
+// were read, its start, its kind, and the number of nodes that are open inside it.
 #[derive(Clone, Copy)]
 pub(crate) struct OpenChild {
     step: usize,
@@ -37,30 +37,31 @@ pub(crate) struct OpenChild {
     inner: usize,
 }
 
-// Where a pass over the steps stands: after the root, directly inside it, or in a node under it.
+// The state of a pass over the steps: after the root, directly inside it, or in a child of it.
 #[derive(Clone, Copy)]
-pub(crate) enum Place {
+pub(crate) enum PassState {
     Outside,
     UnderRoot,
     InChild { child: OpenChild },
 }
 
-// Passes the step at an index, directly under the root. Appends the leaf that it is.
+// Reads a step directly under the root. Appends a child if the step is a leaf. Returns the next
+// state.
 fn pass_under_root(
     children: &mut Vec<ChildSpan>,
     at: u32,
     index: usize,
     step: StrStep,
-) -> Result<Place, AllocError>
-    ensures children { IfOk result (λ place. (rest : List Given)
-        → children.new.items ++ remaining place (place_after at step) (index + 1) rest
+) -> Result<PassState, AllocError>
+    ensures children { IfOk result (λ state. (rest : List Given)
+        → children.new.items ++ remaining state (offset_after at step) (index + 1) rest
         ≡ children.old.items ++ remaining UnderRoot at index (step ∷ rest)) }
-    ensures closes { IfOk result (λ place. (rest : List Given)
-        → IsTrue (closes 1 (step ∷ rest)) → IsTrue (closes (open_nodes place) rest)) }
+    ensures closes { IfOk result (λ state. (rest : List Given)
+        → IsTrue (closes 1 (step ∷ rest)) → IsTrue (closes (depth state) rest)) }
     ensures counted { IfOk result (IsCounted (index + 1)) }
 {
     match step {
-        StrStep::Enter { kind } => Ok(Place::InChild {
+        StrStep::Enter { kind } => Ok(PassState::InChild {
             child: OpenChild {
                 step: index,
                 tokens: 0,
@@ -77,27 +78,28 @@ fn pass_under_root(
                 end,
                 node: None,
             })?;
-            Ok(Place::UnderRoot)
+            Ok(PassState::UnderRoot)
         }
-        StrStep::Exit => Ok(Place::Outside),
-        StrStep::Error { .. } => Ok(Place::UnderRoot),
+        StrStep::Exit => Ok(PassState::Outside),
+        StrStep::Error { .. } => Ok(PassState::UnderRoot),
     }
 }
 
-// Passes a step inside a child of the root. Appends the child where the step is its `Exit`.
+// Reads a step inside a child of the root. Appends the child if the step is its `Exit`. Returns the
+// next state.
 fn pass_in_child(
     children: &mut Vec<ChildSpan>,
     child: OpenChild,
     at: u32,
     step: StrStep,
-) -> Result<Place, AllocError>
+) -> Result<PassState, AllocError>
     requires { (child.inner + 1 < 2 ^ 64) × (child.tokens + 1 < 2 ^ 64) }
-    ensures children { IfOk result (λ place. (index : ℕ) (rest : List Given)
-        → children.new.items ++ remaining place (place_after at step) (index + 1) rest
+    ensures children { IfOk result (λ state. (index : ℕ) (rest : List Given)
+        → children.new.items ++ remaining state (offset_after at step) (index + 1) rest
         ≡ children.old.items ++ remaining (InChild child) at index (step ∷ rest)) }
-    ensures closes { IfOk result (λ place. (rest : List Given)
-        → IsTrue (closes (open_nodes (InChild child)) (step ∷ rest))
-        → IsTrue (closes (open_nodes place) rest)) }
+    ensures closes { IfOk result (λ state. (rest : List Given)
+        → IsTrue (closes (depth (InChild child)) (step ∷ rest))
+        → IsTrue (closes (depth state) rest)) }
     ensures counted { (index : ℕ) → IsCounted index (InChild child)
         → IfOk result (IsCounted (index + 1)) }
 {
@@ -114,41 +116,41 @@ fn pass_in_child(
                 end: at,
                 node: Some(child.kind),
             })?;
-            return Ok(Place::UnderRoot);
+            return Ok(PassState::UnderRoot);
         }
         StrStep::Error { .. } => {}
     }
-    Ok(Place::InChild { child })
+    Ok(PassState::InChild { child })
 }
 
-// Passes a step. Returns where the pass stands after it.
+// Reads a step. Returns the next state.
 fn pass_step(
     children: &mut Vec<ChildSpan>,
-    place: Place,
+    state: PassState,
     at: u32,
     index: usize,
     step: StrStep,
-) -> Result<Place, AllocError>
+) -> Result<PassState, AllocError>
     requires small { index + 1 < 2 ^ 64 }
-    requires counted { IsCounted index place }
+    requires counted { IsCounted index state }
     ensures children { IfOk result (λ after. (rest : List Given)
-        → children.new.items ++ remaining after (place_after at step) (index + 1) rest
-        ≡ children.old.items ++ remaining place at index (step ∷ rest)) }
+        → children.new.items ++ remaining after (offset_after at step) (index + 1) rest
+        ≡ children.old.items ++ remaining state at index (step ∷ rest)) }
     ensures closes { IfOk result (λ after. (rest : List Given)
-        → IsTrue (closes (open_nodes place) (step ∷ rest))
-        → IsTrue (closes (open_nodes after) rest)) }
+        → IsTrue (closes (depth state) (step ∷ rest))
+        → IsTrue (closes (depth after) rest)) }
     ensures counted { IfOk result (IsCounted (index + 1)) }
 {
-    match place {
-        Place::Outside => Ok(place),
-        Place::UnderRoot => pass_under_root(children, at, index, step),
-        Place::InChild { child } => pass_in_child(children, child, at, step),
+    match state {
+        PassState::Outside => Ok(state),
+        PassState::UnderRoot => pass_under_root(children, at, index, step),
+        PassState::InChild { child } => pass_in_child(children, child, at, step),
     }
 }
 
-// The end of a token, and else the offset itself.
+// The end of the last token after a step at the offset `at`.
 fn offset_after(at: u32, step: StrStep) -> u32
-    ensures { result ≡ place_after at step }
+    ensures { result ≡ offset_after at step }
 {
     match step {
         StrStep::Token { end, .. } => end,
@@ -162,10 +164,10 @@ pub(crate) fn child_spans(alloc: Global, steps: &[StrStep]) -> Result<Vec<ChildS
     ensures { IfOk result (λ children. children.items ≡ child_spans steps.now) }
 {
     let mut children = Vec::new(alloc);
-    let mut place = Place::UnderRoot;
+    let mut state = PassState::UnderRoot;
     let mut at = 0;
     for i in 1..steps.len() {
-        place = pass_step(&mut children, place, at, i, steps[i])?;
+        state = pass_step(&mut children, state, at, i, steps[i])?;
         at = offset_after(at, steps[i]);
     }
     Ok(children)

@@ -11,15 +11,15 @@ use squawk_events::{FrontError, ParseError, StrStep};
 use squawk_lexed::{LexError, LexedStr};
 use std::alloc::Global;
 
-// How far a walk over the steps has come: the next token, and the next lexical error.
+// The state of a walk over the steps: the indices of the next token and of the next lexical error.
 #[derive(Clone, Copy)]
 struct Walk {
     token: usize,
     error: usize,
 }
 
-// Appends the lexical errors from the index `from` on that begin before `end`. Returns the index of
-// the next one.
+// Appends the lexical errors from index `from` up to the first that does not begin before `end`.
+// Returns the index of that one.
 fn push_lexical_errors(
     errors: &mut Vec<ParseError>,
     lexical: &[LexError],
@@ -61,8 +61,8 @@ fn next_end(lexed: &LexedStr<'_>, token: usize) -> u32
     }
 }
 
-// Appends the error of an `Error` step. Its range is that of the next token, and empty at the end of
-// the text.
+// Appends the error of an `Error` step. Its range is that of the next token, and empty at the end
+// of the text.
 fn push_step_error(
     errors: &mut Vec<ParseError>,
     lexed: &LexedStr<'_>,
@@ -71,7 +71,8 @@ fn push_step_error(
 ) -> Result<(), FrontError>
     requires { token ≤ length lexed.now.tokens }
     ensures ok { OnOk result (errors.new.items ≡ errors.old.items
-        ++ step_error (total_len (take token lexed.now.tokens)) (drop token lexed.now.tokens) number) }
+        ++ step_error (total_len (take token lexed.now.tokens))
+        (drop token lexed.now.tokens) number) }
     ensures refusals { IfErr result IsOutOfMemory }
 {
     let end = next_end(lexed, token);
@@ -80,7 +81,7 @@ fn push_step_error(
     Ok(())
 }
 
-// Appends the errors of a step. Returns how far the walk has come after it.
+// Appends the errors of a step. Returns the state of the walk after it.
 fn push_errors_of_step(
     errors: &mut Vec<ParseError>,
     lexed: &LexedStr<'_>,
@@ -91,7 +92,8 @@ fn push_errors_of_step(
     ensures ok { OnOk result (errors.new.items ≡ errors.old.items
         ++ step_errors (total_len (take from.token lexed.now.tokens))
         (drop from.token lexed.now.tokens) step) }
-    ensures walk { IfOk result (λ to. IsWalkAfter lexed.now.tokens from.token step to.token to.error) }
+    ensures walk { IfOk result (λ to.
+        IsWalkAfter lexed.now.tokens from.token step to.token to.error) }
     ensures refusals { IfErr result IsOutOfMemory }
 {
     match step {
@@ -114,13 +116,14 @@ fn push_errors_of_step(
     }
 }
 
-// The errors of a parse: the faults of tokens and the `Error` steps, token by token.
+// The errors of a parse: the faults of the tokens and the `Error` steps, token by token.
 pub(crate) fn errors_of_steps(
     alloc: Global,
     lexed: &LexedStr<'_>,
     steps: &[StrStep],
 ) -> Result<Vec<ParseError>, FrontError>
-    ensures ok { IfOk result (λ errors. errors.items ≡ errors_by_step 0 lexed.now.tokens steps.now) }
+    ensures ok { IfOk result (λ errors.
+        errors.items ≡ errors_by_step 0 lexed.now.tokens steps.now) }
     ensures refusals { IfErr result IsOutOfMemory }
 {
     let mut errors = Vec::new(alloc);

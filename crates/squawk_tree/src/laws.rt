@@ -1,4 +1,5 @@
-//! Laws of the definitions, for proofs: functions that do nothing, each with a law as its contract.
+//! Laws of the definitions, for proofs of other crates: functions with an empty body, whose
+//! contract is the law.
 ghost use Rattle.std.specs.Prelude.{◌≡◌, ◌∷◌, [], IsTrue, List, map, take};
 ghost use Rattle.squawk_events.specs.Lawful.{IsLawful};
 ghost use Rattle.squawk_events.specs.declared.steps.Step.{Step};
@@ -12,16 +13,16 @@ ghost use Rattle.squawk_tree.specs.ParseOf.{lexed_role, parse_of_tokens, tree_of
 ghost use Rattle.squawk_tree.specs.Steps.{root_children, root_child};
 ghost use Rattle.squawk_tree.specs.Tree.{IsTree};
 
-/// Children do not disturb each other: the parse of tokens is the join of the root's children, each
-/// made of its own tokens alone.
+/// The children of the root are independent of each other: the parse of tokens is the join of the
+/// children, each built from its own tokens alone.
 pub fn children_join()
     ensures { (division : Division) (tokens : List LexedToken) → IsTrue (are_sound tokens)
         → parse_of_tokens division tokens
         ≡ join (map (child_of division) (parts lexed_role division tokens)) }
 {}
 
-/// What a lawful output becomes over tokens is a tree. The children of its root are those of the
-/// division, where the output is that of the statements.
+/// The tree that a lawful output of a grammar makes over tokens is a tree in the sense of `IsTree`.
+/// In a parse into statements, the children of the root are those of the division.
 pub fn parses_are_trees()
     ensures lawful { (tokens : List LexedToken) (steps : List Step) → IsTrue (are_sound tokens)
         → IsLawful (kinds_without_trivia tokens) steps
@@ -31,10 +32,11 @@ pub fn parses_are_trees()
         ≡ map root_child (children division (map lexed_role tokens)) }
 {}
 
-/// The tokens of the first child, parsed by themselves, are that child under a root.
+/// The parse of the tokens of the first child alone is that child under a root.
 pub fn children_stand_alone()
     ensures { (division : Division) (token : LexedToken) (tokens : List LexedToken)
-        → let all = token ∷ tokens in let own = take (first_child_len lexed_role division all) all in
+        → let all = token ∷ tokens in
+        let own = take (first_child_len lexed_role division all) all in
         IsTrue (are_sound own)
         → parse_of_tokens division own ≡ join (child_of division own ∷ []) }
 {}

@@ -1,4 +1,4 @@
-//! Lossless syntax trees: a text as a balanced list of steps whose tokens cover it, and its errors.
+//! Lossless syntax trees: balanced lists of steps whose tokens cover a text, and its errors.
 #![tactic(auto)]
 
 mod children;

@@ -15,12 +15,12 @@ use std::marker::Model;
 /// A syntax tree over a text, and the errors in the text.
 ///
 /// The tree is a balanced list of `Enter`, `Token` and `Exit` steps. The ranges of its tokens
-/// follow one another from 0 to the end of the text, so that the leaves spell the text. All offsets
+/// follow one another from 0 to the end of the text, so no byte of the text is lost. All offsets
 /// are in bytes.
 #[derive(Drop)]
 pub struct Parse {
     steps: Vec<StrStep>,
-    // the range of each step
+    // The range of each step.
     spans: Vec<(u32, u32)>,
     children: Vec<ChildSpan>,
     errors: Vec<ParseError>,
@@ -34,11 +34,12 @@ impl Model for Parse {
 
     ghost view = { λ p. record { steps = p.steps.items; errors = p.errors.items; len = p.len } };
 
-    ghost invariant = { λ p. IsKept (record { steps = p.steps.items; errors = p.errors.items; len = p.len })
+    ghost invariant = { λ p. IsKept
+        (record { steps = p.steps.items; errors = p.errors.items; len = p.len })
         p.spans.items p.children.items };
 }
 
-// Appends a step, unless it is an `Error` step.
+// Appends a step unless it is an `Error`.
 fn push_step(steps: &mut Vec<StrStep>, step: StrStep) -> Result<(), AllocError>
     ensures { OnOk result (steps.new.items ≡ steps.old.items ++ without_errors (step ∷ [])) }
 {
@@ -49,7 +50,7 @@ fn push_step(steps: &mut Vec<StrStep>, step: StrStep) -> Result<(), AllocError>
     Ok(())
 }
 
-// Takes the `Error` steps out of a list of steps.
+// The steps other than `Error` steps.
 fn remove_errors(alloc: Global, steps: &[StrStep]) -> Result<Vec<StrStep>, AllocError>
     ensures { IfOk result (λ kept. kept.items ≡ without_errors steps.now) }
 {
@@ -61,8 +62,7 @@ fn remove_errors(alloc: Global, steps: &[StrStep]) -> Result<Vec<StrStep>, Alloc
 }
 
 impl Parse {
-    // The parse of these steps and errors, for a text of this length in bytes. `Error` steps are
-    // left out.
+    // The parse of a text of `len` bytes with these steps, less `Error` steps, and these errors.
     pub(crate) fn new(
         alloc: Global,
         steps: Vec<StrStep>,
@@ -92,11 +92,11 @@ impl Parse {
         })
     }
 
-    /// The number of bytes of the text.
+    /// The length of the text in bytes.
     ///
-    /// In every parse the steps are balanced, no `Error` is among them, the tokens cover the text
-    /// from 0 to `len`, and each error has a number from 1 to 10 and lies in the text: that is what
-    /// the second clause says.
+    /// The second clause holds for every parse: the steps are balanced, no `Error` is among them,
+    /// the tokens cover the text from 0 to `len`, and each error lies in the text and has a number
+    /// from 1 to 10.
     pub fn len(&self) -> u32
         ensures len { result ≡ self.now.len }
         ensures tree { IsTree self.now }
@@ -119,7 +119,7 @@ impl Parse {
         &self.errors
     }
 
-    /// The children of the root, in order: what stands directly inside the first `Enter`.
+    /// The children of the root, in order: the leaves and nodes directly inside the first `Enter`.
     pub fn children(&self) -> &[ChildSpan]
         ensures spans { result.now ≡ child_spans self.now.steps }
         ensures children { map span_child result.now ≡ root_children self.now.steps }
@@ -127,7 +127,7 @@ impl Parse {
         &self.children
     }
 
-    // The range of a step. It does not end before its start.
+    // The range of a step in bytes. It does not end before its start.
     fn span(&self, i: usize) -> (u32, u32)
         requires { i < length self.now.steps }
         ensures range { slice_get (ranges self.now.steps) i ≡ Some result }
@@ -136,8 +136,8 @@ impl Parse {
         self.spans[i]
     }
 
-    /// The range of a step in bytes, the end exclusive: a token's own, and for an `Enter` and its
-    /// `Exit` the node's. It takes constant time.
+    /// The range of a step in bytes, end exclusive: for a `Token` that of the token, for an `Enter`
+    /// and its `Exit` that of the node. Takes constant time.
     ///
     /// A node begins where the last token before its `Enter` ends, and ends where the last token
     /// before its `Exit` does. Before the first token that offset is 0.
@@ -148,8 +148,8 @@ impl Parse {
         self.span(i)
     }
 
-    /// The part of a text that a step covers. `text` is the text of the parse, or any other in which
-    /// both ends of the step's range are character boundaries.
+    /// The part of `text` in the range of a step. `text` is the text of the parse, or any other in
+    /// which both ends of the range are character boundaries. Takes constant time.
     pub fn text<'a>(&self, text: &'a str, i: usize) -> &'a str
         requires step { i < length self.now.steps }
         requires range { IfSome (slice_get (ranges self.now.steps) i) (IsRangeOf text.now) }

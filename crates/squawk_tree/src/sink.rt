@@ -1,4 +1,4 @@
-//! A sink that makes a tree of the steps that it takes.
+//! A sink that builds a tree from the steps that it receives.
 ghost use Rattle.std.specs.Prelude.{◌≡◌, ◌≤◌, IsTrue, All, [], ◌∷◌, ◌++◌, OnOk, OnErr, IfOk, IfErr};
 ghost use Rattle.squawk_events.specs.Refusals.{IsOutOfMemory};
 ghost use Rattle.squawk_tree.specs.Steps.{is_balanced, leaves, tiles, without_errors};
@@ -9,9 +9,9 @@ use squawk_events::{FrontError, ParseError, StepSink, StrStep};
 use std::alloc::Global;
 use std::marker::Model;
 
-/// A sink that makes a tree of the steps that it takes, and of the errors that are pushed.
+/// A sink that builds a tree from the steps that it receives and the errors that are pushed to it.
 ///
-/// Each of its errors has one of the ten messages, and does not end before its start.
+/// Each of its errors has a number from 1 to 10 and does not end before its start.
 #[derive(Drop)]
 pub struct TreeSink {
     alloc: Global,
@@ -30,7 +30,7 @@ impl Model for TreeSink {
     ghost invariant = { λ s. All IsError s.errors.items };
 }
 
-// The end of the last token of some steps, and 0 where there is none.
+// The end of the last token of these steps, or 0 if there is none.
 fn last_end(steps: &[StrStep]) -> u32
     ensures { result ≡ tokens_end steps.now }
 {
@@ -44,7 +44,7 @@ fn last_end(steps: &[StrStep]) -> u32
 }
 
 impl TreeSink {
-    /// A sink that has taken nothing. It takes no memory.
+    /// An empty sink. Allocates nothing.
     pub fn new(alloc: Global) -> TreeSink
         ensures { result ≡ record { steps = []; errors = [] } }
     {
@@ -55,7 +55,8 @@ impl TreeSink {
         }
     }
 
-    /// Appends an error to those of the tree. A refusal leaves the sink as it was.
+    /// Appends an error to those of the tree. The only error is `OutOfMemory`; it leaves the sink
+    /// unchanged.
     pub fn push_error(&mut self, error: ParseError) -> Result<(), FrontError>
         requires { IsError error }
         ensures steps { OnOk result (self.new.steps ≡ self.old.steps) }
@@ -67,17 +68,18 @@ impl TreeSink {
         Ok(())
     }
 
-    /// The steps that it has taken.
+    // The steps that the sink has received.
     pub(crate) fn into_steps(self) -> Vec<StrStep>
         ensures { result.items ≡ self.steps }
     {
         self.steps
     }
 
-    /// The tree of the steps, without their `Error` steps, and of the pushed errors.
+    /// The tree with the steps that the sink has received, less their `Error` steps, and the errors
+    /// that were pushed.
     ///
-    /// The steps are to be balanced, their tokens to follow one another from 0 on, and no error to
-    /// end after the last token. The only refusal is `OutOfMemory`; the sink is given up then.
+    /// The steps must be balanced, their tokens must follow one another from offset 0, and no error
+    /// may end after the last token. The only error is `OutOfMemory`; the sink is dropped then.
     pub fn finish(self) -> Result<Parse, FrontError>
         requires balanced { IsTrue (is_balanced (without_errors self.steps)) }
         requires tiled { IsTrue (tiles 0 (leaves self.steps) (tokens_end self.steps)) }

@@ -2,6 +2,7 @@
 ghost use Rattle.std.specs.Prelude.{◌≡◌, ◌<◌, ◌↔◌, length, map, IfOk, IfErr, OnOk, IsErrOf, IsTrue};
 ghost use Rattle.std.specs.Str.{chars};
 ghost use Rattle.squawk_events.specs.Lawful.{IsLawful};
+ghost use Rattle.squawk_events.specs.Limit.{limit};
 ghost use Rattle.squawk_events.specs.Refusals.{IsOutOfMemory, MayRefuse};
 ghost use Rattle.squawk_lexed.specs.LexedText.{are_sound, total_len};
 ghost use Rattle.squawk_lexed.specs.Weave.{kinds_without_trivia, weave};
@@ -24,7 +25,7 @@ use squawk_lexer::Strings;
 use squawk_statements::{Division, GroupedGrammar, PlainGrammar};
 use std::alloc::Global;
 
-// The steps that a grammar gives for some tokens, woven with them.
+// The output of a grammar for these tokens, woven with them.
 fn woven_steps<G: Grammar>(
     alloc: Global,
     lexed: &LexedStr<'_>,
@@ -43,10 +44,10 @@ fn woven_steps<G: Grammar>(
     Ok(sink.into_steps())
 }
 
-/// The parse of some tokens by a grammar. It cuts nothing; the only refusal is `OutOfMemory`.
+/// The parse of the tokens of a text by a grammar. The only error is `OutOfMemory`.
 ///
-/// Its steps are those of the grammar, with the trivia between them and without `Error` steps. Its
-/// errors are the faults of the tokens and the `Error` steps, token by token.
+/// Its steps are those of the grammar, less `Error` steps, with the trivia between them. Its errors
+/// are the faults of the tokens and the `Error` steps, token by token.
 pub fn parse_lexed<G: Grammar>(
     alloc: Global,
     lexed: &LexedStr<'_>,
@@ -67,10 +68,10 @@ pub fn parse_lexed<G: Grammar>(
     Ok(Parse::new(alloc, steps, errors, len)?)
 }
 
-/// The parse of a text by a grammar, where plain strings are read as `strings` says.
+/// The parse of a text by a grammar; `strings` says how plain strings are read.
 ///
-/// `TooLong` comes exactly where the text has more than 4294967295 bytes, before any memory is
-/// taken, and `OutOfMemory` where there is no memory for the parse.
+/// The errors are `TooLong`, exactly if the text has more than `LIMIT` bytes, and `OutOfMemory`.
+/// `TooLong` is returned before anything is allocated.
 pub fn parse_with_in<G: Grammar>(
     alloc: Global,
     text: &str,
@@ -83,15 +84,15 @@ pub fn parse_with_in<G: Grammar>(
     ensures leaves { IfOk result (λ parse. only_tokens parse.steps
         ≡ token_steps 0 (tokens_of strings text.now)) }
     ensures len { IfOk result (λ parse. parse.len ≡ length text.now) }
-    ensures too_long { IsErrOf result FrontError.TooLong ↔ (4294967295 < length text.now) }
+    ensures too_long { IsErrOf result FrontError.TooLong ↔ (limit < length text.now) }
     ensures refusals { IfErr result (MayRefuse text.now) }
 {
     let lexed = LexedStr::new_in(alloc, text, strings)?;
     parse_lexed(alloc, &lexed, grammar)
 }
 
-/// The parse of a text by a grammar, where a backslash in a plain string is a character like any
-/// other. It refuses as `parse_with_in` does.
+/// The parse of a text by a grammar, where a backslash in a plain string is an ordinary character.
+/// The errors are those of `parse_with_in`.
 pub fn parse_with<G: Grammar>(alloc: Global, text: &str, grammar: &G) -> Result<Parse, FrontError>
     ensures tree { IfOk result (λ parse. parse
         ≡ parse_by (G.told grammar.now) (tokens_of Standard text.now)) }
@@ -99,13 +100,13 @@ pub fn parse_with<G: Grammar>(alloc: Global, text: &str, grammar: &G) -> Result<
     ensures leaves { IfOk result (λ parse. only_tokens parse.steps
         ≡ token_steps 0 (tokens_of Standard text.now)) }
     ensures len { IfOk result (λ parse. parse.len ≡ length text.now) }
-    ensures too_long { IsErrOf result FrontError.TooLong ↔ (4294967295 < length text.now) }
+    ensures too_long { IsErrOf result FrontError.TooLong ↔ (limit < length text.now) }
     ensures refusals { IfErr result (MayRefuse text.now) }
 {
     parse_with_in(alloc, text, Strings::Standard, grammar)
 }
 
-// The parse of the tokens of a text into statements, by a division.
+// The parse of the tokens of a text into statements.
 fn parse_tokens(
     alloc: Global,
     lexed: &LexedStr<'_>,
@@ -125,15 +126,16 @@ fn parse_tokens(
     }
 }
 
-/// The parse of a text into statements, where plain strings are read as `strings` says, and a
-/// semicolon between parentheses ends a statement as `division` says.
+/// The parse of a text into statements. `strings` says how plain strings are read, and `division`
+/// whether a semicolon between parentheses ends a statement.
 ///
-/// Each statement, and each psql command outside one, is a node under the root, and each trivia
-/// token (white space, a leading byte order mark, a comment) outside them is a leaf there. Its
-/// errors are the faults of the tokens, and one for each statement that begins with no known words.
+/// Each child of the root is a statement, a lone semicolon or psql command, or a leaf: a trivia
+/// token (white space, a leading byte order mark, a comment) outside of statements. The errors in
+/// the text are the faults of its tokens, and one for each statement that does not begin with known
+/// words.
 ///
-/// Every UTF-8 text below 4 GiB parses: `TooLong` comes exactly where the text has more than
-/// 4294967295 bytes, before any memory is taken, and `OutOfMemory` where there is no memory.
+/// Every UTF-8 text of at most `LIMIT` bytes parses. The errors are `TooLong`, exactly if the text
+/// is longer, and `OutOfMemory`. `TooLong` is returned before anything is allocated.
 pub fn parse_divided(
     alloc: Global,
     text: &str,
@@ -141,7 +143,7 @@ pub fn parse_divided(
     division: Division,
 ) -> Result<Parse, FrontError>
     ensures tree { IfOk result (λ tree. tree ≡ parse_of strings division text.now) }
-    // Each child of the root is the parse of its own tokens.
+    // Each child of the root is built from its own tokens alone.
     ensures joined { IfOk result (λ tree. tree ≡ join (children_of strings division text.now)) }
     ensures lawful { IfOk result IsTree }
     ensures leaves { IfOk result (λ tree. leaves tree.steps
@@ -149,7 +151,7 @@ pub fn parse_divided(
     ensures children { IfOk result (λ tree. root_children tree.steps
         ≡ map root_child (children division (roles_of (tokens strings (chars text.now))))) }
     ensures len { IfOk result (λ tree. tree.len ≡ length text.now) }
-    ensures too_long { IsErrOf result FrontError.TooLong ↔ (4294967295 < length text.now) }
+    ensures too_long { IsErrOf result FrontError.TooLong ↔ (limit < length text.now) }
     ensures refusals { IfErr result (MayRefuse text.now) }
 {
     leaves_keep_roles();
@@ -159,8 +161,8 @@ pub fn parse_divided(
     parse_tokens(alloc, &lexed, division)
 }
 
-/// The parse of a text into statements, where each semicolon ends one, and plain strings are read
-/// as `strings` says. It refuses as `parse_divided` does.
+/// The parse of a text into statements, where each semicolon ends one; `strings` says how plain
+/// strings are read. The errors are those of `parse_divided`.
 pub fn parse_source_in(alloc: Global, text: &str, strings: Strings) -> Result<Parse, FrontError>
     ensures tree { IfOk result (λ tree. tree ≡ parse_of strings Flat text.now) }
     ensures joined { IfOk result (λ tree. tree ≡ join (children_of strings Flat text.now)) }
@@ -170,26 +172,24 @@ pub fn parse_source_in(alloc: Global, text: &str, strings: Strings) -> Result<Pa
     ensures children { IfOk result (λ tree. root_children tree.steps
         ≡ map root_child (children Flat (roles_of (tokens strings (chars text.now))))) }
     ensures len { IfOk result (λ tree. tree.len ≡ length text.now) }
-    ensures too_long { IsErrOf result FrontError.TooLong ↔ (4294967295 < length text.now) }
+    ensures too_long { IsErrOf result FrontError.TooLong ↔ (limit < length text.now) }
     ensures refusals { IfErr result (MayRefuse text.now) }
 {
     parse_divided(alloc, text, strings, Division::Flat)
 }
 
 /// The parse of a text into statements, where each semicolon ends one, and a backslash in a plain
-/// string is a character like any other. It refuses as `parse_divided` does.
+/// string is an ordinary character. The errors are those of `parse_divided`.
 pub fn parse_source(alloc: Global, text: &str) -> Result<Parse, FrontError>
     ensures tree { IfOk result (λ tree. tree ≡ parse_of Standard Flat text.now) }
     ensures joined { IfOk result (λ tree. tree ≡ join (children_of Standard Flat text.now)) }
     ensures lawful { IfOk result IsTree }
-    // The leaves are the tokens of the text, and the root's children those of the division of the
-    // tokens' roles.
     ensures leaves { IfOk result (λ tree. leaves tree.steps
         ≡ ranges_through 0 (token_ends 0 (tokens Standard (chars text.now)))) }
     ensures children { IfOk result (λ tree. root_children tree.steps
         ≡ map root_child (children Flat (roles_of (tokens Standard (chars text.now))))) }
     ensures len { IfOk result (λ tree. tree.len ≡ length text.now) }
-    ensures too_long { IsErrOf result FrontError.TooLong ↔ (4294967295 < length text.now) }
+    ensures too_long { IsErrOf result FrontError.TooLong ↔ (limit < length text.now) }
     ensures refusals { IfErr result (MayRefuse text.now) }
 {
     parse_source_in(alloc, text, Strings::Standard)

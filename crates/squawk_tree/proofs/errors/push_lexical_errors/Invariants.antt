@@ -2,12 +2,13 @@ use Rattle.std.proofs.Common.{◌≡◌, ◌≤◌, ◌++◌, ◌-◌, drop, len
 use Rattle.squawk_tree.specs.Walk.{errors_before, errors_not_before}
 use Rattle.squawk_tree.proofs.errors.push_lexical_errors.Given as goal
 
--- the errors so far and those of what is left are all that begin before the end
+-- the errors that were appended and those that remain are all that begin before the end
 abbrev pub invariant-loop-next : goal.invariant-loop-next
 invariant-loop-next l = record {
   errors : l.errors.items ++ errors_before l.end (drop l.next l.lexical)
       ≡ l.initial.errors.items ++ errors_before l.end (drop l.from l.lexical);
-  rest : errors_not_before l.end (drop l.next l.lexical) ≡ errors_not_before l.end (drop l.from l.lexical);
+  rest : errors_not_before l.end (drop l.next l.lexical)
+      ≡ errors_not_before l.end (drop l.from l.lexical);
   within : l.next ≤ length l.lexical;
 }
 

@@ -7,7 +7,7 @@ use Rattle.squawk_tree.specs.Steps.{only_tokens}
 use Rattle.squawk_tree.specs.Tree.{Tree, IsTree}
 use Rattle.squawk_tree.specs.Walk.{errors_by_step}
 use Rattle.squawk_tree.proofs.LeavesLemmas.{leaves_whole}
-use Rattle.squawk_tree.proofs.TreeLaws.{tree_of-lawful, parts_are}
+use Rattle.squawk_tree.proofs.TreeLaws.{tree_of_lawful, parts_are}
 use Rattle.squawk_tree.proofs.source.parse_lexed.Goals as goal
 
 whole_len : (ts : List LexedToken) (n len : ℕ) → n ≡ length ts → len ≡ total_len (take n ts)
@@ -22,7 +22,7 @@ new-requires g c =
     subst IsTree (sym (parts_are ts _ _ _ _ c.len.ensures.sound lawful c.in_ok-steps.ensures.steps
     (c.in_ok-errors.ensures.ok ∙ ap (errors_by_step 0 ts) c.deref.ensures.value)
     (whole_len ts _ _ c.len.ensures.count c.text_start-len.ensures)))
-    (tree_of-lawful ts _ c.len.ensures.sound lawful)
+    (tree_of_lawful ts _ c.len.ensures.sound lawful)
 
 pub returns-clause-tree : goal.returns-clause-tree
 returns-clause-tree g c =

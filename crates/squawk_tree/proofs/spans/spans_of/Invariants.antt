@@ -5,5 +5,5 @@ use Rattle.squawk_tree.proofs.spans.spans_of.Given as goal
 
 abbrev pub invariant-loop-step : goal.invariant-loop-step
 invariant-loop-step l =
-    SpansSoFar l.spans.items (reverse l.opened.items) l.at (drop l.step-index l.steps)
+    SpansSoFar l.spans.items (reverse l.open_nodes.items) l.at (drop l.step-index l.steps)
     (ranges l.steps)

@@ -6,7 +6,7 @@ use Rattle.squawk_tree.specs.declared.children.ChildSpan.{ChildSpan}
 use Rattle.squawk_tree.proofs.SpanChildren.{spans_are_children}
 use Rattle.squawk_tree.proofs.parse.Parse.children.Goals as goal
 
--- the children that are kept are those of the steps that are seen
+-- the stored children are those of the steps of the tree: their spans, and the root children
 seen_children : (t u : Tree) (spans : List (ℕ × ℕ)) (children : List ChildSpan)
     → IsKept t spans children → t ≡ u → children ≡ child_spans u.steps
 seen_children t u spans children kept is =

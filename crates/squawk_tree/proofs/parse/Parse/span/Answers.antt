@@ -4,10 +4,10 @@ use Rattle.squawk_tree.specs.Tree.{Tree, IsKept}
 use Rattle.squawk_tree.specs.Ranges.{ranges}
 use Rattle.squawk_tree.specs.declared.children.ChildSpan.{ChildSpan}
 use Rattle.squawk_tree.proofs.OrderLemmas.{ordered}
-use Rattle.squawk_tree.proofs.RangeLemmas.{length-ranges_from}
+use Rattle.squawk_tree.proofs.RangeLemmas.{length_ranges_from}
 use Rattle.squawk_tree.proofs.parse.Parse.span.Goals as goal
 
--- the ranges that are kept are those of the steps that are seen
+-- the stored ranges are those of the steps of the tree
 seen_ranges : (t u : Tree) (spans : List (ℕ × ℕ)) (children : List ChildSpan)
     → IsKept t spans children → t ≡ u → spans ≡ ranges u.steps
 seen_ranges t u spans children kept is = kept.spans_are ∙ ap (λ (t : Tree). ranges t.steps) is
@@ -15,7 +15,7 @@ seen_ranges t u spans children kept is = kept.spans_are ∙ ap (λ (t : Tree). r
 in_ranges : (steps : _) (spans : List (ℕ × ℕ)) (n i : ℕ) → spans ≡ ranges steps → n ≡ length spans
     → i < length steps → i < n
 in_ranges steps spans n i is len lt = let e = ap length is in
-    omega (arith, length-ranges_from [] 0 steps)
+    omega (arith, length_ranges_from [] 0 steps)
 
 pub index-requires : goal.index-requires
 index-requires c =
