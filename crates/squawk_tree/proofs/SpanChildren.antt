@@ -23,7 +23,7 @@ mutual
   under_root i at (Exit ∷ xs) h = refl
   under_root i at (Error number offset ∷ xs) h = under_root (i + 1) at xs h
 
-  -- in a child that has n tokens so far, and inside which d nodes are open
+  -- in a child of which n tokens were read, and inside which d nodes are open
   in_child : (d n i at : ℕ) (xs : List StrStep) → closes (suc (suc d)) xs ≡ true
       → Node (n + node_tokens d xs) ∷ map span_child (child_spans_from (suc d) i at xs)
       ≡ root_children_from (suc d) n xs

@@ -1,4 +1,4 @@
--- The lexical errors that a walk over the steps passes at a token are the faults of that token.
+-- The lexical errors that a walk over the steps reads at a token are the faults of that token.
 use Rattle.std.proofs.Common.{◌≡◌, ℕ, zero, suc, ◌+◌, ◌<◌, ◌≤◌, true, false, ◌&&◌, nat_lt, nat_le, List, [], ◌∷◌, ◌++◌, length, take, drop, refl, ap, sym, ◌∙◌, arith}
 use Rattle.std.proofs.lemmas.Bool.{and_parts, leb-true, ltb-true}
 use Rattle.std.proofs.lemmas.Bool.Decides.{nat_tests}
@@ -181,7 +181,7 @@ take_within zero ts = omega arith
 take_within (suc i) [] = omega arith
 take_within (suc i) (t ∷ ts) = let rest = take_within i ts in omega arith
 
--- what is known where a walk passes the token at an index
+-- a walk that reads the `Token` step of the token at an index
 module _ (ts : List LexedToken) (i j end : ℕ) (lexical : List ParseError)
     (kind start stop : ℕ) (walk : IsWalk ts i j) (lexical_is : lexical ≡ errors_of 0 ts)
     (some : i < length ts) (sound : are_sound ts ≡ true)
@@ -192,7 +192,7 @@ module _ (ts : List LexedToken) (i j end : ℕ) (lexical : List ParseError)
   left token = ap (drop j) lexical_is ∙ walk.errors_left
       ∙ ap (errors_of (total_len (take i ts))) token.is
 
-  -- its faults are the lexical errors before its end
+  -- the faults of the token are the lexical errors before its end
   pub faults_are : errors_before end (drop j lexical)
       ≡ step_errors (total_len (take i ts)) (drop i ts) (Token kind start stop)
   faults_are =
@@ -206,7 +206,7 @@ module _ (ts : List LexedToken) (i j end : ℕ) (lexical : List ParseError)
       ∙ faults_before (total_len (take i ts)) token.token.len token.token.faults
       (drop (i + 1) ts) token.faults ∙ sym own
 
-  -- and the walk goes on with the others
+  -- the walk goes on with the errors that remain
   pub walk_on : (k : ℕ) → drop k lexical ≡ errors_not_before end (drop j lexical)
       → k ≤ length lexical
       → IsWalkAfter ts i (Token kind start stop) (i + 1) k

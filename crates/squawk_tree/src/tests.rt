@@ -1,4 +1,4 @@
-//! Parses of whole texts: what no clause says.
+//! Trees of whole texts, worked by hand from `docs/STATEMENTS.md`.
 use crate::{ChildSpan, Parse, parse_divided, parse_source};
 use squawk_events::{ParseError, StrStep};
 use squawk_kinds::SyntaxKind;
@@ -7,8 +7,9 @@ use squawk_statements::Division;
 use std::alloc::{AllocError, Global};
 use std::test::Fail;
 
-// The steps of a parse, one a line: `+` and the kind of a node with its range, `-` at its end, and
-// the kind of a leaf with its range and its text.
+// The tree and the errors of a parse, one step or error on a line: `+`, the kind and the range of a
+// node, `-` at its end, the text, the kind and the range of a leaf, `E`, the range and the number of
+// an error.
 fn render(alloc: Global, parse: &Parse, text: &str) -> Result<String, AllocError> {
     let mut lines = String::new(alloc);
     for i in 0..parse.steps().len() {
@@ -19,7 +20,7 @@ fn render(alloc: Global, parse: &Parse, text: &str) -> Result<String, AllocError
             }
             StrStep::Token { kind, .. } => {
                 let leaf = text.get(start as usize..end as usize).unwrap_or("?");
-                lines.push_str(format!(in alloc; "{kind} {start}..{end} {leaf}\n")?.as_str())?;
+                lines.push_str(format!(in alloc; "\"{leaf}\" {kind} {start}..{end}\n")?.as_str())?;
             }
             _ => lines.push_str("-\n")?,
         }
@@ -43,17 +44,17 @@ const ROWS: &[Row<'static>] = &[
         name: "commands_in_statement",
         text: "-- a\nSELECT \\dt \\g\n;",
         lines: "+ source file 0..20\n\
-            comment 0..4 -- a\n\
-            whitespace 4..5 \n\n\
+            \"-- a\" comment 0..4\n\
+            \"\n\" whitespace 4..5\n\
             + select 5..18\n\
-            `select` 5..11 SELECT\n\
-            whitespace 11..12  \n\
-            psql meta-command 12..16 \\dt \n\
-            psql terminator 16..18 \\g\n\
+            \"SELECT\" `select` 5..11\n\
+            \" \" whitespace 11..12\n\
+            \"\\dt \" psql meta-command 12..16\n\
+            \"\\g\" psql terminator 16..18\n\
             -\n\
-            whitespace 18..19 \n\n\
+            \"\n\" whitespace 18..19\n\
             + empty stmt 19..20\n\
-            `;` 19..20 ;\n\
+            \";\" `;` 19..20\n\
             -\n\
             -\n",
     },
@@ -62,16 +63,16 @@ const ROWS: &[Row<'static>] = &[
         text: "foo (a;b",
         lines: "+ source file 0..8\n\
             + error 0..7\n\
-            identifier 0..3 foo\n\
-            whitespace 3..4  \n\
+            \"foo\" identifier 0..3\n\
+            \" \" whitespace 3..4\n\
             + paren expr 4..6\n\
-            `(` 4..5 (\n\
-            identifier 5..6 a\n\
+            \"(\" `(` 4..5\n\
+            \"a\" identifier 5..6\n\
             -\n\
-            `;` 6..7 ;\n\
+            \";\" `;` 6..7\n\
             -\n\
             + error 7..8\n\
-            identifier 7..8 b\n\
+            \"b\" identifier 7..8\n\
             -\n\
             -\n\
             E 0..3 10\n\
@@ -83,13 +84,13 @@ const ROWS: &[Row<'static>] = &[
         lines: "+ source file 0..6\n\
             + paren select 0..6\n\
             + paren expr 0..3\n\
-            `(` 0..1 (\n\
-            identifier 1..2 a\n\
-            `)` 2..3 )\n\
+            \"(\" `(` 0..1\n\
+            \"a\" identifier 1..2\n\
+            \")\" `)` 2..3\n\
             -\n\
-            `)` 3..4 )\n\
-            whitespace 4..5  \n\
-            `;` 5..6 ;\n\
+            \")\" `)` 3..4\n\
+            \" \" whitespace 4..5\n\
+            \";\" `;` 5..6\n\
             -\n\
             -\n",
     },
