@@ -190,3 +190,15 @@ fn divisions(rt: HostRuntime) -> Result<(), Fail> {
     }
     Ok(())
 }
+
+#[test]
+fn root_of_empty_text(rt: HostRuntime) -> Result<(), Fail> {
+    let parse = parse_source(rt.alloc(), "").ok().ok_or("no memory")?;
+    assert_eq!(rt; parse.steps().len(), 2);
+    let (start, end) = parse.range(0);
+    assert_eq!(rt; start, 0);
+    assert_eq!(rt; end, 0);
+    assert_eq!(rt; parse.text("", 0), "");
+    assert_eq!(rt; parse.children().len(), 0);
+    Ok(())
+}
