@@ -69,8 +69,9 @@ fn runs_without_words(rt: HostRuntime) -> Result<(), Fail> {
         1 N error 0..7\n\
         2 T identifier 0..3\n\
         2 T whitespace 3..4\n\
-        2 T `(` 4..5\n\
-        2 T identifier 5..6\n\
+        2 N paren expr 4..6\n\
+        3 T `(` 4..5\n\
+        3 T identifier 5..6\n\
         2 T `;` 6..7\n\
         1 N error 7..8\n\
         2 T identifier 7..8\n";
