@@ -91,8 +91,8 @@ pub fn tokens_look_ahead()
     ensures texts { ahead.TextsLookAhead }
 {}
 
-/// If the last token of a text is a `;`, any text can be appended: no token before it changes, and
-/// the appended text is cut by itself, without the rule for a leading byte order mark.
+/// If the last token of a text is a `;` or `\;`, any text can be appended: no token before it
+/// changes, and the appended text is cut by itself, without the rule for a leading byte order mark.
 pub fn statements_stand_alone()
     ensures { ahead.StatementsStandAlone }
 {}

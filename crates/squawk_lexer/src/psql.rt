@@ -218,7 +218,7 @@ impl<'a> Cursor<'a> {
 
     // Consumes arguments up to the first one that ends the options, and returns whether there is
     // one. Otherwise consumes all arguments. An argument ends the options if its mark is `)`: see
-    // `docs/GRAMMAR.md`, "Commands of psql".
+    // `docs/GRAMMAR.md`, "psql commands".
     #[tactic(auto, using(crate::proofs::PsqlSteps::marked_steps))]
     fn eat_psql_options(&mut self) -> bool
         ensures text { self.new.text ≡ self.old.text }

@@ -44,7 +44,7 @@ fn woven_steps<G: Grammar>(
     Ok(sink.into_steps())
 }
 
-/// The parse of the tokens of a text by a grammar. The only error is `OutOfMemory`.
+/// Parses the tokens of a text by a grammar. The only error is `OutOfMemory`.
 ///
 /// Its steps are those of the grammar, less `Error` steps, with the trivia between them. Its errors
 /// are the faults of the tokens and the `Error` steps, token by token.
@@ -68,7 +68,7 @@ pub fn parse_lexed<G: Grammar>(
     Ok(Parse::new(alloc, steps, errors, len)?)
 }
 
-/// The parse of a text by a grammar; `strings` says how plain strings are read.
+/// Parses a text by a grammar; `strings` says how plain strings are read.
 ///
 /// The errors are `TooLong`, exactly if the text has more than `LIMIT` bytes, and `OutOfMemory`.
 /// `TooLong` is returned before anything is allocated.
@@ -91,7 +91,7 @@ pub fn parse_with_in<G: Grammar>(
     parse_lexed(alloc, &lexed, grammar)
 }
 
-/// The parse of a text by a grammar, where a backslash in a plain string is an ordinary character.
+/// Parses a text by a grammar, where a backslash in a plain string is an ordinary character.
 /// The errors are those of `parse_with_in`.
 pub fn parse_with<G: Grammar>(alloc: Global, text: &str, grammar: &G) -> Result<Parse, FrontError>
     ensures tree { IfOk result (λ parse. parse
@@ -126,7 +126,7 @@ fn parse_tokens(
     }
 }
 
-/// The parse of a text into statements. `strings` says how plain strings are read, and `division`
+/// Parses a text into statements. `strings` says how plain strings are read, and `division`
 /// whether a semicolon between parentheses ends a statement.
 ///
 /// Each child of the root is a statement, a lone semicolon or psql command, or a leaf: a trivia
@@ -161,7 +161,7 @@ pub fn parse_divided(
     parse_tokens(alloc, &lexed, division)
 }
 
-/// The parse of a text into statements, where each semicolon ends one; `strings` says how plain
+/// Parses a text into statements, where each semicolon ends one; `strings` says how plain
 /// strings are read. The errors are those of `parse_divided`.
 pub fn parse_source_in(alloc: Global, text: &str, strings: Strings) -> Result<Parse, FrontError>
     ensures tree { IfOk result (λ tree. tree ≡ parse_of strings Flat text.now) }
@@ -178,7 +178,7 @@ pub fn parse_source_in(alloc: Global, text: &str, strings: Strings) -> Result<Pa
     parse_divided(alloc, text, strings, Division::Flat)
 }
 
-/// The parse of a text into statements, where each semicolon ends one, and a backslash in a plain
+/// Parses a text into statements, where each semicolon ends one, and a backslash in a plain
 /// string is an ordinary character. The errors are those of `parse_divided`.
 pub fn parse_source(alloc: Global, text: &str) -> Result<Parse, FrontError>
     ensures tree { IfOk result (λ tree. tree ≡ parse_of Standard Flat text.now) }

@@ -1,9 +1,9 @@
 //! Trees of whole texts, worked by hand from `docs/STATEMENTS.md`.
-use crate::{ChildSpan, Parse, parse_divided, parse_source};
+use crate::{ChildSpan, Parse, parse_divided, parse_source, parse_with};
 use squawk_events::{ParseError, StrStep};
 use squawk_kinds::SyntaxKind;
 use squawk_lexer::Strings;
-use squawk_statements::Division;
+use squawk_statements::{Division, GroupedGrammar};
 use std::alloc::{AllocError, Global};
 use std::test::Fail;
 
@@ -200,5 +200,14 @@ fn root_of_empty_text(rt: HostRuntime) -> Result<(), Fail> {
     assert_eq!(rt; end, 0);
     assert_eq!(rt; parse.text("", 0), "");
     assert_eq!(rt; parse.children().len(), 0);
+    Ok(())
+}
+
+#[test]
+fn parse_by_a_grammar(rt: HostRuntime) -> Result<(), Fail> {
+    let parse = parse_with(rt.alloc(), "(a;b); c", &GroupedGrammar)
+        .ok()
+        .ok_or("no memory")?;
+    assert_eq!(rt; parse.children().len(), 3);
     Ok(())
 }
