@@ -2,14 +2,16 @@
 use Rattle.std.specs.Prelude.{ℕ, ⊤, ◌<◌, List, length}
 use Rattle.squawk_events.specs.Limit.{limit}
 use Rattle.squawk_events.specs.declared.error.FrontError.{FrontError}
-use Rattle.squawk_events.specs.declared.error.FrontError.TheVariants.{TooLong, OutOfMemory}
+use Rattle.squawk_events.specs.declared.error.FrontError.TheVariants.{TooLong, OutOfMemory, BadRange}
 
 -- a call that fails only if memory runs out
 abbrev pub IsOutOfMemory : FrontError → Type 0
 IsOutOfMemory TooLong = ⊥
 IsOutOfMemory OutOfMemory = ⊤
+IsOutOfMemory BadRange = ⊥
 
--- a call over a text of these bytes, which also fails if the text is too long
+-- a call that reads or writes a text of these bytes, and also fails if it is too long
 abbrev pub MayRefuse : List ℕ → FrontError → Type 0
 MayRefuse text TooLong = limit < length text
 MayRefuse text OutOfMemory = ⊤
+MayRefuse text BadRange = ⊥

@@ -14,6 +14,10 @@ pub enum FrontError {
     /// An allocation failed.
     #[error("out of memory")]
     OutOfMemory,
+    /// A range of bytes that an edit replaces does not lie in the text, or does not start and end on
+    /// character boundaries.
+    #[error("bad range")]
+    BadRange,
 }
 
 impl From<AllocError> for FrontError {

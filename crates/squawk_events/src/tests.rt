@@ -10,6 +10,7 @@ fn errors_have_texts(rt: HostRuntime) -> Result<(), AllocError> {
     let table = [
         (FrontError::TooLong, "too long"),
         (FrontError::OutOfMemory, "out of memory"),
+        (FrontError::BadRange, "bad range"),
     ];
     for (error, text) in table {
         assert_eq!(rt; format!(in rt.alloc(); "{error}")?.as_str(), text);

@@ -1,9 +1,7 @@
 -- The values of string constants, dollar-quoted strings and quoted identifiers, and the texts that
 -- spell a value. Texts and values are lists of characters.
-use Rattle.std.specs.Prelude.{◌≡◌, ℕ, zero, suc, ◌+◌, ◌-◌, Bool, true, false, ◌&&◌, ◌||◌, ◌==◌, List, [], ◌∷◌, ◌++◌, take, drop, length, Option, Some, None, if◌then◌else◌, ⊤}
+use Rattle.std.specs.Prelude.{◌≡◌, ℕ, zero, suc, ◌+◌, ◌-◌, Bool, true, false, ◌&&◌, ◌||◌, ◌==◌, List, [], ◌∷◌, ◌++◌, take, drop, length, Option, Some, None, if◌then◌else◌}
 use Rattle.std.specs.Str.{chars, encode_utf8_all}
-use Rattle.squawk_events.specs.declared.error.FrontError.{FrontError}
-use Rattle.squawk_events.specs.declared.error.FrontError.TheVariants.{TooLong, OutOfMemory}
 use Rattle.squawk_lexer.specs.declared.token.Token.{Token}
 use Rattle.squawk_lexer.specs.declared.token.TokenKind.{TokenKind}
 use Rattle.squawk_lexer.specs.declared.token.TokenKind.TheVariants.{Literal, QuotedIdent}
@@ -87,11 +85,6 @@ IsQuotedIdentifier out = IsOneToken (QuotedIdent true false) (chars out)
 -- `out` has the value
 abbrev pub HasValue : List ℕ → List ℕ → Type 0
 HasValue value out = value_of (chars out) ≡ Some (chars value)
-
--- what a writer may refuse, and when; lack of memory has no other cause
-abbrev pub IsRefusal : (too_long : Type 0) → FrontError → Type 0
-IsRefusal too_long TooLong = too_long
-IsRefusal too_long OutOfMemory = ⊤
 
 -- ---- dollar-quoted strings
 

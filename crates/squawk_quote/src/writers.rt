@@ -2,6 +2,8 @@
 ghost use Rattle.std.specs.Prelude.{◌≡◌, ◌++◌, ◌<◌, ◌≤◌, [], ◌∷◌, length, IfOk, IfErr, OnOk};
 ghost use Rattle.std.specs.Str.{chars, encode_utf8_all};
 ghost use Rattle.std.specs.String.{string_bytes};
+ghost use Rattle.squawk_events.specs.Limit.{limit};
+ghost use Rattle.squawk_events.specs.Refusals.{MayRefuse};
 ghost use Rattle.squawk_quote.specs.Values as spec;
 
 use squawk_events::{FrontError, LIMIT};
@@ -33,9 +35,9 @@ fn push_escaped(out: &mut String, quote: char, value: &str) -> Result<(), AllocE
 fn quote_with(alloc: Global, quote: char, value: &str) -> Result<String, FrontError>
     ensures text { IfOk result (λ out. string_bytes out
         ≡ encode_utf8_all (spec.quoted_text quote (chars value.now))) }
-    ensures within_limit { IfOk result (λ out. length (string_bytes out) ≤ 4294967295) }
-    ensures refusals { IfErr result (spec.IsRefusal (4294967295
-        < length (encode_utf8_all (spec.quoted_text quote (chars value.now))))) }
+    ensures within_limit { IfOk result (λ out. length (string_bytes out) ≤ limit) }
+    ensures refusals { IfErr result (MayRefuse
+        (encode_utf8_all (spec.quoted_text quote (chars value.now)))) }
 {
     let mut out = String::new(alloc);
     out.push(quote)?;
@@ -53,15 +55,14 @@ fn quote_with(alloc: Global, quote: char, value: &str) -> Result<String, FrontEr
 ///
 /// # Errors
 ///
-/// `TooLong` only if the string constant has more than 4294967295 bytes; no longer one is returned.
+/// `TooLong` only if the string constant has more than `LIMIT` bytes; no longer one is returned.
 /// `OutOfMemory` if there is not enough memory for it.
 pub fn quote_string(alloc: Global, value: &str) -> Result<String, FrontError>
     ensures text { IfOk result (λ out. string_bytes out ≡ spec.string_constant_bytes value.now) }
     ensures token { IfOk result (λ out. spec.IsStringConstant (string_bytes out)) }
     ensures value { IfOk result (λ out. spec.HasValue value.now (string_bytes out)) }
-    ensures within_limit { IfOk result (λ out. length (string_bytes out) ≤ 4294967295) }
-    ensures refusals { IfErr result (spec.IsRefusal (4294967295
-        < length (spec.string_constant_bytes value.now))) }
+    ensures within_limit { IfOk result (λ out. length (string_bytes out) ≤ limit) }
+    ensures refusals { IfErr result (MayRefuse (spec.string_constant_bytes value.now)) }
 {
     quote_with(alloc, '\'', value)
 }
@@ -75,15 +76,14 @@ pub fn quote_string(alloc: Global, value: &str) -> Result<String, FrontError>
 ///
 /// # Errors
 ///
-/// `TooLong` only if the quoted identifier has more than 4294967295 bytes; no longer one is
+/// `TooLong` only if the quoted identifier has more than `LIMIT` bytes; no longer one is
 /// returned. `OutOfMemory` if there is not enough memory for it.
 pub fn quote_ident(alloc: Global, value: &str) -> Result<String, FrontError>
     ensures text { IfOk result (λ out. string_bytes out ≡ spec.quoted_identifier_bytes value.now) }
     ensures token { IfOk result (λ out. spec.IsQuotedIdentifier (string_bytes out)) }
     ensures value { IfOk result (λ out. spec.HasValue value.now (string_bytes out)) }
-    ensures within_limit { IfOk result (λ out. length (string_bytes out) ≤ 4294967295) }
-    ensures refusals { IfErr result (spec.IsRefusal (4294967295
-        < length (spec.quoted_identifier_bytes value.now))) }
+    ensures within_limit { IfOk result (λ out. length (string_bytes out) ≤ limit) }
+    ensures refusals { IfErr result (MayRefuse (spec.quoted_identifier_bytes value.now)) }
 {
     quote_with(alloc, '"', value)
 }

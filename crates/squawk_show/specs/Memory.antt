@@ -1,7 +1,5 @@
 -- What contracts see of a source and a sink in memory, and what one call does to them.
-use Rattle.std.specs.Prelude.{ℕ, ◌-◌, min, List, [], ◌++◌, length, take, drop, Some, ⊤}
-use Rattle.squawk_events.specs.declared.error.FrontError.{FrontError}
-use Rattle.squawk_events.specs.declared.error.FrontError.TheVariants.{TooLong, OutOfMemory}
+use Rattle.std.specs.Prelude.{ℕ, ◌-◌, min, List, [], ◌++◌, length, take, drop, Some}
 use Rattle.squawk_show.specs.Edge.{SourceView, SinkView, next_count}
 
 -- a source: the bytes left, the most bytes of a call, the numbers of the calls that fail, and the
@@ -76,8 +74,3 @@ after_write n piece s =
 -- the sink after a write that failed
 abbrev pub after_failed_write : SinkState → SinkState
 after_failed_write s = record s { calls = next_count s.calls; faults = next_count s.faults }
-
--- the errors of making a source or a sink in memory
-abbrev pub IsMemoryRefusal : FrontError → Type 0
-IsMemoryRefusal TooLong = ⊥
-IsMemoryRefusal OutOfMemory = ⊤

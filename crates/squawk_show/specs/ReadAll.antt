@@ -2,10 +2,10 @@
 use Rattle.std.specs.Prelude.{ℕ, ◌≢◌, ◌≤◌, ◌+◌, length, Vec, Result, Err, IfOk, OnOk, IfErr, ⊤}
 use Rattle.std.specs.Io.KnownBytes.{IsAtEnd}
 use Rattle.std.specs.declared.alloc.Global.{Global}
-use Rattle.squawk_events.specs.declared.error.FrontError.TheVariants.{TooLong, OutOfMemory}
+use Rattle.squawk_events.specs.declared.error.FrontError.TheVariants.{TooLong, OutOfMemory, BadRange}
 use Rattle.squawk_show.specs.Edge.{SourceView, SourceFaultRose, Takes, TakesExactly, TakesAtMost}
 use Rattle.squawk_show.specs.declared.error.RunError.{RunError}
-use Rattle.squawk_show.specs.declared.error.RunError.TheVariants.{BadWords, ReadFault, NotUtf8, Front, WriteFault}
+use Rattle.squawk_show.specs.declared.error.RunError.TheVariants.{BadWords, ReadFault, NotUtf8, Front, BadScript, WriteFault}
 
 -- the errors of reading at most `most` bytes, and when each comes
 abbrev pub IsReadRefusal : ℕ → (old new : SourceView) → RunError → Type 0
@@ -14,6 +14,8 @@ IsReadRefusal most old new ReadFault = SourceFaultRose old new
 IsReadRefusal most old new (NotUtf8 at) = ⊥
 IsReadRefusal most old new (Front TooLong) = TakesExactly old new (most + 1)
 IsReadRefusal most old new (Front OutOfMemory) = ⊤
+IsReadRefusal most old new (Front BadRange) = ⊥
+IsReadRefusal most old new (BadScript at) = ⊥
 IsReadRefusal most old new WriteFault = ⊥
 
 -- a call that reads a source to its end, at most `most` bytes: what it returns, and its errors

@@ -20,16 +20,20 @@ pub enum RunError {
     /// The input is not UTF-8; `at` is the length in bytes of its longest valid prefix.
     #[error("not UTF-8 at {at}")]
     NotUtf8 { at: usize },
-    /// The front end refused: the input is too long, or there is not enough memory.
+    /// The front end refused: the input is too long, there is not enough memory, or an edit has a bad
+    /// range.
     #[error("{0}")]
     Front(FrontError),
+    /// The script of edits is malformed; `at` is the offset in bytes of its first bad record.
+    #[error("bad script at {at}")]
+    BadScript { at: usize },
     /// The sink of the output failed.
     #[error("cannot write the output")]
     WriteFault,
 }
 
 impl RunError {
-    // The message, up to the number of `NotUtf8`.
+    // The message, up to the number of `NotUtf8` and `BadScript`.
     pub(crate) fn message(self) -> &'static str
         ensures message { result.now ≡ error_message self }
         ensures short { length result.now ≤ 30 }
@@ -40,6 +44,8 @@ impl RunError {
             RunError::NotUtf8 { .. } => "not UTF-8 at ",
             RunError::Front(FrontError::TooLong) => "too long",
             RunError::Front(FrontError::OutOfMemory) => "out of memory",
+            RunError::Front(FrontError::BadRange) => "bad range",
+            RunError::BadScript { .. } => "bad script at ",
             RunError::WriteFault => "cannot write the output",
         }
     }
@@ -55,6 +61,8 @@ impl RunError {
             RunError::Front(FrontError::TooLong) => 5,
             RunError::Front(FrontError::OutOfMemory) => 6,
             RunError::WriteFault => 7,
+            RunError::BadScript { .. } => 8,
+            RunError::Front(FrontError::BadRange) => 9,
         }
     }
 }

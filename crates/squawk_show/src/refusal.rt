@@ -13,7 +13,7 @@ fn prepend_error_number(line: &mut LineBuffer, error: RunError)
     ensures len { length line.new ≤ 20 + length line.old }
 {
     match error {
-        RunError::NotUtf8 { at } => line.prepend_number(at),
+        RunError::NotUtf8 { at } | RunError::BadScript { at } => line.prepend_number(at),
         RunError::BadWords | RunError::ReadFault | RunError::Front(_) | RunError::WriteFault => {}
     }
 }

@@ -1,9 +1,7 @@
 -- The text in which one character stands for each run of trivia. Texts are lists of characters.
-use Rattle.std.specs.Prelude.{◌≡◌, ℕ, zero, suc, ◌-◌, Bool, true, false, ◌||◌, List, [], ◌∷◌, ◌++◌, ◌==◌, take, drop, Option, Some, None, if◌then◌else◌, ⊤}
+use Rattle.std.specs.Prelude.{◌≡◌, ℕ, zero, suc, ◌-◌, Bool, true, false, ◌||◌, List, [], ◌∷◌, ◌++◌, ◌==◌, take, drop, Option, Some, None, if◌then◌else◌}
 use Rattle.std.specs.List.{list_any}
 use Rattle.std.specs.Str.{chars, encode_utf8_all}
-use Rattle.squawk_events.specs.declared.error.FrontError.{FrontError}
-use Rattle.squawk_events.specs.declared.error.FrontError.TheVariants.{TooLong, OutOfMemory}
 use Rattle.squawk_lexer.specs.declared.token.TokenKind.{TokenKind}
 use Rattle.squawk_lexer.specs.declared.token.TokenKind.TheVariants.{Whitespace}
 use Rattle.squawk_lexer.specs.declared.token.Strings.{Strings}
@@ -97,11 +95,6 @@ KeepsTokens strings text out =
 -- nothing is left to squeeze in `out`
 abbrev pub IsUnchangedBySqueezing : Strings → List ℕ → Type 0
 IsUnchangedBySqueezing strings out = squeezed_text strings (chars out) ≡ chars out
-
--- what `squeeze` may refuse, and when; lack of memory has no other cause
-abbrev pub IsRefusal : (too_long : Type 0) → FrontError → Type 0
-IsRefusal too_long TooLong = too_long
-IsRefusal too_long OutOfMemory = ⊤
 
 -- ---- for private functions
 

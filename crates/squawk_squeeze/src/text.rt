@@ -3,6 +3,8 @@ ghost use Rattle.std.specs.Prelude.{◌≡◌, ◌++◌, ◌≤◌, ◌<◌, ◌
 ghost use Rattle.std.specs.List.{list_any};
 ghost use Rattle.std.specs.Str.{chars};
 ghost use Rattle.std.specs.String.{string_bytes};
+ghost use Rattle.squawk_events.specs.Limit.{limit};
+ghost use Rattle.squawk_events.specs.Refusals.{MayRefuse};
 ghost use Rattle.squawk_lexer.specs.Classes.{is_line_end};
 ghost use Rattle.squawk_lexer.specs.Cut.{is_trivia};
 ghost use Rattle.squawk_squeeze.specs.Squeezed as spec;
@@ -74,7 +76,7 @@ fn push_separator(out: &mut String, run: Option<bool>) -> Result<(), AllocError>
 ///
 /// # Errors
 ///
-/// `TooLong` exactly if the text has more than 4294967295 bytes; no memory is taken then.
+/// `TooLong` exactly if the text has more than `LIMIT` bytes; nothing is allocated then.
 /// `OutOfMemory` if there is not enough memory for the result.
 pub fn squeeze(alloc: Global, text: &str, strings: Strings) -> Result<String, FrontError>
     ensures text { IfOk result (λ out. spec.IsSqueezed strings text.now (string_bytes out)) }
@@ -83,8 +85,8 @@ pub fn squeeze(alloc: Global, text: &str, strings: Strings) -> Result<String, Fr
     ensures idempotent { IfOk result (λ out.
         spec.IsUnchangedBySqueezing strings (string_bytes out)) }
     ensures no_longer { IfOk result (λ out. length (string_bytes out) ≤ length text.now) }
-    ensures too_long { IsErrOf result FrontError.TooLong ↔ (4294967295 < length text.now) }
-    ensures refusals { IfErr result (spec.IsRefusal (4294967295 < length text.now)) }
+    ensures too_long { IsErrOf result FrontError.TooLong ↔ (limit < length text.now) }
+    ensures refusals { IfErr result (MayRefuse text.now) }
 {
     if text.len() as u64 > LIMIT {
         return Err(FrontError::TooLong);

@@ -2,6 +2,7 @@
 ghost use Rattle.std.specs.Prelude.{◌≡◌, ◌<◌, ◌↔◌, ◌⊎◌, Some, length, IfOk, IfErr, OnErr, IsErr, Contains};
 ghost use Rattle.std.specs.Io.{WritesAtMost};
 ghost use Rattle.std.specs.Io.KnownBytes.{WriteAppends};
+ghost use Rattle.squawk_events.specs.Refusals.{IsOutOfMemory};
 ghost use Rattle.squawk_show.specs.Edge.{HasCause, next_count};
 ghost use Rattle.squawk_show.specs.Memory as spec;
 
@@ -52,7 +53,7 @@ impl MemorySink {
     ) -> Result<MemorySink, FrontError>
         requires { 0 < largest }
         ensures made { IfOk result (λ s. s ≡ spec.new_sink room largest failing.now) }
-        ensures refusals { IfErr result spec.IsMemoryRefusal }
+        ensures refusals { IfErr result IsOutOfMemory }
     {
         Ok(MemorySink {
             taken: Vec::with_capacity(alloc, room)?,

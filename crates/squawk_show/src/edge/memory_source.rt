@@ -2,6 +2,7 @@
 ghost use Rattle.std.specs.Prelude.{◌≡◌, ◌<◌, ◌≤◌, ◌+◌, ◌↔◌, Some, length, take, IfOk, IfErr, OnErr, IsErr, Contains, min};
 ghost use Rattle.std.specs.Io.{ReadsAtMost};
 ghost use Rattle.std.specs.Io.KnownBytes.{ReadConsumes};
+ghost use Rattle.squawk_events.specs.Refusals.{IsOutOfMemory};
 ghost use Rattle.squawk_show.specs.Edge.{HasCause, next_count};
 ghost use Rattle.squawk_show.specs.Memory as spec;
 
@@ -49,7 +50,7 @@ impl MemorySource {
     ) -> Result<MemorySource, FrontError>
         requires { 0 < largest }
         ensures made { IfOk result (λ s. s ≡ spec.new_source bytes.now largest failing.now) }
-        ensures refusals { IfErr result spec.IsMemoryRefusal }
+        ensures refusals { IfErr result IsOutOfMemory }
     {
         Ok(MemorySource {
             bytes: Vec::from_slice(alloc, bytes)?,
