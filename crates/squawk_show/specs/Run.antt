@@ -3,16 +3,18 @@ use Rattle.std.specs.Prelude.{ℕ, ◌≡◌, ◌≤◌, ◌<◌, ◌+◌, List,
 use Rattle.std.specs.Io.KnownBytes.{IsAtEnd}
 use Rattle.std.specs.Str.Lossy.{utf8_valid_len}
 use Rattle.squawk_events.specs.Limit.{limit}
-use Rattle.squawk_events.specs.declared.error.FrontError.TheVariants.{TooLong, OutOfMemory}
+use Rattle.squawk_events.specs.declared.error.FrontError.TheVariants.{TooLong, OutOfMemory, BadRange}
 use Rattle.squawk_lexer.specs.Cut.{tokens, token_ends}
 use Rattle.squawk_lexer.specs.declared.token.Strings.TheVariants.{Standard}
 use Rattle.squawk_show.specs.Edge.{SourceView, SinkView, SourceFaultRose, SinkFaultRose, TakesExactly, AppendsAll, AppendsPrefix}
 use Rattle.squawk_show.specs.Outcome.{status_of_error, error_line}
+use Rattle.squawk_show.specs.Made.{made}
 use Rattle.squawk_show.specs.Report.{report_of}
+use Rattle.squawk_show.specs.Summary.{summary_line}
 use Rattle.squawk_show.specs.declared.command.Command.{Command}
-use Rattle.squawk_show.specs.declared.command.Command.TheVariants.{Report}
+use Rattle.squawk_show.specs.declared.command.Command.TheVariants.{Report, Make}
 use Rattle.squawk_show.specs.declared.error.RunError.{RunError}
-use Rattle.squawk_show.specs.declared.error.RunError.TheVariants.{BadWords, ReadFault, NotUtf8, Front, WriteFault}
+use Rattle.squawk_show.specs.declared.error.RunError.TheVariants.{BadWords, ReadFault, NotUtf8, Front, BadScript, WriteFault}
 use Rattle.squawk_statements.specs.Children.{children}
 use Rattle.squawk_tree.specs.ParseOf.{parse_of, roles_of}
 use Rattle.squawk_tree.specs.Steps.{leaves, ranges_through, root_children, root_child}
@@ -61,6 +63,7 @@ pub record IsParsed (bytes : List ℕ) (tree : Tree) : Type 0 where
 -- what a command writes to `out` for its tree
 abbrev pub output_of : Result Command RunError → Tree → List ℕ
 output_of (Ok Report) tree = report_of tree
+output_of (Ok (Make pieces)) tree = summary_line tree
 output_of (Err e) tree = []
 
 -- a sink took exactly the output of a command for its tree
@@ -72,35 +75,56 @@ abbrev pub IsAll : Option (List ℕ) → List ℕ → Type 0
 IsAll None bytes = ⊤
 IsAll (Some left) bytes = left ≡ bytes
 
--- the bytes that a command reads as a text are these
+-- the words name a command that reads the source
+abbrev pub ReadsSource : Result Command RunError → Type 0
+ReadsSource (Ok Report) = ⊤
+ReadsSource (Ok (Make pieces)) = ⊥
+ReadsSource (Err e) = ⊥
+
+-- the text that a command parses has these bytes
 abbrev pub IsInput : Result Command RunError → SourceView → List ℕ → Type 0
 IsInput (Ok Report) source bytes = IsAll source.left bytes
+IsInput (Ok (Make pieces)) source bytes = made pieces ≡ bytes
 IsInput (Err e) source bytes = ⊥
 
--- the bytes that a command reads as a text are observable, and P holds of them
-abbrev pub HasInput : (List ℕ → Type 0) → Result Command RunError → SourceView → Type 0
-HasInput P (Ok Report) source = IsSomeAnd source.left P
-HasInput P (Err e) source = ⊥
+-- the bytes that a command reads are observable, and P holds of them
+abbrev pub Reads : (List ℕ → Type 0) → Result Command RunError → SourceView → Type 0
+Reads P (Ok Report) source = IsSomeAnd source.left P
+Reads P (Ok (Make pieces)) source = ⊥
+Reads P (Err e) source = ⊥
 
--- P holds of the bytes that a command reads as a text, where they are observable
+-- what a command parses is UTF-8 within the limit: the bytes that it reads, if these are observable,
+-- or a made text
+abbrev pub HasText : Result Command RunError → SourceView → Type 0
+HasText (Ok Report) source = IsSomeAnd source.left IsText
+HasText (Ok (Make pieces)) source = ⊤
+HasText (Err e) source = ⊥
+
+-- P holds of the bytes that a command parses, where they are observable
 abbrev pub OnInput : (List ℕ → Type 0) → Result Command RunError → SourceView → Type 0
 OnInput P (Ok Report) source = IfSome source.left P
+OnInput P (Ok (Make pieces)) source = P (made pieces)
 OnInput P (Err e) source = ⊥
 
--- a command reads its source to the end
+-- a command that reads its source reads it to the end
 abbrev pub IsReadToEnd : Result Command RunError → SourceView → Type 0
 IsReadToEnd (Ok Report) source = IsAtEnd source.left
+IsReadToEnd (Ok (Make pieces)) source = ⊤
 IsReadToEnd (Err e) source = ⊥
 
--- the tree of a command's input, which is a text
+-- the source failed when a command read it
+abbrev pub SourceFailed : Result Command RunError → (old new : SourceView) → Type 0
+SourceFailed command old new = ReadsSource command × SourceFaultRose old new
+
+-- the tree of the text that a command parses
 abbrev pub IsTreeOf : Result Command RunError → SourceView → Tree → Type 0
 IsTreeOf command source tree = (text : List ℕ) × IsInput command source text × IsParsed text tree
 
--- the leaves of a tree are the tokens of a command's input
+-- the leaves of a tree are the tokens of the text that a command parses
 abbrev pub HasLeavesOf : Result Command RunError → SourceView → Tree → Type 0
 HasLeavesOf command source tree = OnInput (λ text. LeavesAreTokens text tree) command source
 
--- the children of a tree's root are those into which the tokens of a command's input are divided
+-- the children of a tree's root are those into which the tokens of that text are divided
 abbrev pub IsDivided : Result Command RunError → SourceView → Tree → Type 0
 IsDivided command source tree = OnInput (λ text. ChildrenAreStatements text tree) command source
 
@@ -122,9 +146,14 @@ pub record Run : Type 0 where
 -- the source was read to its end, and what it had left is not UTF-8 from an offset on
 pub record IsInvalidAt (at : ℕ) (command : Result Command RunError) (old new : SourceView)
     : Type 0 where
+  pub reads : ReadsSource command
   pub end : IsReadToEnd command new
   pub input : (bytes : List ℕ) × IsInput command old bytes × IsInvalidText bytes
       × (at ≡ utf8_valid_len bytes)
+
+-- one byte more than the limit was taken from the source
+abbrev pub ExceedsLimit : Result Command RunError → (old new : SourceView) → Type 0
+ExceedsLimit command old new = ReadsSource command × TakesExactly old new (limit + 1)
 
 -- a prefix of the command's output was written, and then the sink failed
 pub record IsCutOff (run : Run) : Type 0 where
@@ -136,11 +165,12 @@ pub record IsCutOff (run : Run) : Type 0 where
 -- the errors of a run, and when each comes
 abbrev pub IsRunRefusal : Run → RunError → Type 0
 IsRunRefusal run BadWords = IsErr run.command
-IsRunRefusal run ReadFault = IsOk run.command × SourceFaultRose run.source_before run.source_after
+IsRunRefusal run ReadFault = SourceFailed run.command run.source_before run.source_after
 IsRunRefusal run (NotUtf8 at) = IsInvalidAt at run.command run.source_before run.source_after
-IsRunRefusal run (Front TooLong) = IsOk run.command
-    × TakesExactly run.source_before run.source_after (limit + 1)
+IsRunRefusal run (Front TooLong) = ExceedsLimit run.command run.source_before run.source_after
 IsRunRefusal run (Front OutOfMemory) = IsOk run.command
+IsRunRefusal run (Front BadRange) = ⊥
+IsRunRefusal run (BadScript at) = ⊥
 IsRunRefusal run WriteFault = IsCutOff run
 
 -- a run with this outcome, but for what it writes to `err`
@@ -165,20 +195,32 @@ IsParseRefusal bytes ReadFault = ⊥
 IsParseRefusal bytes (NotUtf8 at) = IsInvalidText bytes × (at ≡ utf8_valid_len bytes)
 IsParseRefusal bytes (Front TooLong) = ⊥
 IsParseRefusal bytes (Front OutOfMemory) = ⊤
+IsParseRefusal bytes (Front BadRange) = ⊥
+IsParseRefusal bytes (BadScript at) = ⊥
 IsParseRefusal bytes WriteFault = ⊥
 
--- the errors of making the report of what a source has left, and when each comes
-abbrev pub IsReportRefusal : (old new : SourceView) → RunError → Type 0
-IsReportRefusal old new BadWords = ⊥
-IsReportRefusal old new ReadFault = SourceFaultRose old new
-IsReportRefusal old new (NotUtf8 at) = IsInvalidAt at (Ok Report) old new
-IsReportRefusal old new (Front TooLong) = TakesExactly old new (limit + 1)
-IsReportRefusal old new (Front OutOfMemory) = ⊤
-IsReportRefusal old new WriteFault = ⊥
+-- the errors before anything is written, and when each comes
+abbrev pub IsPrepareRefusal : Command → (old new : SourceView) → RunError → Type 0
+IsPrepareRefusal command old new BadWords = ⊥
+IsPrepareRefusal command old new ReadFault = SourceFailed (Ok command) old new
+IsPrepareRefusal command old new (NotUtf8 at) = IsInvalidAt at (Ok command) old new
+IsPrepareRefusal command old new (Front TooLong) = ExceedsLimit (Ok command) old new
+IsPrepareRefusal command old new (Front OutOfMemory) = ⊤
+IsPrepareRefusal command old new (Front BadRange) = ⊥
+IsPrepareRefusal command old new (BadScript at) = ⊥
+IsPrepareRefusal command old new WriteFault = ⊥
 
--- a source was read to its end, and this is the tree of what it had left, and the tree's report
-pub record IsReported (old new : SourceView) (tree : Tree) (report : List ℕ) : Type 0 where
-  pub tree_of : IsTreeOf (Ok Report) old tree
+-- a command read what it reads of a source, and this is the tree of the text that it parses, and its
+-- whole output
+pub record IsPrepared (command : Command) (old new : SourceView) (tree : Tree) (output : List ℕ)
+    : Type 0 where
+  pub tree_of : IsTreeOf (Ok command) old tree
   pub balanced : IsTree tree
-  pub end : IsAtEnd new.left
-  pub report_of : report ≡ report_of tree
+  pub end : IsReadToEnd (Ok command) new
+  pub output_of : output ≡ output_of (Ok command) tree
+
+-- the tree of a made text, and its summary
+pub record IsSummarized (pieces : ℕ) (tree : Tree) (output : List ℕ) : Type 0 where
+  pub parsed : IsParsed (made pieces) tree
+  pub balanced : IsTree tree
+  pub summary : output ≡ summary_line tree

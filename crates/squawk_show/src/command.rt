@@ -1,23 +1,43 @@
 //! The commands of the program.
-ghost use Rattle.std.specs.Prelude.{◌≡◌};
-ghost use Rattle.squawk_show.specs.Command.{command_of};
+ghost use Rattle.std.specs.Prelude.{◌≡◌, IfOk};
+ghost use Rattle.squawk_show.specs.Command.{command_of, make_command, IsWithinPieces};
 
 use crate::RunError;
+use crate::made::MAX_PIECES;
 
 /// A command of the program.
 #[derive(Clone, Copy, Debug, PartialEq, Eq)]
 pub enum Command {
     /// Reads a text and writes the report of its tree: the command of an empty command line.
     Report,
+    /// Makes a text of so many pieces, from 1 to 100000, and writes a summary of its tree: the
+    /// words `make` and the number in decimal digits without leading zeros.
+    Make { pieces: u32 },
+}
+
+// The command `make` with this word after it.
+fn parse_make(count: &str) -> Result<Command, RunError>
+    ensures command { result ≡ make_command count.now }
+    ensures within { IfOk result IsWithinPieces }
+{
+    // `parse` also takes a sign and leading zeros.
+    if count.is_empty() || count.as_bytes()[0] <= b'0' {
+        return Err(RunError::BadWords);
+    }
+    match count.parse::<u32>() {
+        Ok(pieces) if pieces <= MAX_PIECES => Ok(Command::Make { pieces }),
+        _ => Err(RunError::BadWords),
+    }
 }
 
 // Parses the words of the command line, which leave out the program's name.
 pub(crate) fn parse_command(words: &[String]) -> Result<Command, RunError>
-    ensures { result ≡ command_of words.now }
+    ensures command { result ≡ command_of words.now }
+    ensures within { IfOk result IsWithinPieces }
 {
-    if words.is_empty() {
-        Ok(Command::Report)
-    } else {
-        Err(RunError::BadWords)
+    match words.len() {
+        0 => Ok(Command::Report),
+        2 if words[0].as_str() == "make" => parse_make(words[1].as_str()),
+        _ => Err(RunError::BadWords),
     }
 }

@@ -1,13 +1,16 @@
 //! The whole program, over a source and two sinks.
-ghost use Rattle.std.specs.Prelude.{◌⊎◌, ◌≡◌, ◌≢◌, ◌≤◌, ◌↔◌, ℕ, length, IfOk, IfErr, OnOk, IsErr, IsErrOf, Ok, Err};
+ghost use Rattle.std.specs.Prelude.{◌⊎◌, ◌≡◌, ◌≢◌, ◌≤◌, ◌↔◌, ℕ, length, IfOk, IfErr, OnOk, IsErr, IsErrOf, IsOkUnless, Ok, Err};
 ghost use Rattle.squawk_events.specs.Limit.{limit};
-ghost use Rattle.squawk_show.specs.Command.{command_of};
-ghost use Rattle.squawk_show.specs.Edge.{TakesAtMost, SourceFaultRose, SinkFaultRose};
-ghost use Rattle.squawk_show.specs.Run.{Writes, IsReadToEnd, IsText, IsInvalidText, IsOverLimit, HasInput, IsTreeOf, HasLeavesOf, IsDivided, IsRunRefusal, EndsWith, WritesErrorLine, status_of, IsParsed, IsParseRefusal, IsReported, IsReportRefusal};
+ghost use Rattle.squawk_show.specs.Command.{command_of, IsWithinPieces};
+ghost use Rattle.squawk_show.specs.Edge.{TakesAtMost, SinkFaultRose};
+ghost use Rattle.squawk_show.specs.Made.{most_pieces};
+ghost use Rattle.squawk_show.specs.Run.{Writes, IsReadToEnd, ReadsSource, Reads, HasText, SourceFailed, IsInvalidText, IsOverLimit, IsTreeOf, HasLeavesOf, IsDivided, IsRunRefusal, EndsWith, WritesErrorLine, status_of, IsParsed, IsParseRefusal, IsPrepared, IsPrepareRefusal, IsSummarized};
 ghost use Rattle.squawk_tree.specs.Tree.{IsTree};
 
 use crate::command::parse_command;
+use crate::made::make_text;
 use crate::refusal::write_error_line;
+use crate::summary::make_summary;
 use crate::{Command, RunError, Sink, Source, make_report, read_all, write_whole};
 use squawk_events::{FrontError, LIMIT};
 use squawk_tree::{Parse, parse_source};
@@ -16,9 +19,9 @@ use std::alloc::Global;
 /// How a run ended: the status that the program ends with, and the tree, or the error.
 #[derive(Drop)]
 pub struct Shown {
-    /// 0 where the whole report was written, else the status of the error.
+    /// 0 where the whole output was written, else the status of the error.
     pub status: u8,
-    /// The tree whose report was written, or why none was.
+    /// The tree of the text, or why no whole output was written.
     pub outcome: Result<Parse, RunError>,
 }
 
@@ -37,11 +40,12 @@ fn parse_bytes(alloc: Global, bytes: &[u8]) -> Result<Parse, RunError>
     }
 }
 
-// Reads the source to its end, and makes the tree of its text and the whole report.
+// Reads the source to its end, and makes the tree of its text and the report.
 fn prepare_report<S: Source>(alloc: Global, source: &mut S) -> Result<(Parse, Vec<u8>), RunError>
-    ensures reported { IfOk result (λ r.
-        IsReported (S.view source.old) (S.view source.new) r.0 r.1.items) }
-    ensures refusals { IfErr result (IsReportRefusal (S.view source.old) (S.view source.new)) }
+    ensures prepared { IfOk result (λ r.
+        IsPrepared Command.Report (S.view source.old) (S.view source.new) r.0 r.1.items) }
+    ensures refusals { IfErr result
+        (IsPrepareRefusal Command.Report (S.view source.old) (S.view source.new)) }
     ensures taken { result ≢ Err (RunError.Front FrontError.TooLong)
         → TakesAtMost (S.view source.old) (S.view source.new) limit }
 {
@@ -51,27 +55,36 @@ fn prepare_report<S: Source>(alloc: Global, source: &mut S) -> Result<(Parse, Ve
     Ok((parse, report))
 }
 
-// Runs the command `Report`.
-fn write_report<S: Source, K: Sink>(
+// Makes a text, its tree and its summary.
+fn prepare_summary(alloc: Global, pieces: u32) -> Result<(Parse, Vec<u8>), RunError>
+    requires { pieces ≤ most_pieces }
+    ensures summarized { IfOk result (λ r. IsSummarized pieces r.0 r.1.items) }
+    ensures refusals { IsOkUnless result (RunError.Front FrontError.OutOfMemory) }
+{
+    let text = make_text(alloc, pieces)?;
+    let parse = parse_source(alloc, text.as_str())?;
+    let summary = make_summary(alloc, &parse)?;
+    Ok((parse, summary))
+}
+
+// Does all that a command does before it writes: returns its tree and its whole output.
+fn prepare<S: Source>(
     alloc: Global,
+    command: Command,
     source: &mut S,
-    out: &mut K,
-) -> Result<Parse, RunError>
-    ensures ends { EndsWith (record {
-      command = Ok Command.Report;
-      source_before = S.view source.old;
-      source_after = S.view source.new;
-      out_before = K.view out.old;
-      out_after = K.view out.new;
-    }) result }
-    ensures untouched { IfErr result (λ e. e ≢ RunError.WriteFault → out.new ≡ out.old) }
+) -> Result<(Parse, Vec<u8>), RunError>
+    requires { IsWithinPieces command }
+    ensures prepared { IfOk result (λ r.
+        IsPrepared command (S.view source.old) (S.view source.new) r.0 r.1.items) }
+    ensures refusals { IfErr result
+        (IsPrepareRefusal command (S.view source.old) (S.view source.new)) }
+    ensures unread { ¬ (ReadsSource (Ok command)) → source.new ≡ source.old }
     ensures taken { result ≢ Err (RunError.Front FrontError.TooLong)
         → TakesAtMost (S.view source.old) (S.view source.new) limit }
 {
-    let (parse, report) = prepare_report(alloc, source)?;
-    match write_whole(out, &report) {
-        Ok(()) => Ok(parse),
-        Err(_) => Err(RunError::WriteFault),
+    match command {
+        Command::Report => prepare_report(alloc, source),
+        Command::Make { pieces } => prepare_summary(alloc, pieces),
     }
 }
 
@@ -90,22 +103,27 @@ fn run_command<S: Source, K: Sink>(
       out_after = K.view out.new;
     }) result }
     ensures bad_words { IsErr (command_of words.now) → IsErrOf result RunError.BadWords }
-    ensures unread { IsErr (command_of words.now) → source.new ≡ source.old }
+    ensures unread { ¬ (ReadsSource (command_of words.now)) → source.new ≡ source.old }
     ensures untouched { IfErr result (λ e. e ≢ RunError.WriteFault → out.new ≡ out.old) }
     ensures taken { result ≢ Err (RunError.Front FrontError.TooLong)
         → TakesAtMost (S.view source.old) (S.view source.new) limit }
 {
-    match parse_command(words)? {
-        Command::Report => write_report(alloc, source, out),
+    let command = parse_command(words)?;
+    let (parse, output) = prepare(alloc, command, source)?;
+    match write_whole(out, &output) {
+        Ok(()) => Ok(parse),
+        Err(_) => Err(RunError::WriteFault),
     }
 }
 
-/// Runs the program: reads the source to its end, writes the report of its tree to `out`, and
-/// returns how that ended.
+/// Runs the program: makes the tree of a text, writes the output of the command, and returns how
+/// that ended.
 ///
-/// `words` are those of the command line without the program's name. If they name no command,
-/// nothing is read. The whole report is made before its first byte is written, and writing
-/// allocates nothing. After an error its line is written to `err`, whose faults change nothing.
+/// `words` are those of the command line without the program's name. Without words the text is what
+/// `source` has left, and the output is the report of its tree. With `make` and a number the text is
+/// made, the output is a summary, and the source is not read. The whole output is made before its
+/// first byte is written to `out`, and writing allocates nothing. After an error its line is written
+/// to `err`, whose faults change nothing.
 pub fn run<S: Source, K: Sink, E: Sink>(
     alloc: Global,
     words: &[String],
@@ -115,7 +133,7 @@ pub fn run<S: Source, K: Sink, E: Sink>(
 ) -> Shown
     ensures status { result.status ≡ status_of result.outcome }
 
-    // With status 0 `out` took exactly the output of the command for the tree of its input.
+    // With status 0 `out` took exactly the output of the command for the tree of its text.
     ensures written { IfOk result.outcome
         (Writes (command_of words.now) (K.view out.old) (K.view out.new)) }
     ensures tree { IfOk result.outcome (IsTreeOf (command_of words.now) (S.view source.old)) }
@@ -123,7 +141,7 @@ pub fn run<S: Source, K: Sink, E: Sink>(
     ensures end { OnOk result.outcome (IsReadToEnd (command_of words.now) (S.view source.new)) }
     ensures quiet { result.status ≡ 0 → err.new ≡ err.old }
 
-    // The leaves of that tree are the tokens of the input, and the root's children those into which
+    // The leaves of that tree are the tokens of the text, and the root's children those into which
     // the tokens are divided.
     ensures leaves { IfOk result.outcome (HasLeavesOf (command_of words.now) (S.view source.old)) }
     ensures children { IfOk result.outcome (IsDivided (command_of words.now) (S.view source.old)) }
@@ -139,23 +157,23 @@ pub fn run<S: Source, K: Sink, E: Sink>(
     ensures bad_words { IsErrOf result.outcome RunError.BadWords ↔ IsErr (command_of words.now) }
 
     // What an error leaves.
-    ensures unread { IsErr (command_of words.now) → source.new ≡ source.old }
+    ensures unread { ¬ (ReadsSource (command_of words.now)) → source.new ≡ source.old }
     ensures taken { result.status ≢ 5 → TakesAtMost (S.view source.old) (S.view source.new) limit }
     ensures untouched { IfErr result.outcome (λ e. e ≢ RunError.WriteFault → out.new ≡ out.old) }
     ensures error_line { IfErr result.outcome (WritesErrorLine (E.view err.old) (E.view err.new)) }
 
-    // Without a fault of the source, its bytes decide the status unless memory runs out. Each
-    // clause has one case: a text within the limit, where `out` has no fault either; bytes within
-    // the limit that are not UTF-8; more bytes than the limit.
-    ensures complete { HasInput IsText (command_of words.now) (S.view source.old)
-        → ¬ (SourceFaultRose (S.view source.old) (S.view source.new))
+    // Without a fault of the source, the text decides the status unless memory runs out. Each clause
+    // has one case: a text within the limit, where `out` has no fault either; bytes within the limit
+    // that are not UTF-8; more bytes than the limit.
+    ensures complete { HasText (command_of words.now) (S.view source.old)
+        → ¬ (SourceFailed (command_of words.now) (S.view source.old) (S.view source.new))
         → ¬ (SinkFaultRose (K.view out.old) (K.view out.new))
         → (result.status ≡ 0) ⊎ (result.status ≡ 6) }
-    ensures invalid { HasInput IsInvalidText (command_of words.now) (S.view source.old)
-        → ¬ (SourceFaultRose (S.view source.old) (S.view source.new))
+    ensures invalid { Reads IsInvalidText (command_of words.now) (S.view source.old)
+        → ¬ (SourceFailed (command_of words.now) (S.view source.old) (S.view source.new))
         → (result.status ≡ 4) ⊎ (result.status ≡ 6) }
-    ensures over_limit { HasInput IsOverLimit (command_of words.now) (S.view source.old)
-        → ¬ (SourceFaultRose (S.view source.old) (S.view source.new))
+    ensures over_limit { Reads IsOverLimit (command_of words.now) (S.view source.old)
+        → ¬ (SourceFailed (command_of words.now) (S.view source.old) (S.view source.new))
         → (result.status ≡ 5) ⊎ (result.status ≡ 6) }
 {
     match run_command(alloc, words, source, out) {
