@@ -6,6 +6,8 @@ pub mod ReadAll
 pub mod Command
 pub mod Outcome
 pub mod Report
+pub mod Made
+pub mod Summary
 pub mod Run
 -- What the contracts of private functions cite.
 pub mod Digits

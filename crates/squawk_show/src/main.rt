@@ -7,10 +7,12 @@ mod edge;
 mod error;
 mod line;
 mod line_buffer;
+mod made;
 mod program;
 mod reading;
 mod refusal;
 mod report;
+mod summary;
 #[cfg(test)]
 mod tests;
 mod writing;
