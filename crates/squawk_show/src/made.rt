@@ -1,8 +1,7 @@
 //! The text that the command `make` parses.
-ghost use Rattle.std.specs.Prelude.{◌≡◌, ◌≤◌, ◌++◌, ◌∷◌, [], ◌<◌, length, string_bytes, decimal, IfOk, OnOk};
+ghost use Rattle.std.specs.Prelude.{◌≡◌, ◌≤◌, ◌++◌, length, string_bytes, IfOk, OnOk};
 ghost use Rattle.squawk_events.specs.Limit.{limit};
-ghost use Rattle.squawk_show.specs.Made.{made, most_pieces, piece};
-ghost use Rattle.squawk_show.specs.Report.{line_feed};
+ghost use Rattle.squawk_show.specs.Made.{made, most_pieces, numbered_line, piece};
 
 use itoa::Buffer;
 use std::alloc::{AllocError, Global};
@@ -11,12 +10,12 @@ use std::alloc::{AllocError, Global};
 pub(crate) const MAX_PIECES: u32 = 100_000;
 
 // Appends a line with the digits of a number in it.
-fn push_line(text: &mut String, before: &str, digits: &str, after: &str) -> Result<(), AllocError>
-    ensures { OnOk result (string_bytes text.new ≡ string_bytes text.old
-        ++ before.now ++ digits.now ++ after.now ++ line_feed ∷ []) }
+fn push_line(text: &mut String, before: &str, n: u32, after: &str) -> Result<(), AllocError>
+    ensures { OnOk result (string_bytes text.new
+        ≡ string_bytes text.old ++ numbered_line before.now n after.now) }
 {
     text.push_str(before)?;
-    text.push_str(digits)?;
+    text.push_str(Buffer::new().format(n))?;
     text.push_str(after)?;
     text.push_str("\n")
 }
@@ -25,15 +24,13 @@ fn push_line(text: &mut String, before: &str, digits: &str, after: &str) -> Resu
 fn push_piece(text: &mut String, i: u32) -> Result<(), AllocError>
     ensures { OnOk result (string_bytes text.new ≡ string_bytes text.old ++ piece i) }
 {
-    let mut buffer = Buffer::new();
-    let digits = buffer.format(i);
     match i % 4 {
-        0 => push_line(text, "select ", digits, ";"),
-        1 => push_line(text, "insert into t values ('", digits, "');"),
-        2 => push_line(text, "update t set a = $1 where b = ", digits, ";"),
+        0 => push_line(text, "select ", i, ";"),
+        1 => push_line(text, "insert into t values ('", i, "');"),
+        2 => push_line(text, "update t set a = $1 where b = ", i, ";"),
         _ => {
-            push_line(text, "-- ", digits, "")?;
-            push_line(text, "\\echo ", digits, "")
+            push_line(text, "-- ", i, "")?;
+            push_line(text, "\\echo ", i, "")
         }
     }
 }
