@@ -1,6 +1,7 @@
--- The report of a tree, as bytes: a line for each Enter and each Token. The errors of a tree are not
--- printed yet.
-use Rattle.std.specs.Prelude.{ℕ, ◌+◌, ◌-◌, List, [], ◌∷◌, ◌++◌, codes, decimal, slice_get, unwrap_or}
+-- The report of a tree, as bytes: a line for each Enter and Token, and then one for each error.
+use Rattle.std.specs.Prelude.{ℕ, ◌+◌, ◌-◌, List, [], ◌∷◌, ◌++◌, codes, decimal, flat_map, slice_get, unwrap_or}
+use Rattle.squawk_events.specs.Message.{message_of}
+use Rattle.squawk_events.specs.declared.steps.ParseError.{ParseError}
 use Rattle.squawk_events.specs.declared.steps.StrStep.{StrStep}
 use Rattle.squawk_events.specs.declared.steps.StrStep.TheVariants.{Enter, Token, Exit, Error}
 use Rattle.squawk_names.specs.Texts.{texts}
@@ -58,6 +59,12 @@ step_lines depth [] spans = []
 step_lines depth (x ∷ xs) [] = []
 step_lines depth (x ∷ xs) (r ∷ rs) = step_line depth x r ++ step_lines (depth_after depth x) xs rs
 
--- the report of a tree
+-- the line of an error in a text: the letter E, its range and its message
+abbrev pub parse_error_line : ParseError → List ℕ
+parse_error_line e = codes "E " ++ range_text (e.start, e.end) ++ (space ∷ [])
+    ++ message_of e.number ++ (line_feed ∷ [])
+
+-- the report of a tree: the lines of its steps, and then those of its errors
 abbrev pub report_of : Tree → List ℕ
 report_of tree = step_lines 0 tree.steps (ranges tree.steps)
+    ++ flat_map parse_error_line tree.errors

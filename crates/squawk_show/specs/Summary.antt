@@ -1,8 +1,11 @@
 -- The line that the command `make` writes.
-use Rattle.std.specs.Prelude.{ℕ, suc, List, [], ◌∷◌, ◌++◌, length, codes, decimal}
+use Rattle.std.specs.Prelude.{ℕ, suc, Bool, true, false, List, [], ◌∷◌, ◌++◌, length, codes, decimal, is_some}
+use Rattle.squawk_events.specs.declared.steps.StrStep.{StrStep}
+use Rattle.squawk_events.specs.declared.steps.StrStep.TheVariants.{Enter, Token, Exit, Error}
 use Rattle.squawk_show.specs.Report.{line_feed}
 use Rattle.squawk_tree.specs.Steps.{RootChild, Leaf, Node, leaves, root_children}
 use Rattle.squawk_tree.specs.Tree.{Tree}
+use Rattle.squawk_tree.specs.declared.children.ChildSpan.{ChildSpan}
 
 -- the number of nodes among children of the root
 abbrev pub node_count : List RootChild → ℕ
@@ -18,3 +21,16 @@ summary_line tree = codes "bytes " ++ decimal tree.len
     ++ codes " children " ++ decimal (length (root_children tree.steps))
     ++ codes " nodes " ++ decimal (node_count (root_children tree.steps))
     ++ codes " errors " ++ decimal (length tree.errors) ++ line_feed ∷ []
+
+-- What the contracts of private functions cite
+
+-- the step is a `Token`
+abbrev pub is_token : StrStep → Bool
+is_token (Enter kind) = false
+is_token (Token kind start end) = true
+is_token Exit = false
+is_token (Error number at) = false
+
+-- the child is a node
+abbrev pub is_node : ChildSpan → Bool
+is_node child = is_some child.node

@@ -7,6 +7,7 @@ ghost use Rattle.squawk_show.specs.Report as spec;
 
 use crate::digits::{DigitTables, Number, put_number};
 use crate::line_buffer::LineBuffer;
+use squawk_events::{ParseError, message};
 use squawk_kinds::SyntaxKind;
 use squawk_names::name_window;
 use std::alloc::AllocError;
@@ -141,4 +142,21 @@ pub(crate) fn push_line(
     }
     push_any_line(out, depth, letter, kind, range)?;
     Ok(last)
+}
+
+// Appends the line of an error in the text.
+pub(crate) fn push_error(out: &mut Vec<u8>, error: ParseError) -> Result<(), AllocError>
+    requires { (1 ≤ error.number) × (error.number ≤ 10) }
+    ensures { OnOk result (out.new.items ≡ out.old.items ++ spec.parse_error_line error) }
+{
+    let mut line = LineBuffer::new();
+    line.prepend(b"\n");
+    line.prepend(message(error.number).as_bytes());
+    line.prepend(b" ");
+    line.prepend_number(error.end as usize);
+    line.prepend(b"..");
+    line.prepend_number(error.start as usize);
+    line.prepend(b"E ");
+    out.extend_from_slice(line.as_bytes())?;
+    Ok(())
 }

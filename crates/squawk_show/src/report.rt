@@ -1,9 +1,10 @@
 //! The report of a tree.
 ghost use Rattle.std.specs.Prelude.{◌≡◌, ◌++◌, [], ◌+◌, ◌^◌, ◌<◌, length, IfOk, OnOk};
-ghost use Rattle.squawk_show.specs.Report.{report_of, step_line, depth_after};
+ghost use Rattle.squawk_show.specs.Report.{report_of, step_line, step_lines, depth_after};
+ghost use Rattle.squawk_tree.specs.Ranges.{ranges};
 
 use crate::digits::{DigitTables, Number};
-use crate::line::push_line;
+use crate::line::{push_error, push_line};
 use squawk_events::StrStep;
 use squawk_tree::Parse;
 use std::alloc::{AllocError, Global};
@@ -60,11 +61,10 @@ fn make_tables(alloc: Global, steps: usize) -> Result<Option<DigitTables>, Alloc
     Ok(Some(DigitTables::new(alloc)?))
 }
 
-/// Returns the report of a tree as UTF-8: a line for each node and leaf, in order.
-///
-/// Time and memory are linear in the length of the report. Fails only if memory runs out.
-pub fn make_report(alloc: Global, parse: &Parse) -> Result<Vec<u8>, AllocError>
-    ensures { IfOk result (λ text. text.items ≡ report_of parse.now) }
+// The lines of the nodes and the leaves.
+fn make_step_lines(alloc: Global, parse: &Parse) -> Result<Vec<u8>, AllocError>
+    ensures { IfOk result (λ text.
+        text.items ≡ step_lines 0 parse.now.steps (ranges parse.now.steps)) }
 {
     let steps = parse.steps().len();
     let tables = make_tables(alloc, steps)?;
@@ -75,6 +75,20 @@ pub fn make_report(alloc: Global, parse: &Parse) -> Result<Vec<u8>, AllocError>
         let next = push_step(&mut out, &tables, last, depth, *step, parse.range(i))?;
         depth = next.0;
         last = next.1;
+    }
+    Ok(out)
+}
+
+/// Returns the report of a tree as UTF-8: a line for each node and leaf, in order, and then a line
+/// for each error.
+///
+/// Time and memory are linear in the length of the report. Fails only if memory runs out.
+pub fn make_report(alloc: Global, parse: &Parse) -> Result<Vec<u8>, AllocError>
+    ensures { IfOk result (λ text. text.items ≡ report_of parse.now) }
+{
+    let mut out = make_step_lines(alloc, parse)?;
+    for error in parse.errors() {
+        push_error(&mut out, *error)?;
     }
     Ok(out)
 }

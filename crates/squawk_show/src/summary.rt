@@ -1,8 +1,6 @@
 //! The line that the command `make` writes.
-ghost use Rattle.std.specs.Prelude.{◌≡◌, length, map, IfOk};
-ghost use Rattle.squawk_show.specs.Summary.{node_count, summary_line};
-ghost use Rattle.squawk_tree.specs.ChildSpans.{span_child};
-ghost use Rattle.squawk_tree.specs.Steps.{leaves};
+ghost use Rattle.std.specs.Prelude.{◌≡◌, count_by, IfOk};
+ghost use Rattle.squawk_show.specs.Summary.{is_node, is_token, summary_line};
 
 use squawk_events::StrStep;
 use squawk_tree::{ChildSpan, Parse};
@@ -10,28 +8,19 @@ use std::alloc::{AllocError, Global};
 
 // The number of leaves among steps.
 fn count_leaves(steps: &[StrStep]) -> usize
-    ensures { result ≡ length (leaves steps.now) }
+    ensures { result ≡ count_by is_token steps.now }
 {
-    let mut count = 0;
-    for step in steps {
-        if let StrStep::Token { .. } = step {
-            count += 1;
-        }
-    }
-    count
+    steps
+        .iter()
+        .filter(|step| matches!(step, StrStep::Token { .. }))
+        .count()
 }
 
 // The number of nodes among children of the root.
 fn count_nodes(children: &[ChildSpan]) -> usize
-    ensures { result ≡ node_count (map span_child children.now) }
+    ensures { result ≡ count_by is_node children.now }
 {
-    let mut count = 0;
-    for child in children {
-        if child.node.is_some() {
-            count += 1;
-        }
-    }
-    count
+    children.iter().filter(|child| child.node.is_some()).count()
 }
 
 // Makes the summary line of a tree.

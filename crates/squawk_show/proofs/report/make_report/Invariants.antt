@@ -1,12 +1,10 @@
-use Rattle.std.proofs.Common.{◌≡◌, ◌≤◌, ◌++◌, drop}
-use Rattle.squawk_show.specs.Report.{step_lines}
+use Rattle.std.proofs.Common.{◌≡◌, ◌++◌, take}
+use Rattle.std.specs.Prelude.{flat_map}
+use Rattle.squawk_show.specs.Report.{step_lines, parse_error_line}
 use Rattle.squawk_tree.specs.Ranges.{ranges}
 use Rattle.squawk_show.proofs.report.make_report.Given as goal
 
--- the lines so far and those of what is left are those of all
-abbrev pub invariant-loop-i : goal.invariant-loop-i
-invariant-loop-i l = record {
-  lines : l.out.items ++ step_lines l.depth (drop l.i l.parse.steps)
-      (drop l.i (ranges l.parse.steps)) ≡ step_lines 0 l.parse.steps (ranges l.parse.steps);
-  depth : l.depth ≤ l.i;
-}
+-- the lines of the steps, and then those of the errors so far
+abbrev pub invariant-loop-error : goal.invariant-loop-error
+invariant-loop-error l = l.out.items ≡ step_lines 0 l.parse.steps (ranges l.parse.steps)
+    ++ flat_map parse_error_line (take l.error-index l.parse.errors)

@@ -2,7 +2,7 @@ use Rattle.std.proofs.Common.{length, get_or, sym, ap, ◌∙◌, arith}
 use Rattle.std.proofs.lemmas.Option.{get_or_from_slice_get, slice_get_within}
 use Rattle.squawk_tree.specs.Ranges.{ranges}
 use Rattle.squawk_show.proofs.ReportLemmas.{depth_after_le, step_lines_push}
-use Rattle.squawk_show.proofs.report.make_report.Goals as goal
+use Rattle.squawk_show.proofs.report.make_step_lines.Goals as goal
 
 pub loop-i-preserved : goal.loop-i-preserved
 loop-i-preserved c =
