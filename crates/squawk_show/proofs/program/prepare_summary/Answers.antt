@@ -1,0 +1,21 @@
+use Rattle.std.proofs.Common.{◌∙◌, ◌≤◌, length, subst}
+use Rattle.std.specs.Prelude.{IsUtf8}
+use Rattle.squawk_events.specs.Limit.{limit}
+use Rattle.squawk_show.proofs.ParseLemmas.{is_parsed}
+use Rattle.squawk_show.proofs.program.prepare_summary.Goals as goal
+
+pub returns-clause-summarized : goal.returns-clause-summarized
+returns-clause-summarized c =
+    let parse = c.in_ok-parse.ensures in
+    let same = c.as_str.ensures.value ∙ c.in_ok-text.ensures.text in
+    record {
+      parsed = is_parsed _ _ _ same
+          (record {
+            within = subst (λ bytes. length bytes ≤ limit) c.in_ok-text.ensures.text
+                c.in_ok-text.ensures.within;
+            valid = subst IsUtf8 same c.as_str.utf8;
+          })
+          parse.tree parse.leaves parse.children;
+      balanced = parse.lawful;
+      summary = c.in_ok-summary.ensures;
+    }
