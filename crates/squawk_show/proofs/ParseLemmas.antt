@@ -14,7 +14,7 @@ pub is_parsed : (bytes text : List ℕ) (tree : Tree) → text ≡ bytes → IsT
     → tree ≡ parse_of Standard Flat text
     → leaves tree.steps ≡ ranges_through 0 (token_ends 0 (tokens Standard (chars text)))
     → root_children tree.steps
-        ≡ map root_child (children Flat (roles_of (tokens Standard (chars text))))
+    ≡ map root_child (children Flat (roles_of (tokens Standard (chars text))))
     → IsParsed bytes tree
 unfolding tree_of LeavesAreTokens ChildrenAreStatements
 is_parsed bytes text tree same valid parsed tokens_of statements = record {
