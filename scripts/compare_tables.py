@@ -1,5 +1,5 @@
 #!/usr/bin/env python3
-"""Compares the tables of kinds, words and sets in the source with a file of tables, and prints one line that sums it up.
+"""Compares the tables in the source with a file of tables, and prints two lines that sum it up.
 
 Use: compare_tables.py TABLES_JSON
 
@@ -8,9 +8,19 @@ TABLES_JSON has under `kinds` a list of [number, name, printed text] in the orde
 members of each set, by the set's name. Compared with it are
     squawk_names: the count, the printed texts and where each begins
     squawk_kinds: the numbers, the constants, the list of kinds and the order in which each constant's number is proved
-    squawk_words: both lists of words, the kinds in both tables and where each length begins, the members of each set, its
-    constant, its bit and the flags of all kinds
-Each difference is printed on a line, up to twenty of a table. The status is 0 without a difference, 1 with one, 2 for wrong words.
+    squawk_words: both lists of words, the kinds in both tables and where each length begins, the members of each set,
+    its constant, its bit and the flags of all kinds
+
+Compared with each other are code and definition of
+    squawk_statements: the rows of the opening table, in order, and the modifiers after CREATE
+    squawk_lexed: the leaf kind of each token kind
+and the definitions with TABLES_JSON too where it has them: `openings`, a list of [names of kinds, name of the node];
+`modifiers`, a list of names; `leaf_kinds`, a list of [token kind, name of the leaf kind], in which a command that ends
+the query is `PsqlCommand true`, any other `PsqlCommand false`, and `Ident` is a word that is no keyword. The order of
+these three does not matter.
+
+Each difference is printed on a line, up to twenty of a table. The status is 0 without a difference, 1 with one, 2 for
+wrong words.
 """
 import json
 import os
@@ -82,7 +92,8 @@ def table(text, name):
 
 def word_pairs(name):
     """The pairs of word and kind in a list of words."""
-    return re.findall(r'\(codes "(\w+)", kind\.(\w+)\) ∷', definition(source("squawk_words", "specs", "Words.antt"), name))
+    text = source("squawk_words", "specs", "Words.antt")
+    return re.findall(r'\(codes "(\w+)", kind\.(\w+)\) ∷', definition(text, name))
 
 
 def word_kinds(name):
@@ -103,12 +114,14 @@ def members(name):
 
 def flags():
     """The flags of the kinds."""
-    return [int(number, 16) for number in re.findall(r"0x\w+", table(source("squawk_words", "src", "flags.rt"), "FLAGS"))]
+    text = source("squawk_words", "src", "flags.rt")
+    return [int(number, 16) for number in re.findall(r"0x\w+", table(text, "FLAGS"))]
 
 
 def set_constants():
     """Each public constant of a set, and the name that it holds, as a constant would be named."""
-    pairs = re.findall(r"pub const (\w+): KindSet = KindSet \{\s*set: Set::(\w+),", source("squawk_words", "src", "sets.rt"))
+    text = source("squawk_words", "src", "sets.rt")
+    pairs = re.findall(r"pub const (\w+): KindSet = KindSet \{\s*set: Set::(\w+),", text)
     return [(constant, re.sub(r"(?<!^)(?=[A-Z])", "_", name).upper()) for constant, name in pairs]
 
 
@@ -117,6 +130,63 @@ def set_bits():
     text = definition(source("squawk_words", "specs", "Flags.antt"), "bit_of Punctuation")
     lines = re.findall(r"^bit_of (\w+) = (\d+)", "bit_of Punctuation =" + text, re.M)
     return [re.sub(r"(?<!^)(?=[A-Z])", "_", name).upper() for name, _ in sorted(lines, key=lambda line: int(line[1]))]
+
+
+def row_kinds(text, expression):
+    """The names of the kinds in a row of the definition, with the two lists that it may use written out."""
+    expression = expression.replace("foreign_data_wrapper", definition(text, "foreign_data_wrapper"))
+    search = definition(text, "text_search object")
+    expression = re.sub(r"text_search (kind\.\w+)", lambda match: search.replace("object", match.group(1)), expression)
+    return tuple(re.findall(r"kind\.(\w+)", expression))
+
+
+def openings_in_definition():
+    """The rows of the opening table: the names of the kinds that a statement begins with, and its node."""
+    text = source("squawk_statements", "specs", "Opening.antt")
+    rows = re.findall(r"^    \((.*), kind\.(\w+)\) ∷$", text, re.M)
+    return [(row_kinds(text, kinds), node) for kinds, node in rows]
+
+
+def openings_in_code():
+    """The same rows, as the code has them."""
+    text = source("squawk_statements", "src", "rows.rt")
+    rows = re.findall(r"^    ([A-Z_ ]+) => ([A-Z_]+);$", text, re.M)
+    return [(tuple(kinds.split()), node) for kinds, node in rows]
+
+
+def modifiers_in_definition():
+    """The names of the modifiers."""
+    return re.findall(r"kind\.(\w+)", definition(source("squawk_statements", "specs", "Opening.antt"), "modifiers"))
+
+
+def modifiers_in_code():
+    """The same names, as the code has them."""
+    text = source("squawk_statements", "src", "node.rt")
+    body = re.search(r"^fn is_modifier\(.*?matches!\((.*?)\n    \)", text, re.S | re.M).group(1)
+    return re.findall(r"SyntaxKind::(\w+)", body)
+
+
+def leaf_kinds_in_definition():
+    """Each token kind with its leaf kind."""
+    text = source("squawk_lexed", "specs", "Leaf.antt")
+    clause = r"^(?:leaf|literal)_kind \(?(?:token\.)?(\w+(?: true| false)?)[^=]* = kind\.(\w+)$"
+    word = re.search(r"^word_kind word = unwrap_or \(keyword_of word\) kind\.(\w+)$", text, re.M).group(1)
+    return [("Ident", word)] + re.findall(clause, text, re.M)
+
+
+def leaf_kinds_in_code():
+    """The same pairs, as the code has them."""
+    text = source("squawk_lexed", "src", "kind.rt")
+    pairs = [("Ident", re.search(r"^        None => SyntaxKind::(\w+),$", text, re.M).group(1))]
+    for patterns, kind in re.findall(r"^        (.*) => SyntaxKind::(\w+),$", text, re.M):
+        for name, ends_query in re.findall(r"(?:Token|Literal)Kind::(\w+)(?: \{ ends_query: (\w+) \})?", patterns):
+            pairs.append((" ".join(filter(None, (name, ends_query))), kind))
+    return pairs
+
+
+def pairs_of(facts):
+    """A list of pairs from the file, as tuples."""
+    return [(tuple(first) if isinstance(first, list) else first, second) for first, second in facts]
 
 
 def lengths_of(words):
@@ -157,20 +227,39 @@ def set_differences(facts, numbers):
     return found
 
 
+def statement_differences(facts):
+    """How many differences there are in the opening table, the modifiers and the leaf kinds."""
+    openings, modifiers, leaves = openings_in_definition(), modifiers_in_definition(), leaf_kinds_in_definition()
+    found = differences("row of the code", openings_in_code(), openings)
+    found += differences("modifier of the code", modifiers_in_code(), modifiers)
+    found += differences("leaf kind of the code", sorted(leaf_kinds_in_code()), sorted(leaves))
+    if "openings" in facts:
+        found += differences("row", sorted(openings), sorted(pairs_of(facts["openings"])))
+    if "modifiers" in facts:
+        found += differences("modifier", sorted(modifiers), sorted(facts["modifiers"]))
+    if "leaf_kinds" in facts:
+        found += differences("leaf kind", sorted(leaves), sorted(pairs_of(facts["leaf_kinds"])))
+    given = [name for name in ("openings", "modifiers", "leaf_kinds") if name in facts]
+    line = "%d rows, %d modifiers and %d leaf kinds of code and definition compared, %d differences; in the file: %s"
+    print(line % (
+        len(openings), len(modifiers), len(leaves), found, ", ".join(given) or "none of them"))
+    return found
+
+
 def starts_of(texts):
     """Where each text begins when they stand one a line, and where the last line ends."""
-    places = [0]
+    offsets = [0]
     for text in texts:
-        places.append(places[-1] + len(text.encode()) + 1)
-    return places
+        offsets.append(offsets[-1] + len(text.encode()) + 1)
+    return offsets
 
 
 def differences(what, ours, theirs):
-    """Prints where two lists differ, and tells at how many places they do."""
-    places = [place for place in range(max(len(ours), len(theirs))) if ours[place:place + 1] != theirs[place:place + 1]]
-    for place in places[:SHOWN]:
-        print("%s %d: %r, to be %r" % (what, place, ours[place:place + 1], theirs[place:place + 1]))
-    return len(places)
+    """Prints the elements in which two lists differ, and returns their number."""
+    indexes = [i for i in range(max(len(ours), len(theirs))) if ours[i:i + 1] != theirs[i:i + 1]]
+    for i in indexes[:SHOWN]:
+        print("%s %d: %r, to be %r" % (what, i, ours[i:i + 1], theirs[i:i + 1]))
+    return len(indexes)
 
 
 def main():
@@ -195,6 +284,7 @@ def main():
     ])
     words = len(facts["keywords"]) + len(facts["contextual_keywords"])
     print("%d kinds, %d words and %d sets compared, %d differences" % (len(kinds), words, len(facts["sets"]), found))
+    found += statement_differences(facts)
     return 1 if found else 0
 
 
