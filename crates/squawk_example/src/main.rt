@@ -1,33 +1,23 @@
-//! Lists the statements of a script: the range of each in bytes, the kind of its node, its text.
+//! Checks a migration: prints its statements and then its errors.
 #![tactic(auto)]
 
-use anyhow::Result;
-use squawk_events::StrStep;
-use squawk_tree::{Parse, parse_source};
+use squawk_events::message;
+use squawk_tree::parse_source;
 
-const SCRIPT: &str = "insert into t values ('a;b'); -- one row\n\\dt t\nselect * from t;\n";
+const MIGRATION: &str = "begin;\ninsert into t values (1e);\ncomit;\n";
 
-// Prints each node directly under the root: a statement, or a psql command between statements.
-fn print_statements(rt: &impl Print, text: &str, parse: &Parse) -> Result<()> {
-    let mut depth = 0usize;
-    for (i, step) in parse.steps().iter().enumerate() {
-        match step {
-            StrStep::Enter { kind } => {
-                if depth == 1 {
-                    let (start, end) = parse.range(i);
-                    let source = text.get(start as usize..end as usize).unwrap_or_default();
-                    println!(rt; "{start}..{end} {kind}: {source}")?;
-                }
-                depth = depth.saturating_add(1);
-            }
-            StrStep::Exit => depth = depth.saturating_sub(1),
-            StrStep::Token { .. } | StrStep::Error { .. } => {}
+fn main(rt: HostRuntime) -> anyhow::Result<()> {
+    let parse = parse_source(rt.alloc(), MIGRATION)?;
+    for child in parse.children() {
+        if let Some(kind) = child.node {
+            println!(rt; "{}..{} {kind}", child.start, child.end)?;
         }
     }
+    for error in parse.errors() {
+        let before = MIGRATION.get(..error.start as usize).unwrap_or_default();
+        let line = before.split('\n').count();
+        let column = before.rsplit('\n').next().unwrap_or_default().chars().count() + 1;
+        println!(rt; "{line}:{column}: {}", message(error.number))?;
+    }
     Ok(())
-}
-
-fn main(rt: HostRuntime) -> Result<()> {
-    let parse = parse_source(rt.alloc(), SCRIPT)?;
-    print_statements(&rt, SCRIPT, &parse)
 }
