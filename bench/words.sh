@@ -3,9 +3,9 @@
 #
 # Use: words.sh [TEXT]      TEXT is a file; without it, statements.sql beside this script
 #
-# The program that measures is written, with the crates that it needs, to a temporary folder, and is proved and built there.
-# It goes over the words of each sort until it has made ten million calls, and prints the time of the loop, by the
-# clock, divided by their number. The time of the loop itself, with its sum, is in the figure.
+# The program that measures is written, with the crates that it needs, to a temporary folder, and is proved and built
+# there. It goes over the keywords, and over the other words, until it has made ten million calls, and prints the time
+# of the loop, by the clock, divided by their number. The time of the loop itself, with its sum, is in the figure.
 set -eu
 here=$(cd "$(dirname "${BASH_SOURCE[0]}")/.." && pwd)
 text=$(realpath "${1:-$here/bench/statements.sql}")
@@ -28,7 +28,7 @@ use std::io;
 use std::rt::Clock;
 use std::time::Instant;
 
-// How many calls are made for each sort of words.
+// The number of calls with keywords, and with other words.
 const CALLS: usize = 10_000_000;
 
 fn main(rt: HostRuntime) -> io::Result<()> {
@@ -46,10 +46,10 @@ fn main(rt: HostRuntime) -> io::Result<()> {
     report(&rt, "other words", &others)
 }
 
-/// Prints how long a call takes over these words.
-fn report<R: Print + Clock>(rt: &R, sort: &str, words: &[&str]) -> io::Result<()> {
+// Prints how long a call takes over these words.
+fn report<R: Print + Clock>(rt: &R, title: &str, words: &[&str]) -> io::Result<()> {
     if words.is_empty() {
-        println!(rt; "{sort}: none")?;
+        println!(rt; "{title}: none")?;
         return Ok(());
     }
     let rounds = CALLS / words.len() + 1;
@@ -58,11 +58,11 @@ fn report<R: Print + Clock>(rt: &R, sort: &str, words: &[&str]) -> io::Result<()
     let nanoseconds = start.elapsed(rt)?.as_nanos();
     let calls = rounds as u128 * words.len() as u128;
     let tenths = nanoseconds / (calls / 10 + 1);
-    println!(rt; "{sort}: {} words, {}.{} ns a call (sum {sum})", words.len(), tenths / 10, tenths % 10)?;
+    println!(rt; "{title}: {} words, {}.{} ns a call (sum {sum})", words.len(), tenths / 10, tenths % 10)?;
     Ok(())
 }
 
-/// The sum of the numbers of the kinds found, so that no call is left out.
+// The sum of the numbers of the kinds found, so that no call is left out.
 fn look_up_all(words: &[&str], rounds: usize) -> u64 {
     let mut sum: u64 = 0;
     for _round in 0..rounds {
