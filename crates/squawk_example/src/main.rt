@@ -16,7 +16,8 @@ fn main(rt: HostRuntime) -> anyhow::Result<()> {
     for error in parse.errors() {
         let before = MIGRATION.get(..error.start as usize).unwrap_or_default();
         let line = before.split('\n').count();
-        let column = before.rsplit('\n').next().unwrap_or_default().chars().count() + 1;
+        let last_line = before.rsplit('\n').next().unwrap_or_default();
+        let column = last_line.chars().count() + 1;
         println!(rt; "{line}:{column}: {}", message(error.number))?;
     }
     Ok(())
