@@ -4,6 +4,7 @@
 # - README.md shows crates/squawk_example/src/main.rt and its output word for word.
 # - Each file that README.md or a page of docs/ names in backquotes is there.
 # - Each clause of `run` has its row in docs/PROGRAM.md, and each row its clause.
+# - `./run --help` lists the statuses of docs/PROGRAM.md with their error lines, and besides them its own status 1.
 set -u
 cd "$(dirname "${BASH_SOURCE[0]}")/.." || exit 1
 failed=0
@@ -40,5 +41,11 @@ rows=$(sed -n '/^## The clauses of `run`/,/^## Sources/p' docs/PROGRAM.md |
 clauses=$(sed -n '/^pub fn run</,/^{/p' crates/squawk_show/src/program.rt |
   sed -nE 's/^ *ensures ([a-z_0-9]+) .*/\1/p' | sort)
 diff <(echo "$rows") <(echo "$clauses") >&2 || differs "docs/PROGRAM.md does not list the clauses of run"
+
+listed=$(sed -n '/^## Statuses/,/^## The report/p' docs/PROGRAM.md |
+  awk -F ' *[|] *' '$2 ~ /^[0-9]+$/ { gsub(/`/, "", $3); print $2, $3 == "none" ? "" : $3 }')
+printed=$(./run --help |
+  awk '/^ *[0-9]+ / && $1 != 1 { line = substr($0, 10, 26); sub(/ +$/, "", line); print $1, line }')
+diff <(echo "$listed") <(echo "$printed") >&2 || differs "./run --help does not list the statuses of docs/PROGRAM.md"
 
 exit "$failed"
