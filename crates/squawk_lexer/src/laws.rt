@@ -1,6 +1,6 @@
 //! Laws of the lexical grammar, for proofs. Each is a clause of a function that does nothing, which
 //! proofs in other crates can call, and holds for every text.
-ghost use Rattle.std.specs.Prelude.{◌≡◌, ◌&&◌, ◌==◌, ◌∷◌, [], true};
+ghost use Rattle.std.specs.Prelude.{◌≡◌, ◌↔◌, IsTrue, ◌&&◌, ◌==◌, ◌∷◌, []};
 ghost use Rattle.std.specs.Ordering.{nat_cmp};
 ghost use Rattle.squawk_lexer.specs.Laws as spec;
 ghost use Rattle.squawk_lexer.specs.LookAhead as ahead;
@@ -146,12 +146,13 @@ pub fn literals_are_ordered()
     ensures literals { (a b : LiteralKind) → ⟦<LiteralKind as Ord>⟧.cmp a b ≡ literal_cmp a b }
 {}
 
-/// Literal kinds, bases and settings that are `==` are the same value. Tokens are compared by kind
-/// and length.
+/// Values are `==` exactly if they are the same; tokens are compared by kind and length. A token
+/// kind is `==` to itself.
 pub fn equal_values_are_the_same()
     ensures tokens { (a b : Token) → ⟦<Token as PartialEq>⟧.eq a b
         ≡ (⟦<TokenKind as PartialEq>⟧.eq a.kind b.kind && a.len == b.len) }
-    ensures literals { (a b : LiteralKind) → ⟦<LiteralKind as PartialEq>⟧.eq a b ≡ true → a ≡ b }
-    ensures bases { (a b : Base) → ⟦<Base as PartialEq>⟧.eq a b ≡ true → a ≡ b }
-    ensures strings { (a b : Strings) → ⟦<Strings as PartialEq>⟧.eq a b ≡ true → a ≡ b }
+    ensures kinds { (a : TokenKind) → IsTrue (⟦<TokenKind as PartialEq>⟧.eq a a) }
+    ensures literals { (a b : LiteralKind) → IsTrue (⟦<LiteralKind as PartialEq>⟧.eq a b) ↔ (a ≡ b) }
+    ensures bases { (a b : Base) → IsTrue (⟦<Base as PartialEq>⟧.eq a b) ↔ (a ≡ b) }
+    ensures strings { (a b : Strings) → IsTrue (⟦<Strings as PartialEq>⟧.eq a b) ↔ (a ≡ b) }
 {}
