@@ -9,7 +9,7 @@ use Rattle.squawk_lexer.specs.Kind.{Lexeme, lexeme_until}
 use Rattle.squawk_lexer.specs.Classes.{is_line_end, is_not_line_end, is_blank, is_command_char}
 use Rattle.squawk_lexer.specs.Runs.{run_end, line_end}
 use Rattle.squawk_lexer.specs.PsqlWords.{is_among, query_ending_words, pipe_words, option_words, takes_line}
-use Rattle.squawk_lexer.specs.PsqlParts.{is_quote, is_escape_pair, close_len, quote_len, last_inside, ends_arguments, part_rest, arguments_len, arguments_end, mark_after, is_parenthesis, marked_len, marked_len_at}
+use Rattle.squawk_lexer.specs.PsqlParts.{is_quote, is_escape, close_len, quote_len, last_inside, ends_arguments, part_rest, arguments_len, arguments_end, mark_after, is_parenthesis, marked_len, marked_len_at}
 use Rattle.squawk_lexer.specs.Psql.{psql, command_word, word_end, options_end, output_start, output_end, command_end}
 use Rattle.squawk_lexer.proofs.TokenLaws.{output_start_on, output_end_on, psql_on}
 use Rattle.squawk_lexer.proofs.PsqlArgumentLaws.{pair_plain, rest_in}
@@ -54,16 +54,16 @@ quote_far q c (d ∷ cs) t =
     let total = 1 + prefix_len is_not_line_end (d ∷ cs) in
     rw t
     (either_far (eqb c q) (Some 1) _ total 1 (omega arith)
-    (either_far (is_escape_pair q c d) _ _ total 1
+    (either_far (is_escape q c d) _ _ total 1
     (far_one (close_len q cs) 2 total (omega arith) (omega arith))
     (far_one (close_len q (d ∷ cs)) 1 total (omega arith) (omega arith))))
 
--- The rest of a line, from a single character and from an escape pair.
+-- The rest of a line, from a single character and from an escape.
 one_on : (x : ℕ) (v : List ℕ) → is_line_end x ≡ false
     → prefix_len is_not_line_end (x ∷ v) ≡ prefix_len is_not_line_end v + 1
 one_on x v t = rw t (omega arith)
 
-two_on : (q x y : ℕ) (v : List ℕ) → is_line_end x ≡ false → is_escape_pair q x y ≡ true
+two_on : (q x y : ℕ) (v : List ℕ) → is_line_end x ≡ false → is_escape q x y ≡ true
     → prefix_len is_not_line_end (x ∷ y ∷ v) ≡ prefix_len is_not_line_end v + 2
 two_on q x y v t p = rw (t, pair_plain q x y p) (omega arith)
 
@@ -81,7 +81,7 @@ close_looks w q plain (x ∷ []) c d r s f h =
     let m = λ (o : Option ℕ). unwrap_or o total in
     branch m (is_line_end x) None _ None _ 1 (λ t k. refl)
     (λ t. branch m (eqb x q) (Some 1) _ (Some 1) _ 1 (λ e k. refl)
-    (λ e. pick m (is_escape_pair q x c) (is_escape_pair q x d) _ _ _ _ 1
+    (λ e. pick m (is_escape q x c) (is_escape q x d) _ _ _ _ 1
     (ap (λ b. (eqb q 39 && eqb x 92) && not b) (f.one is_line_end w.line_end))
     (λ p k. absurd (omega (
       arith,
@@ -95,7 +95,7 @@ close_looks w q plain (x ∷ y ∷ xs) c d r s f h =
     let n = length (x ∷ y ∷ xs) in
     branch m (is_line_end x) None _ None _ n (λ t k. refl)
     (λ t. branch m (eqb x q) (Some 1) _ (Some 1) _ n (λ e k. refl)
-    (λ e. branch m (is_escape_pair q x y) _ _ _ _ n
+    (λ e. branch m (is_escape q x y) _ _ _ _ n
     (λ p k. later (close_len q (xs ++ c ∷ r)) (close_len q (xs ++ d ∷ s)) 2
     (prefix_len is_not_line_end (xs ++ c ∷ r)) total (length xs)
     (two_on q x y (xs ++ c ∷ r) t p) (close_looks w q plain xs c d r s f) (omega arith))

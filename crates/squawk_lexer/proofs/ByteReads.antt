@@ -6,8 +6,8 @@ use Rattle.std.proofs.lemmas.List.{get_or-drop, get_or_append_left}
 use Rattle.std.proofs.lemmas.Str.{encode_ascii, encodes-chars, IsUtf8-from_is_utf8}
 use Rattle.std.specs.Str.{chars, encode_utf8_all}
 use Rattle.std.specs.Char.{encode_utf8}
-use Rattle.squawk_lexer.specs.declared.lexer.TokenForm.TheVariants.{Word}
-use Rattle.squawk_lexer.specs.declared.word.StringPrefix.TheVariants.{NoPrefix}
+use Rattle.squawk_lexer.specs.declared.forms.TokenForm.TheVariants.{Word}
+use Rattle.squawk_lexer.specs.declared.forms.StringPrefix.TheVariants.{NoPrefix}
 use Rattle.squawk_lexer.specs.Bytes.{first_byte, IsAsciiRun}
 use Rattle.squawk_lexer.specs.Classes.{is_digit}
 use Rattle.squawk_lexer.specs.Token.{token_form, prefix_of}

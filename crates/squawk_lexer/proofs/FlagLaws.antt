@@ -8,10 +8,10 @@ use Rattle.squawk_lexer.specs.declared.token.Strings.{Strings}
 use Rattle.squawk_lexer.specs.declared.token.Base.TheVariants.{Binary, Octal, Decimal, Hexadecimal}
 use Rattle.squawk_lexer.specs.declared.token.TokenKind.{TokenKind}
 use Rattle.squawk_lexer.specs.declared.token.TokenKind.TheVariants as kinds
-use Rattle.squawk_lexer.specs.declared.lexer.TokenForm.{TokenForm}
-use Rattle.squawk_lexer.specs.declared.lexer.TokenForm.TheVariants.{Whitespace, LineComment, BlockComment, String, QuotedIdent, Word, Dollar, Number, DotDot, Fraction, Psql, Symbol}
-use Rattle.squawk_lexer.specs.declared.word.StringPrefix.{StringPrefix}
-use Rattle.squawk_lexer.specs.declared.word.StringPrefix.TheVariants.{National, Bit, Byte, Escape, UnicodeString, UnicodeIdent, NoPrefix}
+use Rattle.squawk_lexer.specs.declared.forms.TokenForm.{TokenForm}
+use Rattle.squawk_lexer.specs.declared.forms.TokenForm.TheVariants.{Whitespace, LineComment, BlockComment, String, QuotedIdent, Word, Dollar, Number, DotDot, Fraction, Psql, Symbol}
+use Rattle.squawk_lexer.specs.declared.forms.StringPrefix.{StringPrefix}
+use Rattle.squawk_lexer.specs.declared.forms.StringPrefix.TheVariants.{National, Bit, Byte, Escape, UnicodeString, UnicodeIdent, NoPrefix}
 use Rattle.squawk_lexer.specs.Text.{utf8_len}
 use Rattle.squawk_lexer.specs.Classes.{is_digit, byte_order_mark}
 use Rattle.squawk_lexer.specs.Runs.{run_end, junk_end, digits_end, hex_digits_end, exponent_end, is_exponent_letter, fraction_end}

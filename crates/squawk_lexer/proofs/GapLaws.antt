@@ -7,8 +7,8 @@ use Rattle.std.proofs.lemmas.Bool.Decides.{nat_tests}
 use Rattle.std.proofs.lemmas.List.{get_or-drop}
 use Rattle.std.proofs.lemmas.List.Sums.{prefix_len_stops}
 use Rattle.squawk_lexer.specs.declared.token.Strings.{Strings}
-use Rattle.squawk_lexer.specs.declared.lexer.TokenForm.{TokenForm}
-use Rattle.squawk_lexer.specs.declared.lexer.TokenForm.TheVariants.{Whitespace, LineComment, BlockComment, String, QuotedIdent, Word, Dollar, Number, DotDot, Fraction, Psql, Symbol}
+use Rattle.squawk_lexer.specs.declared.forms.TokenForm.{TokenForm}
+use Rattle.squawk_lexer.specs.declared.forms.TokenForm.TheVariants.{Whitespace, LineComment, BlockComment, String, QuotedIdent, Word, Dollar, Number, DotDot, Fraction, Psql, Symbol}
 use Rattle.squawk_lexer.specs.Kind.{Lexeme}
 use Rattle.squawk_lexer.specs.Classes.{is_whitespace, is_line_end, is_not_line_end, is_blank, is_digit, is_ident_start, byte_order_mark}
 use Rattle.squawk_lexer.specs.Runs.{run_end, line_end}

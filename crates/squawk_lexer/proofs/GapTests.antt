@@ -3,7 +3,7 @@ use Rattle.std.proofs.Common.{◌≡◌, ℕ, ◌+◌, ◌<◌, ◌≤◌, Bool,
 use Rattle.std.proofs.lemmas.Bool.Decides.{nat_tests}
 use Rattle.std.proofs.lemmas.List.{get_or-drop, length-take-le}
 use Rattle.std.proofs.Math.Seq.{take-append_seam, get_or-append_seam}
-use Rattle.squawk_lexer.specs.declared.lexer.TokenForm.{TokenForm}
+use Rattle.squawk_lexer.specs.declared.forms.TokenForm.{TokenForm}
 use Rattle.squawk_lexer.specs.Classes.{is_whitespace}
 use Rattle.squawk_lexer.specs.Token.{token_form, lexeme_at}
 use Rattle.squawk_lexer.specs.LookAhead.{Agrees}

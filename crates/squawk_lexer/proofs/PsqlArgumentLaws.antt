@@ -6,8 +6,8 @@ use Rattle.std.proofs.lemmas.List.{length-drop, get_or-drop}
 use Rattle.std.proofs.lemmas.List.Sums.{prefix_len-le-length}
 use Rattle.std.proofs.lemmas.Bool.Decides.{nat_tests}
 use Rattle.squawk_lexer.specs.Classes.{is_blank, is_line_end, is_not_line_end}
-use Rattle.squawk_lexer.specs.PsqlParts.{is_quote, is_escape_pair, close_len, ends_arguments, part_rest, arguments_len, mark_after, is_parenthesis, marked_len}
-use Rattle.squawk_lexer.specs.PsqlArguments.{begins_pair, IsPieces, NoPiece, OnePiece, PairPiece, QuotesCloseFirst, OpenQuotesStayOpen, IsParts, NoPart, OnePart, IsLongest, ArgumentsAreLongest, ArgumentsAreUnique, ends_argument, argument_len, ArgumentIsLongest, ArgumentIsUnique, mark_from, first_marked, MarkedIsFirst}
+use Rattle.squawk_lexer.specs.PsqlParts.{is_quote, is_escape, close_len, ends_arguments, part_rest, arguments_len, mark_after, is_parenthesis, marked_len}
+use Rattle.squawk_lexer.specs.PsqlArguments.{begins_escape, IsPieces, NoPiece, OnePiece, EscapePiece, QuotesCloseFirst, OpenQuotesStayOpen, IsParts, NoPart, OnePart, IsLongest, ArgumentsAreLongest, ArgumentsAreUnique, ends_argument, argument_len, ArgumentIsLongest, ArgumentIsUnique, mark_from, first_marked, MarkedIsFirst}
 use Rattle.squawk_lexer.proofs.Steps.{within_some}
 
 -- ---- quotes
@@ -25,9 +25,9 @@ is_close q c cs t = let same : c ≡ q = grind (arith, nat_tests) in
 no_piece : (q c : ℕ) (cs : List ℕ) → is_line_end c ≡ true → Closes q (c ∷ cs) None
 no_piece q c cs t = rw t (NoPiece (c ∷ cs))
 
--- The law with one more piece before it: a single character, or an escape pair.
+-- The law with one more piece before it: a single character, or an escape.
 one_piece : (q c : ℕ) (cs : List ℕ) (o : Option ℕ) → is_line_end c ≡ false → eqb c q ≡ false
-    → begins_pair q (c ∷ cs) ≡ false → Closes q cs o → Closes q (c ∷ cs) (option_map (λ n. n + 1) o)
+    → begins_escape q (c ∷ cs) ≡ false → Closes q cs o → Closes q (c ∷ cs) (option_map (λ n. n + 1) o)
 one_piece q c cs None t s p more = rw t (OnePiece c cs (prefix_len is_not_line_end cs) t s p more)
 one_piece q c cs (Some n) t s p (m, e, pieces, last) = (
   1 + m,
@@ -37,21 +37,21 @@ one_piece q c cs (Some n) t s p (m, e, pieces, last) = (
       in rw next last,
 )
 
--- The second character of an escape pair is not a line end.
-pub pair_plain : (q c d : ℕ) → is_escape_pair q c d ≡ true → is_line_end d ≡ false
+-- The second character of an escape is not a line end.
+pub pair_plain : (q c d : ℕ) → is_escape q c d ≡ true → is_line_end d ≡ false
 pair_plain q c d p = grind (arith, nat_tests)
 
 pair_piece : (q c d : ℕ) (cs : List ℕ) (o : Option ℕ) → is_line_end c ≡ false
-    → is_escape_pair q c d ≡ true → Closes q cs o
+    → is_escape q c d ≡ true → Closes q cs o
     → Closes q (c ∷ d ∷ cs) (option_map (λ n. n + 2) o)
 pair_piece q c d cs None t p more =
     let all : 1 + (1 + prefix_len is_not_line_end cs) ≡ 2 + prefix_len is_not_line_end cs =
     omega arith in
-    rw (t, pair_plain q c d p, all) (PairPiece c d cs (prefix_len is_not_line_end cs) p more)
+    rw (t, pair_plain q c d p, all) (EscapePiece c d cs (prefix_len is_not_line_end cs) p more)
 pair_piece q c d cs (Some n) t p (m, e, pieces, last) = (
   2 + m,
   omega (arith, e),
-  PairPiece c d cs m p pieces,
+  EscapePiece c d cs m p pieces,
   let next : 2 + m ≡ suc (suc m) =
       omega arith in rw next last,
 )
@@ -66,10 +66,10 @@ closes q (c ∷ []) = by (eqb c q) (is_line_end c) refl refl
     by false true s t = no_piece q c [] t
     by false false s t = one_piece q c [] None t s refl (NoPiece [])
 closes q (c ∷ d ∷ cs) =
-    by (is_line_end c) (eqb c q) (is_escape_pair q c d) refl refl refl (closes q cs)
+    by (is_line_end c) (eqb c q) (is_escape q c d) refl refl refl (closes q cs)
     (closes q (d ∷ cs))
   where
-    by : (l b p : Bool) → is_line_end c ≡ l → eqb c q ≡ b → is_escape_pair q c d ≡ p
+    by : (l b p : Bool) → is_line_end c ≡ l → eqb c q ≡ b → is_escape q c d ≡ p
         → Closes q cs (close_len q cs) → Closes q (d ∷ cs) (close_len q (d ∷ cs))
         → Closes q
         (c ∷ d ∷ cs) (cond l None (cond b (Some 1)

@@ -13,7 +13,7 @@ use Rattle.squawk_lexer.specs.Text.{utf8_len}
 use Rattle.squawk_lexer.proofs.PsqlArgumentLaws.{rest_in}
 use Rattle.squawk_lexer.proofs.StopSteps.{some_read, run_kept, other_not, inside_on}
 use Rattle.squawk_lexer.proofs.CursorRest.{fewer_bytes}
-use Rattle.squawk_lexer.specs.PsqlParts.{is_quote, is_escape_pair, close_len, quote_len, last_inside, ends_arguments, part_rest, arguments_len, arguments_end, mark_after, is_parenthesis, marked_len, marked_len_at}
+use Rattle.squawk_lexer.specs.PsqlParts.{is_quote, is_escape, close_len, quote_len, last_inside, ends_arguments, part_rest, arguments_len, arguments_end, mark_after, is_parenthesis, marked_len, marked_len_at}
 use Rattle.squawk_lexer.proofs.Steps.{drop_some, drop_none, drop_read, drop_past, within_some, within_read, after_some, after_none, after_within, after_past, after_on, ne_eqb, run_more, run_stop, run_at_end}
 
 -- ---- a quote, from an index inside it
@@ -24,13 +24,13 @@ further : (o : Option ℕ) (i n : ℕ) → option_map (λ m. i + m) (option_map 
 further None i n = refl
 further (Some m) i n = ap Some (omega arith)
 
--- A single character, and an escape pair, change neither the end of the quote nor that of the
+-- A single character, and an escape, change neither the end of the quote nor that of the
 -- line.
 pub quote_plain : (q : ℕ) (u : List ℕ) (i c : ℕ) → Some c ≡ slice_get u i → is_line_end c ≡ false
-    → (c ≡ q → ⊥) → is_escape_pair q c (get_or u (position_after u i) 0) ≡ false
+    → (c ≡ q → ⊥) → is_escape q c (get_or u (position_after u i) 0) ≡ false
     → (close_end q u i ≡ close_end q u (position_after u i))
     × (line_end u i ≡ line_end u (position_after u i))
-quote_plain q u i c s plain other no_pair = (
+quote_plain q u i c s plain other no_escape = (
   by (cases_lt (i + 1) (length u)),
   rw b
       (sym (run_more is_not_line_end u i c s (rw plain refl))),
@@ -42,16 +42,16 @@ quote_plain q u i c s plain other no_pair = (
     by : (i + 1 < length u) ⊎ (length u ≤ i + 1)
         → close_end q u i ≡ close_end q u (position_after u i)
     by (inl h) =
-        let single : is_escape_pair q c (get_or u (i + 1) 0) ≡ false = rw b at no_pair in
+        let single : is_escape q c (get_or u (i + 1) 0) ≡ false = rw b at no_escape in
         rw (b, drop_some u i c s, drop_read u (i + 1) h, plain, ne_eqb c q other, single)
         (further (close_len q (get_or u (i + 1) 0 ∷ drop (i + 1 + 1) u)) i 1)
     by (inr h) = rw (b, drop_some u i c s, drop_past u (i + 1) h, ne_eqb c q other) refl
 
-pub quote_pair : (q : ℕ) (u : List ℕ) (i c : ℕ) → Some c ≡ slice_get u i → is_line_end c ≡ false
-    → (c ≡ q → ⊥) → is_escape_pair q c (get_or u (position_after u i) 0) ≡ true
+pub quote_escape : (q : ℕ) (u : List ℕ) (i c : ℕ) → Some c ≡ slice_get u i → is_line_end c ≡ false
+    → (c ≡ q → ⊥) → is_escape q c (get_or u (position_after u i) 0) ≡ true
     → (close_end q u i ≡ close_end q u (position_after u (position_after u i)))
     × (line_end u i ≡ line_end u (position_after u (position_after u i)))
-quote_pair q u i c s plain other pair = by (cases_lt (i + 1) (length u))
+quote_escape q u i c s plain other pair = by (cases_lt (i + 1) (length u))
   where
     b : position_after u i ≡ i + 1
     b = after_some u i c s
@@ -59,10 +59,10 @@ quote_pair q u i c s plain other pair = by (cases_lt (i + 1) (length u))
     d : ℕ
     d = get_or u (i + 1) 0
 
-    both : is_escape_pair q c (get_or u (i + 1) 0) ≡ true
+    both : is_escape q c (get_or u (i + 1) 0) ≡ true
     both = rw b at pair
 
-    next_plain : (d : ℕ) → is_escape_pair q c d ≡ true → is_not_line_end d ≡ true
+    next_plain : (d : ℕ) → is_escape q c d ≡ true → is_not_line_end d ≡ true
     next_plain d h = grind (arith, nat_tests)
 
     on : line_end u (i + 1) ≡ line_end u i
@@ -172,9 +172,9 @@ quote_closed q u i v j c same inv s plain is_q =
 -- ---- the search for the next piece that matters
 
 -- A character before the stop is a piece by itself, and does not close the quote.
-no_pair : (q c d : ℕ) → is_neither_on_line q (cond (eqb q 39) 92 q) c ≡ true
-    → (is_line_end c ≡ false) × (c ≡ q → ⊥) × (is_escape_pair q c d ≡ false)
-no_pair q c d t = by (cases_eq q 39)
+no_escape : (q c d : ℕ) → is_neither_on_line q (cond (eqb q 39) 92 q) c ≡ true
+    → (is_line_end c ≡ false) × (c ≡ q → ⊥) × (is_escape q c d ≡ false)
+no_escape q c d t = by (cases_eq q 39)
   where
     plain : is_line_end c ≡ false
     plain = line_of (is_neither q (cond (eqb q 39) 92 q) c) (is_line_end c) t
@@ -192,7 +192,7 @@ no_pair q c d t = by (cases_eq q 39)
         first_of false b e = absurd (cc)
 
     by : (q ≡ 39) ⊎ (q ≡ 39 → ⊥) → (is_line_end c ≡ false) × (c ≡ q → ⊥)
-        × (is_escape_pair q c d ≡ false)
+        × (is_escape q c d ≡ false)
     by (inl e) = let n = other_not q (cond (eqb q 39) 92 q) c others in
         (plain, n.0, rw (ne_eqb c 92 (λ x. n.1 (x ∙ rw (eq-eqb q 39 e) refl))) (none (eqb q 39)))
       where
@@ -206,7 +206,7 @@ passed_one : (q : ℕ) (u : List ℕ) (i c : ℕ) → Some c ≡ slice_get u i
     → is_neither_on_line q (cond (eqb q 39) 92 q) c ≡ true
     → (close_end q u i ≡ close_end q u (i + 1)) × (line_end u i ≡ line_end u (i + 1))
 passed_one q u i c s t =
-    let (plain, other, single) = no_pair q c (get_or u (position_after u i) 0) t in
+    let (plain, other, single) = no_escape q c (get_or u (position_after u i) 0) t in
     rw (← after_some u i c s) (quote_plain q u i c s plain other single)
 
 -- All characters up to the stop are skipped.
@@ -243,16 +243,16 @@ pub smaller : (u v : List ℕ) (i k j : ℕ) → v ≡ u → i < k → k ≤ j �
     → length v - j < length u - i
 smaller u v i k j same on more within = rw same (omega arith)
 
--- Skipping one piece: an escape pair, or a single character.
+-- Skipping one piece: an escape, or a single character.
 pub piece_two : (q : ℕ) (u : List ℕ) (i : ℕ) → i < length u → is_line_end (get_or u i 0) ≡ false
-    → (get_or u i 0 ≡ q → ⊥) → is_escape_pair q (get_or u i 0) (get_or u (position_after u i) 0)
+    → (get_or u i 0 ≡ q → ⊥) → is_escape q (get_or u i 0) (get_or u (position_after u i) 0)
     ≡ true
     → close_end q u (position_after u (position_after u i)) ≡ close_end q u i
 piece_two q u i h plain other pair =
-    sym (quote_pair q u i (get_or u i 0) (some_read u i h) plain other pair).0
+    sym (quote_escape q u i (get_or u i 0) (some_read u i h) plain other pair).0
 
 pub piece_one : (q : ℕ) (u : List ℕ) (i : ℕ) → i < length u → is_line_end (get_or u i 0) ≡ false
-    → (get_or u i 0 ≡ q → ⊥) → is_escape_pair q (get_or u i 0) (get_or u (position_after u i) 0)
+    → (get_or u i 0 ≡ q → ⊥) → is_escape q (get_or u i 0) (get_or u (position_after u i) 0)
     ≡ false
     → close_end q u (position_after u i) ≡ close_end q u i
 piece_one q u i h plain other single =

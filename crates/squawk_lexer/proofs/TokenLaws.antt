@@ -8,10 +8,10 @@ use Rattle.std.proofs.lemmas.Str.{len_utf8_bounds}
 use Rattle.std.specs.Char.{len_utf8}
 use Rattle.squawk_lexer.specs.Text.{utf8_len}
 use Rattle.squawk_lexer.specs.declared.token.Strings.{Strings}
-use Rattle.squawk_lexer.specs.declared.lexer.TokenForm.{TokenForm}
-use Rattle.squawk_lexer.specs.declared.lexer.TokenForm.TheVariants.{Whitespace, LineComment, BlockComment, String, QuotedIdent, Word, Dollar, Number, DotDot, Fraction, Psql, Symbol}
-use Rattle.squawk_lexer.specs.declared.word.StringPrefix.{StringPrefix}
-use Rattle.squawk_lexer.specs.declared.word.StringPrefix.TheVariants.{National, Bit, Byte, Escape, UnicodeString, UnicodeIdent, NoPrefix}
+use Rattle.squawk_lexer.specs.declared.forms.TokenForm.{TokenForm}
+use Rattle.squawk_lexer.specs.declared.forms.TokenForm.TheVariants.{Whitespace, LineComment, BlockComment, String, QuotedIdent, Word, Dollar, Number, DotDot, Fraction, Psql, Symbol}
+use Rattle.squawk_lexer.specs.declared.forms.StringPrefix.{StringPrefix}
+use Rattle.squawk_lexer.specs.declared.forms.StringPrefix.TheVariants.{National, Bit, Byte, Escape, UnicodeString, UnicodeIdent, NoPrefix}
 use Rattle.squawk_lexer.specs.Classes.{is_ident_start, is_digit, byte_order_mark, is_blank}
 use Rattle.squawk_lexer.specs.Runs.{run_end, junk_end, digits_end, hex_digits_end, exponent_end, is_exponent_letter, is_sign, fraction_end, line_end}
 use Rattle.squawk_lexer.specs.Kind.{Lexeme, lexeme_until, literal_until}

@@ -3,25 +3,25 @@
 use Rattle.std.specs.Prelude.{◌≡◌, ℕ, zero, suc, ◌+◌, ◌<◌, Bool, true, false, ◌||◌, ◌==◌, List, [], ◌∷◌, length, drop, slice_index, slice_get, Option, Some, None, option_map, if◌then◌else◌}
 use Rattle.std.specs.List.{prefix_len}
 use Rattle.squawk_lexer.specs.Classes.{is_line_end, is_not_line_end, is_blank}
-use Rattle.squawk_lexer.specs.PsqlParts.{is_escape_pair, close_len, ends_arguments, part_rest, arguments_len, mark_after, is_parenthesis, marked_len}
+use Rattle.squawk_lexer.specs.PsqlParts.{is_escape, close_len, ends_arguments, part_rest, arguments_len, mark_after, is_parenthesis, marked_len}
 
 -- ---- one quote
 
--- Whether a text within a quote in q begins with an escape pair.
-abbrev pub begins_pair : ℕ → List ℕ → Bool
-begins_pair q (c ∷ d ∷ cs) = is_escape_pair q c d
-begins_pair q cs = false
+-- Whether a text within a quote in q begins with an escape.
+abbrev pub begins_escape : ℕ → List ℕ → Bool
+begins_escape q (c ∷ d ∷ cs) = is_escape q c d
+begins_escape q cs = false
 
 -- The first n characters of what follows an opening quote q are whole pieces on one line. A piece
--- is an escape pair or a single character, and none is q by itself.
+-- is an escape or a single character, and none is q by itself.
 pub data IsPieces (q : ℕ) : List ℕ → ℕ → Type 0 where
   NoPiece : (cs : List ℕ) → IsPieces q cs 0
   OnePiece : (c : ℕ) (cs : List ℕ) (n : ℕ) → is_line_end c ≡ false → (c == q) ≡ false
-      → begins_pair q (c ∷ cs) ≡ false → IsPieces q cs n → IsPieces q (c ∷ cs) (1 + n)
-  PairPiece : (c d : ℕ) (cs : List ℕ) (n : ℕ) → is_escape_pair q c d ≡ true → IsPieces q cs n
+      → begins_escape q (c ∷ cs) ≡ false → IsPieces q cs n → IsPieces q (c ∷ cs) (1 + n)
+  EscapePiece : (c d : ℕ) (cs : List ℕ) (n : ℕ) → is_escape q c d ≡ true → IsPieces q cs n
       → IsPieces q (c ∷ d ∷ cs) (2 + n)
 
--- A quote is closed by the first q that is not part of an escape pair.
+-- A quote is closed by the first q that is not part of an escape.
 abbrev pub QuotesCloseFirst : Type 0
 QuotesCloseFirst = (q : ℕ) (cs : List ℕ) (n : ℕ) → close_len q cs ≡ Some n → (m : ℕ) × (n ≡ m + 1)
     × IsPieces q cs m × (slice_get cs m ≡ Some q)

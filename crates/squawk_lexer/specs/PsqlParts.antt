@@ -10,20 +10,20 @@ use Rattle.squawk_lexer.specs.Classes.{is_line_end, is_not_line_end, is_blank, a
 abbrev pub is_quote : ℕ → Bool
 is_quote c = (c == apostrophe || c == quotation_mark) || c == backquote
 
--- Whether c and d, within a quote in q, are an escape pair: within `'` alone, a backslash and a
+-- Whether c and d, within a quote in q, are an escape: within `'` alone, a backslash and a
 -- character after it on the same line.
-abbrev pub is_escape_pair : ℕ → ℕ → ℕ → Bool
-is_escape_pair q c d = (q == apostrophe && c == backslash) && not (is_line_end d)
+abbrev pub is_escape : ℕ → ℕ → ℕ → Bool
+is_escape q c d = (q == apostrophe && c == backslash) && not (is_line_end d)
 
 -- The number of characters after an opening quote q, up to and including the first q that is no
--- part of an escape pair, or `None` where the line ends before that.
+-- part of an escape, or `None` where the line ends before that.
 abbrev pub close_len : ℕ → List ℕ → Option ℕ
 close_len q [] = None
 close_len q (c ∷ []) = if c == q then Some 1 else None
 close_len q (c ∷ d ∷ cs) =
     if is_line_end c then None
     else if c == q then Some 1
-    else if is_escape_pair q c d then option_map (λ n. n + 2) (close_len q cs)
+    else if is_escape q c d then option_map (λ n. n + 2) (close_len q cs)
     else option_map (λ n. n + 1) (close_len q (d ∷ cs))
 
 -- The number of characters of a quote after its opening q. An unclosed quote ends with its line.

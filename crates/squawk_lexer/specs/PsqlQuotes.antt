@@ -14,7 +14,7 @@ close_end q u i = option_map (λ n. i + n) (close_len q (drop i u))
 abbrev pub last_before : List ℕ → ℕ → ℕ → Option ℕ
 last_before u i j = last_or None (take (j - i) (drop i u))
 
--- The index at or after i of the next character that may close the quote or begin an escape pair,
+-- The index at or after i of the next character that may close the quote or begin an escape,
 -- or of the end of the line.
 abbrev pub piece_stop : ℕ → List ℕ → ℕ → ℕ
 piece_stop q u i = stop_on_line q (if q == apostrophe then backslash else q) u i

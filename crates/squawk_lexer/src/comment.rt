@@ -49,6 +49,7 @@ impl<'a> Cursor<'a> {
 
     // Consumes a block comment, whose `/*` was consumed, and returns whether it is terminated.
     // `depth` counts the comments that are open inside it.
+    // Not inlined, so that `advance_token` stays small.
     #[inline(never)]
     #[tactic(auto, using(crate::proofs::CommentSteps::comment_steps))]
     fn eat_block_comment(&mut self) -> bool

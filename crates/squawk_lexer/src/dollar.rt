@@ -11,6 +11,7 @@ use crate::token::{LiteralKind, TokenKind, literal};
 
 impl<'a> Cursor<'a> {
     // Consumes a dollar-quoted string or a parameter, whose first `$` was consumed.
+    // Not inlined, so that `advance_token` stays small.
     #[inline(never)]
     #[tactic(auto, using(crate::proofs::DollarSteps::dollar_steps))]
     pub(crate) fn dollar_string_or_param(&mut self) -> TokenKind

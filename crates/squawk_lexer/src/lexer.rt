@@ -10,6 +10,7 @@ ghost use Rattle.squawk_lexer.specs.LookAhead.{IsFirstTokenAt, IsDecided, Restar
 
 use crate::classes::Class;
 use crate::cursor::Cursor;
+use crate::forms::TokenForm;
 use crate::token::{LiteralKind, Strings, Token, TokenKind, literal};
 
 /// The byte order mark, U+FEFF: three bytes in UTF-8. At the start of a text it is a `Whitespace`
@@ -51,23 +52,6 @@ fn symbol_kind(b: u8) -> TokenKind
         b'.' => TokenKind::Dot,
         _ => TokenKind::Unknown,
     }
-}
-
-// The forms of tokens (`docs/GRAMMAR.md`, "Forms"). The first two characters of a token decide
-// which form it has.
-enum TokenForm {
-    Whitespace,
-    LineComment,
-    BlockComment,
-    String,
-    QuotedIdent,
-    Word,
-    Dollar,
-    Number,
-    DotDot,
-    Fraction,
-    Psql,
-    Symbol,
 }
 
 // The form of a token, by the first bytes of its first two characters. These suffice, since all

@@ -97,6 +97,7 @@ impl<'a> Cursor<'a> {
     }
 
     // Consumes what follows a decimal point: digits, an exponent and the trailing junk.
+    // Not inlined, so that `advance_token` stays small.
     #[inline(never)]
     pub(crate) fn eat_fractional(&mut self) -> TokenKind
         ensures text { self.new.text ≡ self.old.text }
@@ -154,6 +155,7 @@ impl<'a> Cursor<'a> {
 
     // Consumes a number, whose first digit was consumed. The rules are those of PostgreSQL's
     // `scan.l`, except that any decimal digit may follow `0b` and `0o`: `0b12` is one token.
+    // Not inlined, so that `advance_token` stays small.
     #[inline(never)]
     #[tactic(auto, using(crate::proofs::NumberSteps::number_steps))]
     pub(crate) fn number(&mut self, first: char) -> TokenKind

@@ -97,8 +97,8 @@ fn ends_arguments(c: char) -> bool
 }
 
 // Whether `c` is a backslash that escapes `next`: only in single quotes, and not before a line end.
-fn is_escape_pair(quote: char, c: char, next: char) -> bool
-    ensures { result ≡ parts.is_escape_pair quote c next }
+fn is_escape(quote: char, c: char, next: char) -> bool
+    ensures { result ≡ parts.is_escape quote c next }
 {
     quote == '\'' && c == '\\' && !is_line_end(next)
 }
@@ -115,6 +115,7 @@ fn is_parenthesis(mark: Option<char>) -> bool
 impl<'a> Cursor<'a> {
     // Consumes a token that begins with a backslash, which was consumed: psql's separator `\\`, an
     // escaped `;` or `:`, or a command.
+    // Not inlined, so that `advance_token` stays small.
     #[inline(never)]
     pub(crate) fn psql_command(&mut self) -> TokenKind
         requires first { slice_index self.old.text 0 ≡ backslash }
@@ -324,7 +325,7 @@ impl<'a> Cursor<'a> {
         let c = self.first();
         self.bump();
         // At the end of the text `first` reads NUL, and `bump` then consumes nothing.
-        if is_escape_pair(quote, c, self.first()) {
+        if is_escape(quote, c, self.first()) {
             self.bump();
         }
     }

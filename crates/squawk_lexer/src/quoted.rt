@@ -16,6 +16,7 @@ impl<'a> Cursor<'a> {
     // Consumes quoted text, whose opening quote was consumed, and returns whether it is terminated.
     // Two quotes in a row stand for one and do not end it. With `escapes`, a backslash escapes the
     // next character.
+    // Not inlined, so that `advance_token` stays small.
     #[inline(never)]
     #[tactic(auto, using(crate::proofs::QuotedSteps::quoted_steps))]
     pub(crate) fn quoted_text(&mut self, quote: u8, escapes: bool) -> bool

@@ -101,16 +101,17 @@ fn short_len_until2(a: u8, b: u8, bytes: &[u8]) -> usize
     len
 }
 
+// The same with `memchr`. Not inlined, so that `len_until2` stays small for short runs.
 #[inline(never)]
 fn memchr_len_until2(a: u8, b: u8, bytes: &[u8]) -> usize
     ensures { result ≡ prefix_len (is_neither a b) bytes.now }
 {
-    let found = if a == b {
+    let first = if a == b {
         memchr(a, bytes)
     } else {
         memchr2(a, b, bytes)
     };
-    found.unwrap_or(bytes.len())
+    first.unwrap_or(bytes.len())
 }
 
 // The number of bytes before the first `a`, `b`, LF or CR, or of all bytes if there is none.
@@ -145,7 +146,8 @@ fn is_neither_on_line(a: u8, b: u8, byte: u8) -> bool
     byte != a && byte != b && byte != b'\n' && byte != b'\r'
 }
 
-// The second search reads only what the first one skipped, so both together are linear.
+// The same with `memchr`, not inlined either. The second search reads only what the first one
+// skipped, so both together are linear.
 #[inline(never)]
 fn memchr_len_until2_on_line(a: u8, b: u8, bytes: &[u8]) -> usize
     ensures { result ≡ prefix_len (is_neither_on_line a b) bytes.now }

@@ -9,25 +9,8 @@ ghost use Rattle.squawk_lexer.specs.Token.{prefix_of, ident_or_string, quoted_id
 
 use crate::classes::Class;
 use crate::cursor::Cursor;
+use crate::forms::StringPrefix;
 use crate::token::{LiteralKind, TokenKind, literal};
-
-// The prefix of a string or of a quoted identifier.
-enum StringPrefix {
-    // N'
-    National,
-    // B'
-    Bit,
-    // X'
-    Byte,
-    // E'
-    Escape,
-    // U&'
-    UnicodeString,
-    // U&"
-    UnicodeIdent,
-    // None of these: the token is an identifier or a keyword.
-    NoPrefix,
-}
 
 // The prefix of a token, by the first bytes of its first three characters.
 #[tactic(auto, unfolding(crate::specs::Token::prefix_of))]

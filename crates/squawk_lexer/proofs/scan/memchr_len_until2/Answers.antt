@@ -9,8 +9,8 @@ pub returns : goal.returns
 returns c =
     c.unwrap_or.ensures
     ∙ elim c.if-a-b.branch [
-      | then-a-b w ↦ rw w.found-is (search_run _ (is_neither c.args.a c.args.b) (λ x.
-          other_one c.args.a c.args.b x w.if-a-b.true) c.args.bytes.now _ w.memchr-found.ensures)
-      | else-a-b w ↦ rw w.found-is (search_run _ (is_neither c.args.a c.args.b) (λ x.
-          refl) c.args.bytes.now _ w.memchr2-found.ensures)
+      | then-a-b w ↦ rw w.first-is (search_run _ (is_neither c.args.a c.args.b) (λ x.
+          other_one c.args.a c.args.b x w.if-a-b.true) c.args.bytes.now _ w.memchr-first.ensures)
+      | else-a-b w ↦ rw w.first-is (search_run _ (is_neither c.args.a c.args.b) (λ x.
+          refl) c.args.bytes.now _ w.memchr2-first.ensures)
     ]

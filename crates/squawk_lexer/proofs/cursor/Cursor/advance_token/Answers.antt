@@ -1,5 +1,5 @@
 use Rattle.std.proofs.Common.{sym, ◌∙◌}
-use Rattle.squawk_lexer.specs.declared.lexer.TokenForm.TheVariants.{String}
+use Rattle.squawk_lexer.specs.declared.forms.TokenForm.TheVariants.{String}
 use Rattle.squawk_lexer.proofs.Steps.{after_within}
 use Rattle.squawk_lexer.proofs.FormSteps.{form_lexeme}
 use Rattle.squawk_lexer.proofs.cursor.Cursor.advance_token.Goals as goal
