@@ -13,6 +13,7 @@ use Rattle.squawk_lexer.specs.declared.token.LiteralKind.TheVariants as literals
 use Rattle.squawk_lexer.specs.contracts.token.BaseOrd.TheImpl as base_ord
 use Rattle.squawk_lexer.specs.contracts.token.LiteralKindOrd.TheImpl as literal_ord
 
+-- `Equal` after an order does not change it.
 then_equal : (o : Ordering) → o ≡ ordering_then o Equal
 then_equal orderings.Less = refl
 then_equal orderings.Equal = refl
@@ -21,21 +22,10 @@ then_equal orderings.Greater = refl
 -- Bases are ordered by their numbers.
 base_order : (a b : Base) → base_ord.ghosts.cmp a b ≡ nat_cmp (base_value a) (base_value b)
 base_order Binary Binary = refl
-base_order Binary Octal = refl
-base_order Binary Decimal = refl
-base_order Binary Hexadecimal = refl
-base_order Octal Binary = refl
 base_order Octal Octal = refl
-base_order Octal Decimal = refl
-base_order Octal Hexadecimal = refl
-base_order Decimal Binary = refl
-base_order Decimal Octal = refl
 base_order Decimal Decimal = refl
-base_order Decimal Hexadecimal = refl
-base_order Hexadecimal Binary = refl
-base_order Hexadecimal Octal = refl
-base_order Hexadecimal Decimal = refl
 base_order Hexadecimal Hexadecimal = refl
+base_order a b = refl
 
 -- Flags are ordered by their keys.
 bool_order : (a b : Bool) → bool_cmp a b ≡ nat_cmp (flag_key a) (flag_key b)
@@ -49,6 +39,7 @@ flag_order : (t t2 : Bool) → bool_cmp t t2
     ≡ slice_cmp nat_cmp (flag_key t ∷ []) (flag_key t2 ∷ [])
 flag_order t t2 = bool_order t t2 ∙ then_equal _
 
+-- The order of integers, by base, flag and offset.
 int_order : (b b2 : Base) (e e2 : Bool) (j j2 : ℕ)
     → ordering_then (base_ord.ghosts.cmp b b2) (ordering_then (bool_cmp e e2) (nat_cmp j j2))
     ≡ slice_cmp nat_cmp (base_value b ∷ flag_key e ∷ j ∷ [])
@@ -60,6 +51,7 @@ int_order b b2 e e2 j j2 =
     ∙ ap (λ o. ordering_then (nat_cmp (base_value b) (base_value b2))
     (ordering_then (nat_cmp (flag_key e) (flag_key e2)) o)) (then_equal (nat_cmp j j2))
 
+-- The order of numbers with a point or an exponent, by both offsets.
 numeric_order : (x x2 : Option ℕ) (j j2 : ℕ)
     → ordering_then (option_cmp nat_cmp x x2) (nat_cmp j j2)
     ≡ slice_cmp nat_cmp (offset_key x (j ∷ [])) (offset_key x2 (j2 ∷ []))
@@ -73,83 +65,12 @@ numeric_order (Some m) (Some n) j j2 =
 pub literal_order : (a b : LiteralKind)
     → literal_ord.ghosts.cmp a b ≡ literal_cmp a b
 literal_order (literals.Int b e j) (literals.Int b2 e2 j2) = int_order b b2 e e2 j j2
-literal_order (literals.Int b e j) (literals.Numeric x2 j2) = refl
-literal_order (literals.Int b e j) (literals.Str t2) = refl
-literal_order (literals.Int b e j) (literals.NationalStr t2) = refl
-literal_order (literals.Int b e j) (literals.ByteStr t2) = refl
-literal_order (literals.Int b e j) (literals.BitStr t2) = refl
-literal_order (literals.Int b e j) (literals.DollarQuotedString t2) = refl
-literal_order (literals.Int b e j) (literals.UnicodeEscStr t2) = refl
-literal_order (literals.Int b e j) (literals.EscStr t2) = refl
-literal_order (literals.Numeric x j) (literals.Int b2 e2 j2) = refl
 literal_order (literals.Numeric x j) (literals.Numeric x2 j2) = numeric_order x x2 j j2
-literal_order (literals.Numeric x j) (literals.Str t2) = refl
-literal_order (literals.Numeric x j) (literals.NationalStr t2) = refl
-literal_order (literals.Numeric x j) (literals.ByteStr t2) = refl
-literal_order (literals.Numeric x j) (literals.BitStr t2) = refl
-literal_order (literals.Numeric x j) (literals.DollarQuotedString t2) = refl
-literal_order (literals.Numeric x j) (literals.UnicodeEscStr t2) = refl
-literal_order (literals.Numeric x j) (literals.EscStr t2) = refl
-literal_order (literals.Str t) (literals.Int b2 e2 j2) = refl
-literal_order (literals.Str t) (literals.Numeric x2 j2) = refl
 literal_order (literals.Str t) (literals.Str t2) = flag_order t t2
-literal_order (literals.Str t) (literals.NationalStr t2) = refl
-literal_order (literals.Str t) (literals.ByteStr t2) = refl
-literal_order (literals.Str t) (literals.BitStr t2) = refl
-literal_order (literals.Str t) (literals.DollarQuotedString t2) = refl
-literal_order (literals.Str t) (literals.UnicodeEscStr t2) = refl
-literal_order (literals.Str t) (literals.EscStr t2) = refl
-literal_order (literals.NationalStr t) (literals.Int b2 e2 j2) = refl
-literal_order (literals.NationalStr t) (literals.Numeric x2 j2) = refl
-literal_order (literals.NationalStr t) (literals.Str t2) = refl
 literal_order (literals.NationalStr t) (literals.NationalStr t2) = flag_order t t2
-literal_order (literals.NationalStr t) (literals.ByteStr t2) = refl
-literal_order (literals.NationalStr t) (literals.BitStr t2) = refl
-literal_order (literals.NationalStr t) (literals.DollarQuotedString t2) = refl
-literal_order (literals.NationalStr t) (literals.UnicodeEscStr t2) = refl
-literal_order (literals.NationalStr t) (literals.EscStr t2) = refl
-literal_order (literals.ByteStr t) (literals.Int b2 e2 j2) = refl
-literal_order (literals.ByteStr t) (literals.Numeric x2 j2) = refl
-literal_order (literals.ByteStr t) (literals.Str t2) = refl
-literal_order (literals.ByteStr t) (literals.NationalStr t2) = refl
 literal_order (literals.ByteStr t) (literals.ByteStr t2) = flag_order t t2
-literal_order (literals.ByteStr t) (literals.BitStr t2) = refl
-literal_order (literals.ByteStr t) (literals.DollarQuotedString t2) = refl
-literal_order (literals.ByteStr t) (literals.UnicodeEscStr t2) = refl
-literal_order (literals.ByteStr t) (literals.EscStr t2) = refl
-literal_order (literals.BitStr t) (literals.Int b2 e2 j2) = refl
-literal_order (literals.BitStr t) (literals.Numeric x2 j2) = refl
-literal_order (literals.BitStr t) (literals.Str t2) = refl
-literal_order (literals.BitStr t) (literals.NationalStr t2) = refl
-literal_order (literals.BitStr t) (literals.ByteStr t2) = refl
 literal_order (literals.BitStr t) (literals.BitStr t2) = flag_order t t2
-literal_order (literals.BitStr t) (literals.DollarQuotedString t2) = refl
-literal_order (literals.BitStr t) (literals.UnicodeEscStr t2) = refl
-literal_order (literals.BitStr t) (literals.EscStr t2) = refl
-literal_order (literals.DollarQuotedString t) (literals.Int b2 e2 j2) = refl
-literal_order (literals.DollarQuotedString t) (literals.Numeric x2 j2) = refl
-literal_order (literals.DollarQuotedString t) (literals.Str t2) = refl
-literal_order (literals.DollarQuotedString t) (literals.NationalStr t2) = refl
-literal_order (literals.DollarQuotedString t) (literals.ByteStr t2) = refl
-literal_order (literals.DollarQuotedString t) (literals.BitStr t2) = refl
 literal_order (literals.DollarQuotedString t) (literals.DollarQuotedString t2) = flag_order t t2
-literal_order (literals.DollarQuotedString t) (literals.UnicodeEscStr t2) = refl
-literal_order (literals.DollarQuotedString t) (literals.EscStr t2) = refl
-literal_order (literals.UnicodeEscStr t) (literals.Int b2 e2 j2) = refl
-literal_order (literals.UnicodeEscStr t) (literals.Numeric x2 j2) = refl
-literal_order (literals.UnicodeEscStr t) (literals.Str t2) = refl
-literal_order (literals.UnicodeEscStr t) (literals.NationalStr t2) = refl
-literal_order (literals.UnicodeEscStr t) (literals.ByteStr t2) = refl
-literal_order (literals.UnicodeEscStr t) (literals.BitStr t2) = refl
-literal_order (literals.UnicodeEscStr t) (literals.DollarQuotedString t2) = refl
 literal_order (literals.UnicodeEscStr t) (literals.UnicodeEscStr t2) = flag_order t t2
-literal_order (literals.UnicodeEscStr t) (literals.EscStr t2) = refl
-literal_order (literals.EscStr t) (literals.Int b2 e2 j2) = refl
-literal_order (literals.EscStr t) (literals.Numeric x2 j2) = refl
-literal_order (literals.EscStr t) (literals.Str t2) = refl
-literal_order (literals.EscStr t) (literals.NationalStr t2) = refl
-literal_order (literals.EscStr t) (literals.ByteStr t2) = refl
-literal_order (literals.EscStr t) (literals.BitStr t2) = refl
-literal_order (literals.EscStr t) (literals.DollarQuotedString t2) = refl
-literal_order (literals.EscStr t) (literals.UnicodeEscStr t2) = refl
 literal_order (literals.EscStr t) (literals.EscStr t2) = flag_order t t2
+literal_order a b = refl
