@@ -62,7 +62,8 @@ pub fn comments_balance()
     ensures unterminated { spec.OpenCommentsStayOpen }
 {}
 
-/// psql's options end with the first argument whose mark is `)`.
+/// psql's options in parentheses end with the first argument whose mark is `)`. The mark stands for
+/// the last character of an argument (`docs/GRAMMAR.md`, "psql commands").
 pub fn marked_is_first()
     ensures { psql.MarkedIsFirst }
 {}
@@ -146,12 +147,11 @@ pub fn literals_are_ordered()
     ensures literals { (a b : LiteralKind) → ⟦<LiteralKind as Ord>⟧.cmp a b ≡ literal_cmp a b }
 {}
 
-/// Values are `==` exactly if they are the same; tokens are compared by kind and length. A token
-/// kind is `==` to itself.
+/// Values are `==` exactly if they are the same. Tokens are compared by kind and length.
 pub fn equal_values_are_the_same()
     ensures tokens { (a b : Token) → ⟦<Token as PartialEq>⟧.eq a b
         ≡ (⟦<TokenKind as PartialEq>⟧.eq a.kind b.kind && a.len == b.len) }
-    ensures kinds { (a : TokenKind) → IsTrue (⟦<TokenKind as PartialEq>⟧.eq a a) }
+    ensures kinds { (a b : TokenKind) → IsTrue (⟦<TokenKind as PartialEq>⟧.eq a b) ↔ (a ≡ b) }
     ensures literals { (a b : LiteralKind) → IsTrue (⟦<LiteralKind as PartialEq>⟧.eq a b) ↔ (a ≡ b) }
     ensures bases { (a b : Base) → IsTrue (⟦<Base as PartialEq>⟧.eq a b) ↔ (a ≡ b) }
     ensures strings { (a b : Strings) → IsTrue (⟦<Strings as PartialEq>⟧.eq a b) ↔ (a ≡ b) }
