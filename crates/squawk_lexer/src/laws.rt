@@ -152,7 +152,8 @@ pub fn equal_values_are_the_same()
     ensures tokens { (a b : Token) → ⟦<Token as PartialEq>⟧.eq a b
         ≡ (⟦<TokenKind as PartialEq>⟧.eq a.kind b.kind && a.len == b.len) }
     ensures kinds { (a b : TokenKind) → IsTrue (⟦<TokenKind as PartialEq>⟧.eq a b) ↔ (a ≡ b) }
-    ensures literals { (a b : LiteralKind) → IsTrue (⟦<LiteralKind as PartialEq>⟧.eq a b) ↔ (a ≡ b) }
+    ensures literals { (a b : LiteralKind)
+        → IsTrue (⟦<LiteralKind as PartialEq>⟧.eq a b) ↔ (a ≡ b) }
     ensures bases { (a b : Base) → IsTrue (⟦<Base as PartialEq>⟧.eq a b) ↔ (a ≡ b) }
     ensures strings { (a b : Strings) → IsTrue (⟦<Strings as PartialEq>⟧.eq a b) ↔ (a ≡ b) }
 {}
