@@ -14,6 +14,7 @@ pub(crate) fn command_line(alloc: Global, words: &[&str]) -> Result<Vec<String>,
 }
 
 // Words, and what a run with them writes to `out`; without output they are bad words.
+#[derive(Drop)]
 struct Row<'a> {
     words: &'a [&'a str],
     out: &'a str,
