@@ -13,8 +13,8 @@ node_count [] = 0
 node_count (Leaf ∷ children) = node_count children
 node_count (Node tokens ∷ children) = suc (node_count children)
 
--- the summary of a tree: its bytes, its leaves, the children of its root, the nodes among these, and
--- its errors
+-- the summary of a tree: the bytes of its text, its leaves, the children of its root, the nodes
+-- among these, and its errors
 abbrev pub summary_line : Tree → List ℕ
 summary_line tree = codes "bytes " ++ decimal tree.len
     ++ codes " tokens " ++ decimal (length (leaves tree.steps))

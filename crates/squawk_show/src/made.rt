@@ -10,7 +10,12 @@ use std::alloc::{AllocError, Global};
 pub(crate) const MAX_PIECES: u32 = 100_000;
 
 // Appends a line with the digits of a number in it.
-fn push_line(text: &mut String, before: &str, n: u32, after: &str) -> Result<(), AllocError>
+fn push_numbered_line(
+    text: &mut String,
+    before: &str,
+    n: u32,
+    after: &str,
+) -> Result<(), AllocError>
     ensures { OnOk result (string_bytes text.new
         ≡ string_bytes text.old ++ numbered_line before.now n after.now) }
 {
@@ -25,12 +30,12 @@ fn push_piece(text: &mut String, i: u32) -> Result<(), AllocError>
     ensures { OnOk result (string_bytes text.new ≡ string_bytes text.old ++ piece i) }
 {
     match i % 4 {
-        0 => push_line(text, "select ", i, ";"),
-        1 => push_line(text, "insert into t values ('", i, "');"),
-        2 => push_line(text, "update t set a = $1 where b = ", i, ";"),
+        0 => push_numbered_line(text, "select ", i, ";"),
+        1 => push_numbered_line(text, "insert into t values ('", i, "');"),
+        2 => push_numbered_line(text, "update t set a = $1 where b = ", i, ";"),
         _ => {
-            push_line(text, "-- ", i, "")?;
-            push_line(text, "\\echo ", i, "")
+            push_numbered_line(text, "-- ", i, "")?;
+            push_numbered_line(text, "\\echo ", i, "")
         }
     }
 }

@@ -1,4 +1,4 @@
-use Rattle.std.proofs.Common.{ap, length, ◌≤◌, subst, sym, ◌+◌, ◌≡◌, arith, rules}
+use Rattle.std.proofs.Common.{length, ◌≤◌, subst, sym, ◌≡◌, rules}
 use Rattle.std.specs.Prelude.{string_bytes}
 use Rattle.squawk_events.specs.Limit.{limit}
 use Rattle.squawk_show.specs.Made.{made}

@@ -1,4 +1,4 @@
-use Rattle.std.proofs.Common.{◌≡◌, ℕ, length, ap, sym, ◌∙◌, ◌++◌, ◌∷◌, [], count_by, rules}
+use Rattle.std.proofs.Common.{◌≡◌, length, ap, sym, ◌∙◌, ◌++◌, ◌∷◌, [], count_by, rules}
 use Rattle.std.specs.Prelude.{codes, decimal, string_bytes}
 use Rattle.std.proofs.lemmas.List.{length-map}
 use Rattle.squawk_show.proofs.SummaryLemmas.{leaves_counted, nodes_counted, summary_in_turn}
