@@ -1,5 +1,6 @@
 pub mod SpanLemmas
 pub mod RangeLemmas
+pub mod NodeRangeLemmas
 pub mod FirstPart
 pub mod CutLemmas
 pub mod LeavesLemmas

@@ -1,10 +1,12 @@
--- The ranges of the steps that a pass has read, and of those that remain, are those of all steps.
+-- The ranges of the nodes' steps that a pass has read, and of those that remain, are those of all
+-- steps of nodes.
 use Rattle.std.proofs.Common.{◌≡◌, ℕ, suc, zero, ◌<◌, ◌≤◌, true, List, [], ◌∷◌, ◌++◌, length, slice_set, ap, sym, ◌∙◌, refl, subst, append_assoc, arith}
 use Rattle.std.proofs.lemmas.List.{set-append_left, set_at, length-set, length_push}
 use Rattle.std.proofs.lemmas.Bool.Decides.{nat_tests}
 use Rattle.squawk_tree.specs.Spans.{AreBelow, spans_after, open_nodes_after, offset_after}
 use Rattle.squawk_tree.specs.Steps.{closes, is_balanced}
-use Rattle.squawk_tree.specs.Ranges.{ranges, ranges_from, node_end}
+use Rattle.squawk_tree.specs.NodeRanges.{at_nodes, node_ranges}
+use Rattle.squawk_tree.specs.Ranges.{ranges_from, node_end}
 use Rattle.squawk_events.specs.declared.steps.StrStep.{StrStep}
 use Rattle.squawk_events.specs.declared.steps.StrStep.TheVariants.{Enter, Token, Exit, Error}
 
@@ -56,7 +58,8 @@ push_one spans ps end_at y rest h = ap (λ zs. zs ++ rest) (closing_push spans p
 
 -- the ranges of all steps, by those that were read, the open nodes, and the remaining steps
 abbrev pub whole : List (ℕ × ℕ) → List (ℕ × ℕ) → ℕ → List StrStep → List (ℕ × ℕ)
-whole spans ps at xs = closing spans ps (λ d. node_end d at xs) ++ ranges_from (starts ps) at xs
+whole spans ps at xs = closing spans ps (λ d. node_end d at xs)
+    ++ at_nodes xs (ranges_from (starts ps) at xs)
 
 -- reading a step keeps: the ranges of all steps, the bound of the indices, the number of open nodes
 pub whole_step : (spans : List (ℕ × ℕ)) (ps : List (ℕ
@@ -66,27 +69,27 @@ pub whole_step : (spans : List (ℕ × ℕ)) (ps : List (ℕ
     ≡ whole spans ps at (x ∷ xs)
 whole_step spans ps at (Enter kind) xs h =
     ap (λ zs. closing zs ps (λ d. node_end (suc d) at xs)
-    ++ ranges_from (at ∷ starts ps) at xs)
+    ++ at_nodes xs (ranges_from (at ∷ starts ps) at xs))
     (set_at spans (at, at) [] (at, node_end 0 at xs) (length spans) refl)
     ∙ push_one spans ps (λ d. node_end (suc d) at xs) (at, node_end 0 at xs)
-    (ranges_from (at ∷ starts ps) at xs) h
-whole_step spans ps at (Token kind start end) xs h =
-    push_one spans ps (λ d. node_end d end xs) (start, end) (ranges_from (starts ps) end xs) h
+    (at_nodes xs (ranges_from (at ∷ starts ps) at xs)) h
+whole_step spans ps at (Token kind start end) xs h = refl
 whole_step spans ps at (Error number offset) xs h =
-    push_one spans ps (λ d. node_end d at xs) (at, at) (ranges_from (starts ps) at xs) h
-whole_step spans [] at Exit xs h = append_assoc spans ((0, at) ∷ []) (ranges_from [] at xs)
+    push_one spans ps (λ d. node_end d at xs) (at, at)
+    (at_nodes xs (ranges_from (starts ps) at xs)) h
+whole_step spans [] at Exit xs h =
+    append_assoc spans ((0, at) ∷ []) (at_nodes xs (ranges_from [] at xs))
 whole_step spans (p ∷ ps) at Exit xs h =
     let below = subst (λ (n : ℕ). AreBelow n ps) (sym (length-set spans p.0 (p.1, at))) h.1 in
-    push_one (slice_set spans p.0 (p.1, at)) ps (λ d.
-    node_end d at xs) (p.1, at) (ranges_from (starts ps) at xs) below
+    push_one (slice_set spans p.0 (p.1, at)) ps (λ d. node_end d at xs) (p.1, at)
+    (at_nodes xs (ranges_from (starts ps) at xs)) below
 
 pub below_step : (spans : List (ℕ × ℕ)) (ps : List (ℕ × ℕ)) (at : ℕ) (x : StrStep)
     → AreBelow (length spans) ps
     → AreBelow (length (spans_after spans ps at x)) (open_nodes_after (length spans) ps at x)
 below_step spans ps at (Enter kind) h = let e = length_push spans (at, at) in
     (omega arith, are_below_le (length spans) (length (spans ++ (at, at) ∷ [])) ps (omega arith) h)
-below_step spans ps at (Token kind start end) h = let e = length_push spans (start, end) in
-    are_below_le (length spans) (length (spans ++ (start, end) ∷ [])) ps (omega arith) h
+below_step spans ps at (Token kind start end) h = h
 below_step spans ps at (Error number offset) h = let e = length_push spans (at, at) in
     are_below_le (length spans) (length (spans ++ (at, at) ∷ [])) ps (omega arith) h
 below_step spans [] at Exit h = tt
@@ -142,7 +145,7 @@ so_far_step spans ps at x xs left all spans' ps' at' h is spans_is ps_is at_is =
     })
 
 pub so_far_start : (steps : List StrStep) → is_balanced steps ≡ true
-    → SpansSoFar [] [] 0 steps (ranges steps)
+    → SpansSoFar [] [] 0 steps (node_ranges steps)
 so_far_start steps h = record {
   below = tt;
   whole_is = refl;

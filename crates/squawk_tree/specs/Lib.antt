@@ -7,7 +7,10 @@ pub mod Taken
 pub mod Errors
 pub mod ParseOf
 pub mod Join
--- what contracts of private functions cite
+-- what contracts of private functions and invariants cite
+pub mod NodeRanges
+pub mod StepRangesModel
+pub mod Kept
 pub mod Spans
 pub mod ChildPass
 pub mod Walk

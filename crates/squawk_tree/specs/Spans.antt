@@ -1,5 +1,6 @@
--- The ranges of the steps that a pass has read. The range of a node that is still open is empty. An
--- open node is the index of its `Enter` and the offset at which it begins; the innermost is first.
+-- The ranges of the nodes' steps that a pass has read. The range of a node that is still open is
+-- empty. An open node is the index of its `Enter` among these steps and the offset at which it
+-- begins; the innermost is first.
 use Rattle.std.specs.Prelude.{ℕ, ◌<◌, List, [], ◌∷◌, ◌++◌, slice_set, ⊤}
 use Rattle.squawk_events.specs.declared.steps.StrStep.{StrStep}
 use Rattle.squawk_events.specs.declared.steps.StrStep.TheVariants.{Enter, Token, Exit, Error}
@@ -17,7 +18,7 @@ spans_after_exit spans (p ∷ ps) at = slice_set spans p.0 (p.1, at) ++ (p.1, at
 -- the ranges after a step at the offset `at`
 abbrev pub spans_after : List (ℕ × ℕ) → List (ℕ × ℕ) → ℕ → StrStep → List (ℕ × ℕ)
 spans_after spans open_nodes at (Enter kind) = spans ++ (at, at) ∷ []
-spans_after spans open_nodes at (Token kind start end) = spans ++ (start, end) ∷ []
+spans_after spans open_nodes at (Token kind start end) = spans
 spans_after spans open_nodes at Exit = spans_after_exit spans open_nodes at
 spans_after spans open_nodes at (Error number offset) = spans ++ (at, at) ∷ []
 
@@ -26,7 +27,7 @@ abbrev pub without_first : List (ℕ × ℕ) → List (ℕ × ℕ)
 without_first [] = []
 without_first (p ∷ ps) = ps
 
--- the open nodes after the step with index n
+-- the open nodes after a step, before which n steps of nodes were read
 abbrev pub open_nodes_after : ℕ → List (ℕ × ℕ) → ℕ → StrStep → List (ℕ × ℕ)
 open_nodes_after n open_nodes at (Enter kind) = (n, at) ∷ open_nodes
 open_nodes_after n open_nodes at (Token kind start end) = open_nodes

@@ -8,11 +8,13 @@ mod parse;
 mod sink;
 mod source;
 mod spans;
+mod step_ranges;
 #[cfg(test)]
 mod tests;
 
 pub use children::ChildSpan;
 pub use parse::Parse;
+pub use step_ranges::StepRanges;
 pub use sink::TreeSink;
 pub use source::{
     parse_divided, parse_lexed, parse_source, parse_source_in, parse_with, parse_with_in,

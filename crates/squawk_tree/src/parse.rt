@@ -1,13 +1,16 @@
 //! A syntax tree over a text, and the errors in the text.
-ghost use Rattle.std.specs.Prelude.{◌≡◌, ◌≤◌, ◌<◌, ◌++◌, ◌∷◌, [], All, OnOk, length, map, slice_get, slice_range, IfOk, IfSome, Some};
+ghost use Rattle.std.specs.Prelude.{◌≡◌, ◌≤◌, ◌<◌, All, length, map, slice_get, slice_range, IfOk, IfSome, Some};
+ghost use Rattle.std.specs.List.{zip};
 ghost use Rattle.std.specs.Str.{IsCharBoundary};
+ghost use Rattle.squawk_tree.specs.Kept.{kept_steps, kept_after};
 ghost use Rattle.squawk_tree.specs.ChildSpans.{child_spans, span_child};
 ghost use Rattle.squawk_tree.specs.Ranges.{ranges};
 ghost use Rattle.squawk_tree.specs.Steps.{root_children, without_errors};
 ghost use Rattle.squawk_tree.specs.Tree.{Tree, IsTree, IsErrorWithin, IsRangeOf};
 
 use crate::children::{ChildSpan, child_spans};
-use crate::spans::spans_of;
+use crate::spans::{counts_of, nodes_before, spans_of, token_range};
+use crate::step_ranges::{StepRanges, step_ranges};
 use squawk_events::{ParseError, StrStep};
 use std::alloc::{AllocError, Global};
 use std::marker::Model;
@@ -20,8 +23,10 @@ use std::marker::Model;
 #[derive(Drop)]
 pub struct Parse {
     steps: Vec<StrStep>,
-    // The range of each step.
+    // The ranges of the `Enter` and `Exit` steps.
     spans: Vec<(u32, u32)>,
+    // For every 64th step, the number of `Enter` and `Exit` steps before it.
+    counts: Vec<usize>,
     children: Vec<ChildSpan>,
     errors: Vec<ParseError>,
     len: u32,
@@ -36,29 +41,33 @@ impl Model for Parse {
 
     ghost invariant = { λ p. IsKept
         (record { steps = p.steps.items; errors = p.errors.items; len = p.len })
-        p.spans.items p.children.items };
+        p.spans.items p.counts.items p.children.items };
 }
 
-// Appends a step unless it is an `Error`.
-fn push_step(steps: &mut Vec<StrStep>, step: StrStep) -> Result<(), AllocError>
-    ensures { OnOk result (steps.new.items ≡ steps.old.items ++ without_errors (step ∷ [])) }
+// Keeps a step for the tree unless it is an `Error`: writes it over the step with index `kept`.
+// Returns the number of steps that are kept then.
+fn keep_step(steps: &mut [StrStep], kept: usize, step: StrStep) -> usize
+    requires { kept < length steps.old }
+    ensures steps { steps.new ≡ kept_steps steps.old kept step }
+    ensures kept { result ≡ kept_after kept step }
 {
     if let StrStep::Error { .. } = step {
-        return Ok(());
+        return kept;
     }
-    steps.push(step)?;
-    Ok(())
+    steps[kept] = step;
+    kept + 1
 }
 
-// The steps other than `Error` steps.
-fn remove_errors(alloc: Global, steps: &[StrStep]) -> Result<Vec<StrStep>, AllocError>
-    ensures { IfOk result (λ kept. kept.items ≡ without_errors steps.now) }
+// Removes the `Error` steps, in place.
+fn remove_errors(steps: &mut Vec<StrStep>)
+    ensures { steps.new.items ≡ without_errors steps.old.items }
 {
-    let mut kept = Vec::new(alloc);
-    for step in steps {
-        push_step(&mut kept, *step)?;
+    let mut kept = 0;
+    for i in 0..steps.len() {
+        let step = steps[i];
+        kept = keep_step(steps, kept, step);
     }
-    Ok(kept)
+    steps.truncate(kept);
 }
 
 impl Parse {
@@ -80,12 +89,15 @@ impl Parse {
           len = len;
         }) }
     {
-        let steps = remove_errors(alloc, &steps)?;
+        let mut steps = steps;
+        remove_errors(&mut steps);
         let spans = spans_of(alloc, &steps)?;
+        let counts = counts_of(alloc, &steps)?;
         let children = child_spans(alloc, &steps)?;
         Ok(Parse {
             steps,
             spans,
+            counts,
             children,
             errors,
             len,
@@ -133,7 +145,10 @@ impl Parse {
         ensures range { slice_get (ranges self.now.steps) i ≡ Some result }
         ensures ordered { result.0 ≤ result.1 }
     {
-        self.spans[i]
+        match token_range(self.steps[i]) {
+            Some(range) => range,
+            None => self.spans[nodes_before(&self.counts, &self.steps, i)],
+        }
     }
 
     /// The range of a step in bytes, end exclusive: for a `Token` that of the token, for an `Enter`
@@ -146,6 +161,14 @@ impl Parse {
         ensures { slice_get (ranges self.now.steps) i ≡ Some result }
     {
         self.span(i)
+    }
+
+    /// The steps of the tree in order, each with its `range`.
+    pub fn steps_with_ranges(&self) -> StepRanges<'_>
+        ensures steps { result ≡ zip self.now.steps (ranges self.now.steps) }
+        ensures count { length result ≡ length self.now.steps }
+    {
+        step_ranges(&self.steps, &self.spans)
     }
 
     /// The part of `text` in the range of a step. `text` is the text of the parse, or any other in

@@ -1,15 +1,29 @@
-//! The range of each step of a tree, found in one pass.
-ghost use Rattle.std.specs.Prelude.{◌≡◌, OnOk, IfOk, IsTrue, length, reverse};
-ghost use Rattle.squawk_tree.specs.Ranges.{ranges};
+//! The ranges of the nodes of a tree, found in one pass, and the counts by which they are looked up.
+ghost use Rattle.std.specs.Prelude.{◌≡◌, ◌≤◌, ◌<◌, OnOk, IfOk, IsTrue, length, reverse, take};
+ghost use Rattle.squawk_tree.specs.NodeRanges.{token_range, node_count, node_ranges, AreNodeCounts};
 ghost use Rattle.squawk_tree.specs.Spans.{spans_after, open_nodes_after, offset_after, AreBelow};
 ghost use Rattle.squawk_tree.specs.Steps.{is_balanced};
 
 use squawk_events::StrStep;
 use std::alloc::{AllocError, Global};
 
-// Appends the range of a step at the offset `at`. Returns the end of the last token after the step.
+// The number of steps from one kept count to the next.
+const STRIDE: usize = 64;
+
+// The range of a `Token`, and `None` for another step.
+pub(crate) fn token_range(step: StrStep) -> Option<(u32, u32)>
+    ensures { result ≡ token_range step }
+{
+    match step {
+        StrStep::Token { start, end, .. } => Some((start, end)),
+        _ => None,
+    }
+}
+
+// Appends the range of a step at the offset `at`, unless it is a `Token`. Returns the end of the
+// last token after the step.
 //
-// An open node is the index of its `Enter` and the offset at which it begins.
+// An open node is the index of its range and the offset at which it begins.
 fn add_step(
     spans: &mut Vec<(u32, u32)>,
     open_nodes: &mut Vec<(usize, u32)>,
@@ -29,10 +43,7 @@ fn add_step(
             spans.push((at, at))?;
             Ok(at)
         }
-        StrStep::Token { start, end, .. } => {
-            spans.push((start, end))?;
-            Ok(end)
-        }
+        StrStep::Token { end, .. } => Ok(end),
         StrStep::Exit => {
             let Some((entered, start)) = open_nodes.pop() else {
                 spans.push((0, at))?;
@@ -49,16 +60,56 @@ fn add_step(
     }
 }
 
-// The range of each step.
+// The range of each step other than a `Token`.
 pub(crate) fn spans_of(alloc: Global, steps: &[StrStep]) -> Result<Vec<(u32, u32)>, AllocError>
     requires { IsTrue (is_balanced steps.now) }
-    ensures { IfOk result (λ spans. spans.items ≡ ranges steps.now) }
+    ensures { IfOk result (λ spans. spans.items ≡ node_ranges steps.now) }
 {
-    let mut spans = Vec::with_capacity(alloc, steps.len())?;
+    let mut spans = Vec::with_capacity(alloc, node_count(steps))?;
     let mut open_nodes = Vec::new(alloc);
     let mut at = 0;
     for step in steps {
         at = add_step(&mut spans, &mut open_nodes, at, *step)?;
     }
     Ok(spans)
+}
+
+// The number of steps other than `Token`.
+fn node_count(steps: &[StrStep]) -> usize
+    ensures count { result ≡ node_count steps.now }
+    ensures few { result ≤ length steps.now }
+{
+    let mut count = 0;
+    for step in steps {
+        if token_range(*step).is_none() {
+            count += 1;
+        }
+    }
+    count
+}
+
+// For every 64th step, the number of steps other than `Token` before it.
+pub(crate) fn counts_of(alloc: Global, steps: &[StrStep]) -> Result<Vec<usize>, AllocError>
+    ensures { IfOk result (λ counts. AreNodeCounts steps.now counts.items) }
+{
+    let mut counts = Vec::with_capacity(alloc, steps.len() / STRIDE + 1)?;
+    let mut nodes = 0;
+    let mut at = 0;
+    while at < steps.len() {
+        counts.push(nodes)?;
+        let end = steps.len().min(at + STRIDE);
+        nodes += node_count(&steps[at..end]);
+        at += STRIDE;
+    }
+    Ok(counts)
+}
+
+// The number of steps other than `Token` before the i-th, found from the kept counts.
+pub(crate) fn nodes_before(counts: &[usize], steps: &[StrStep], i: usize) -> usize
+    requires counts { AreNodeCounts steps.now counts.now }
+    requires step { i < length steps.now }
+    ensures { result ≡ node_count (take i steps.now) }
+{
+    let counted = i / STRIDE;
+    counts[counted] + node_count(&steps[counted * STRIDE..i])
 }

@@ -1,0 +1,10 @@
+use Rattle.std.proofs.Common.{◌≡◌, ◌≤◌, ◌+◌, drop}
+use Rattle.squawk_tree.specs.NodeRanges.{node_count}
+use Rattle.squawk_tree.proofs.spans.node_count.Given as goal
+
+-- the steps that were counted and those that remain are all of them
+abbrev pub invariant-loop-step : goal.invariant-loop-step
+invariant-loop-step l = record {
+  count : l.count + node_count (drop l.step-index l.steps) ≡ node_count l.steps;
+  few : l.count ≤ l.step-index;
+}
