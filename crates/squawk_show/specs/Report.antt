@@ -1,5 +1,5 @@
 -- The report of a tree, as bytes: a line for each Enter and Token, and then one for each error.
-use Rattle.std.specs.Prelude.{ℕ, ◌+◌, ◌-◌, List, [], ◌∷◌, ◌++◌, codes, decimal, flat_map, slice_get, unwrap_or}
+use Rattle.std.specs.Prelude.{ℕ, ◌+◌, ◌-◌, List, [], ◌∷◌, ◌++◌, codes, decimal, flat_map, slice_get, unwrap_or, zip}
 use Rattle.squawk_events.specs.Message.{message_of}
 use Rattle.squawk_events.specs.declared.steps.ParseError.{ParseError}
 use Rattle.squawk_events.specs.declared.steps.StrStep.{StrStep}
@@ -53,11 +53,11 @@ depth_after depth (Token kind start end) = depth
 depth_after depth Exit = depth - 1
 depth_after depth (Error number at) = depth
 
--- the lines of steps with these ranges; the first step is at `depth`
-abbrev pub step_lines : ℕ → List StrStep → List (ℕ × ℕ) → List ℕ
-step_lines depth [] spans = []
-step_lines depth (x ∷ xs) [] = []
-step_lines depth (x ∷ xs) (r ∷ rs) = step_line depth x r ++ step_lines (depth_after depth x) xs rs
+-- the lines of steps with their ranges; the first step is at `depth`
+abbrev pub step_lines : ℕ → List (StrStep × (ℕ × ℕ)) → List ℕ
+step_lines depth [] = []
+step_lines depth ((x, range) ∷ rest) =
+    step_line depth x range ++ step_lines (depth_after depth x) rest
 
 -- the line of an error in a text: the letter E, its range and its message
 abbrev pub parse_error_line : ParseError → List ℕ
@@ -66,5 +66,5 @@ parse_error_line e = codes "E " ++ range_text (e.start, e.end) ++ (space ∷ [])
 
 -- the report of a tree: the lines of its steps, and then those of its errors
 abbrev pub report_of : Tree → List ℕ
-report_of tree = step_lines 0 tree.steps (ranges tree.steps)
+report_of tree = step_lines 0 (zip tree.steps (ranges tree.steps))
     ++ flat_map parse_error_line tree.errors

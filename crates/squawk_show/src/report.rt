@@ -1,5 +1,5 @@
 //! The report of a tree.
-ghost use Rattle.std.specs.Prelude.{◌≡◌, ◌++◌, [], ◌+◌, ◌^◌, ◌<◌, length, IfOk, OnOk};
+ghost use Rattle.std.specs.Prelude.{◌≡◌, ◌++◌, [], ◌+◌, ◌^◌, ◌<◌, length, zip, IfOk, OnOk};
 ghost use Rattle.squawk_show.specs.Report.{report_of, step_line, step_lines, depth_after};
 ghost use Rattle.squawk_tree.specs.Ranges.{ranges};
 
@@ -64,17 +64,15 @@ fn make_tables(alloc: Global, steps: usize) -> Result<Option<DigitTables>, Alloc
 // The lines of the nodes and the leaves.
 fn make_step_lines(alloc: Global, parse: &Parse) -> Result<Vec<u8>, AllocError>
     ensures { IfOk result (λ text.
-        text.items ≡ step_lines 0 parse.now.steps (ranges parse.now.steps)) }
+        text.items ≡ step_lines 0 (zip parse.now.steps (ranges parse.now.steps))) }
 {
     let steps = parse.steps().len();
     let tables = make_tables(alloc, steps)?;
     let mut out = make_room(alloc, steps);
     let mut depth = 0usize;
     let mut last = Number::zero();
-    for (i, step) in parse.steps().iter().enumerate() {
-        let next = push_step(&mut out, &tables, last, depth, *step, parse.range(i))?;
-        depth = next.0;
-        last = next.1;
+    for (step, range) in parse.steps_with_ranges() {
+        (depth, last) = push_step(&mut out, &tables, last, depth, step, range)?;
     }
     Ok(out)
 }
