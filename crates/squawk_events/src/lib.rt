@@ -17,7 +17,7 @@ mod trivia;
 pub use error::{FrontError, front_errors_are_equal_if_same};
 pub use grammar::{EntryPoint, Grammar};
 pub use input::Input;
-pub use limit::LIMIT;
+pub use limit::{LIMIT, limit_is_the_largest_offset};
 pub use messages::message;
 pub use output::Output;
 pub use sink::StepSink;

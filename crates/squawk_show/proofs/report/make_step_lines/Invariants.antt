@@ -6,4 +6,8 @@ use Rattle.squawk_show.proofs.report.make_step_lines.Given as goal
 
 -- the lines so far and those of the remaining steps are those of all
 abbrev pub invariant-loop-step : goal.invariant-loop-step
-invariant-loop-step l = ?
+invariant-loop-step l = record {
+  lines : l.out.items ++ step_lines l.depth l.step-iterator
+      ≡ step_lines 0 (zip l.parse.steps (ranges l.parse.steps));
+  depth : l.depth + length l.step-iterator ≤ length l.parse.steps;
+}
