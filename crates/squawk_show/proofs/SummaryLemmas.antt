@@ -1,5 +1,5 @@
 -- The numbers of leaves and of nodes, counted over steps and over the spans of children.
-use Rattle.std.proofs.Common.{◌≡◌, ℕ, zero, suc, ◌+◌, List, [], ◌∷◌, ◌++◌, Bool, true, false, length, map, refl, sym, ◌∙◌, append_assoc, arith, cond}
+use Rattle.std.proofs.Common.{◌≡◌, ℕ, ◌+◌, List, [], ◌∷◌, ◌++◌, length, map, refl, sym, ◌∙◌, append_assoc, arith, cond}
 use Rattle.std.specs.Prelude.{Option, Some, None, codes, count_by, decimal, is_some}
 use Rattle.std.proofs.lemmas.List.Recursion.{is_count_by}
 use Rattle.squawk_events.specs.declared.steps.StrStep.{StrStep}
