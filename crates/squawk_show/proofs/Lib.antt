@@ -4,6 +4,5 @@ pub mod LineLemmas
 pub mod MadeLemmas
 pub mod ParseLemmas
 pub mod RefusalLemmas
-pub mod ReportLemmas
 pub mod SummaryLemmas
 pub mod TransferLemmas
