@@ -14,3 +14,5 @@ pub mod Kept
 pub mod Spans
 pub mod ChildPass
 pub mod Walk
+-- what the contracts of tests cite
+pub mod FlatGrammar

@@ -14,8 +14,8 @@ mod tests;
 
 pub use children::ChildSpan;
 pub use parse::Parse;
-pub use step_ranges::StepRanges;
 pub use sink::TreeSink;
 pub use source::{
     parse_divided, parse_lexed, parse_source, parse_source_in, parse_with, parse_with_in,
 };
+pub use step_ranges::StepRanges;

@@ -33,10 +33,7 @@ impl<'a> Model for StepRanges<'a> {
 }
 
 // The steps with their ranges, where those other than `Token` have the ranges of the second list.
-pub(crate) fn step_ranges<'a>(
-    steps: &'a [StrStep],
-    node_ranges: &'a [(u32, u32)],
-) -> StepRanges<'a>
+pub(crate) fn step_ranges<'a>(steps: &'a [StrStep], node_ranges: &'a [(u32, u32)]) -> StepRanges<'a>
     ensures { result ≡ with_ranges steps.now node_ranges.now }
 {
     StepRanges { steps, node_ranges }

@@ -1,4 +1,9 @@
 //! Trees of whole texts, worked by hand from `docs/STATEMENTS.md`.
+mod faults;
+mod grammar;
+mod ranges;
+mod sink;
+
 use crate::{ChildSpan, Parse, parse_divided, parse_source, parse_with};
 use squawk_events::{ParseError, StrStep};
 use squawk_kinds::SyntaxKind;
@@ -8,8 +13,8 @@ use std::alloc::{AllocError, Global};
 use std::test::Fail;
 
 // The tree and the errors of a parse, one step or error on a line: `+`, the kind and the range of a
-// node, `-` at its end, the text, the kind and the range of a leaf, `E`, the range and the number of
-// an error.
+// node, `-` at its end, the text, the kind and the range of a leaf, `E`, the range and the number
+// of an error.
 fn render(alloc: Global, parse: &Parse, text: &str) -> Result<String, AllocError> {
     let mut lines = String::new(alloc);
     for i in 0..parse.steps().len() {
