@@ -1,19 +1,14 @@
 //! Parses of texts and of their tokens.
-ghost use Rattle.std.specs.Prelude.{◌≡◌, ◌<◌, ◌↔◌, length, map, IfOk, IfErr, OnOk, IsErrOf, IsTrue};
-ghost use Rattle.std.specs.Str.{chars};
+ghost use Rattle.std.specs.Prelude.{◌≡◌, ◌<◌, ◌↔◌, length, IfOk, IfErr, OnOk, IsErrOf, IsTrue};
 ghost use Rattle.squawk_events.specs.Lawful.{IsLawful};
 ghost use Rattle.squawk_events.specs.Limit.{limit};
 ghost use Rattle.squawk_events.specs.Refusals.{IsOutOfMemory, MayRefuse};
-ghost use Rattle.squawk_lexed.specs.LexedText.{are_sound, total_len};
+ghost use Rattle.squawk_lexed.specs.LexedText.{are_sound, lexed_text};
 ghost use Rattle.squawk_lexed.specs.Weave.{kinds_without_trivia, weave};
-ghost use Rattle.squawk_lexer.specs.Cut.{tokens, token_ends};
 ghost use Rattle.squawk_lexer.specs.declared.token.Strings.TheVariants.{Standard};
-ghost use Rattle.squawk_statements.specs.Children.{children, parts};
+ghost use Rattle.squawk_statements.specs.Plain.{plain};
 ghost use Rattle.squawk_statements.specs.declared.division.Division.TheVariants.{Flat};
-ghost use Rattle.squawk_tree.specs.Join.{children_of, join};
-ghost use Rattle.squawk_tree.specs.ParseOf.{roles_of, token_steps, tokens_of, parse_by, parse_of, parse_of_tokens};
-ghost use Rattle.squawk_tree.specs.Steps.{leaves, only_tokens, ranges_through, root_children, root_child};
-ghost use Rattle.squawk_tree.specs.Tree.{IsTree};
+ghost use Rattle.squawk_tree.specs.Parses.{ParsesText, ParsesTokens};
 
 use crate::errors::errors_of_steps;
 use crate::laws::{children_join, parses_are_trees};
@@ -53,12 +48,7 @@ pub fn parse_lexed<G: Grammar>(
     lexed: &LexedStr<'_>,
     grammar: &G,
 ) -> Result<Parse, FrontError>
-    ensures tree { IfOk result (λ parse. parse
-        ≡ parse_by (G.told grammar.now) lexed.now.tokens) }
-    ensures lawful { IfOk result IsTree }
-    ensures leaves { IfOk result (λ parse. only_tokens parse.steps
-        ≡ token_steps 0 lexed.now.tokens) }
-    ensures len { IfOk result (λ parse. parse.len ≡ length lexed.now.text) }
+    ensures parse { ParsesTokens (G.told grammar.now) lexed.now result }
     ensures sound { IsTrue (are_sound lexed.now.tokens) }
     ensures refusals { IfErr result IsOutOfMemory }
 {
@@ -78,12 +68,7 @@ pub fn parse_with_in<G: Grammar>(
     strings: Strings,
     grammar: &G,
 ) -> Result<Parse, FrontError>
-    ensures tree { IfOk result (λ parse. parse
-        ≡ parse_by (G.told grammar.now) (tokens_of strings text.now)) }
-    ensures lawful { IfOk result IsTree }
-    ensures leaves { IfOk result (λ parse. only_tokens parse.steps
-        ≡ token_steps 0 (tokens_of strings text.now)) }
-    ensures len { IfOk result (λ parse. parse.len ≡ length text.now) }
+    ensures parse { ParsesTokens (G.told grammar.now) (lexed_text strings text.now) result }
     ensures too_long { IsErrOf result FrontError.TooLong ↔ (limit < length text.now) }
     ensures refusals { IfErr result (MayRefuse text.now) }
 {
@@ -94,12 +79,7 @@ pub fn parse_with_in<G: Grammar>(
 /// Parses a text by a grammar, where a backslash in a plain string is an ordinary character.
 /// The errors are those of `parse_with_in`.
 pub fn parse_with<G: Grammar>(alloc: Global, text: &str, grammar: &G) -> Result<Parse, FrontError>
-    ensures tree { IfOk result (λ parse. parse
-        ≡ parse_by (G.told grammar.now) (tokens_of Standard text.now)) }
-    ensures lawful { IfOk result IsTree }
-    ensures leaves { IfOk result (λ parse. only_tokens parse.steps
-        ≡ token_steps 0 (tokens_of Standard text.now)) }
-    ensures len { IfOk result (λ parse. parse.len ≡ length text.now) }
+    ensures parse { ParsesTokens (G.told grammar.now) (lexed_text Standard text.now) result }
     ensures too_long { IsErrOf result FrontError.TooLong ↔ (limit < length text.now) }
     ensures refusals { IfErr result (MayRefuse text.now) }
 {
@@ -112,11 +92,7 @@ fn parse_tokens(
     lexed: &LexedStr<'_>,
     division: Division,
 ) -> Result<Parse, FrontError>
-    ensures tree { IfOk result (λ tree. tree ≡ parse_of_tokens division lexed.now.tokens) }
-    ensures lawful { IfOk result IsTree }
-    ensures leaves { IfOk result (λ tree. only_tokens tree.steps
-        ≡ token_steps 0 lexed.now.tokens) }
-    ensures len { IfOk result (λ tree. tree.len ≡ length lexed.now.text) }
+    ensures parse { ParsesTokens (plain division) lexed.now result }
     ensures sound { IsTrue (are_sound lexed.now.tokens) }
     ensures refusals { IfErr result IsOutOfMemory }
 {
@@ -142,17 +118,7 @@ pub fn parse_divided(
     strings: Strings,
     division: Division,
 ) -> Result<Parse, FrontError>
-    ensures tree { IfOk result (λ tree. tree ≡ parse_of strings division text.now) }
-    // Each child of the root is built from its own tokens alone.
-    ensures joined { IfOk result (λ tree. tree ≡ join (children_of strings division text.now)) }
-    ensures lawful { IfOk result IsTree }
-    ensures leaves { IfOk result (λ tree. leaves tree.steps
-        ≡ ranges_through 0 (token_ends 0 (tokens strings (chars text.now)))) }
-    ensures children { IfOk result (λ tree. root_children tree.steps
-        ≡ map root_child (children division (roles_of (tokens strings (chars text.now))))) }
-    ensures len { IfOk result (λ tree. tree.len ≡ length text.now) }
-    ensures too_long { IsErrOf result FrontError.TooLong ↔ (limit < length text.now) }
-    ensures refusals { IfErr result (MayRefuse text.now) }
+    ensures { ParsesText strings division text.now result }
 {
     leaves_keep_roles();
     children_join();
@@ -164,16 +130,7 @@ pub fn parse_divided(
 /// Parses a text into statements, where each semicolon ends one; `strings` says how plain
 /// strings are read. The errors are those of `parse_divided`.
 pub fn parse_source_in(alloc: Global, text: &str, strings: Strings) -> Result<Parse, FrontError>
-    ensures tree { IfOk result (λ tree. tree ≡ parse_of strings Flat text.now) }
-    ensures joined { IfOk result (λ tree. tree ≡ join (children_of strings Flat text.now)) }
-    ensures lawful { IfOk result IsTree }
-    ensures leaves { IfOk result (λ tree. leaves tree.steps
-        ≡ ranges_through 0 (token_ends 0 (tokens strings (chars text.now)))) }
-    ensures children { IfOk result (λ tree. root_children tree.steps
-        ≡ map root_child (children Flat (roles_of (tokens strings (chars text.now))))) }
-    ensures len { IfOk result (λ tree. tree.len ≡ length text.now) }
-    ensures too_long { IsErrOf result FrontError.TooLong ↔ (limit < length text.now) }
-    ensures refusals { IfErr result (MayRefuse text.now) }
+    ensures { ParsesText strings Flat text.now result }
 {
     parse_divided(alloc, text, strings, Division::Flat)
 }
@@ -181,16 +138,7 @@ pub fn parse_source_in(alloc: Global, text: &str, strings: Strings) -> Result<Pa
 /// Parses a text into statements, where each semicolon ends one, and a backslash in a plain
 /// string is an ordinary character. The errors are those of `parse_divided`.
 pub fn parse_source(alloc: Global, text: &str) -> Result<Parse, FrontError>
-    ensures tree { IfOk result (λ tree. tree ≡ parse_of Standard Flat text.now) }
-    ensures joined { IfOk result (λ tree. tree ≡ join (children_of Standard Flat text.now)) }
-    ensures lawful { IfOk result IsTree }
-    ensures leaves { IfOk result (λ tree. leaves tree.steps
-        ≡ ranges_through 0 (token_ends 0 (tokens Standard (chars text.now)))) }
-    ensures children { IfOk result (λ tree. root_children tree.steps
-        ≡ map root_child (children Flat (roles_of (tokens Standard (chars text.now))))) }
-    ensures len { IfOk result (λ tree. tree.len ≡ length text.now) }
-    ensures too_long { IsErrOf result FrontError.TooLong ↔ (limit < length text.now) }
-    ensures refusals { IfErr result (MayRefuse text.now) }
+    ensures { ParsesText Standard Flat text.now result }
 {
     parse_source_in(alloc, text, Strings::Standard)
 }

@@ -24,22 +24,19 @@ new-requires g c =
     (whole_len ts _ _ c.len.ensures.count c.text_start-len.ensures)))
     (tree_of_lawful ts _ c.len.ensures.sound lawful)
 
-pub returns-clause-tree : goal.returns-clause-tree
-returns-clause-tree g c =
-    let ts = c.args.lexed.now.tokens in
-    let lawful = c.in_ok-steps.ensures.lawful in
-    c.in_ok-new.ensures ∙ parts_are ts _ _ _ _ c.len.ensures.sound lawful
-    c.in_ok-steps.ensures.steps
-    (c.in_ok-errors.ensures.ok ∙ ap (errors_by_step 0 ts) c.deref.ensures.value)
-    (whole_len ts _ _ c.len.ensures.count c.text_start-len.ensures)
-
-pub returns-clause-leaves : goal.returns-clause-leaves
-returns-clause-leaves g c =
+pub returns-clause-parse : goal.returns-clause-parse
+returns-clause-parse g c =
     let ts = c.args.lexed.now.tokens in
     let told = g.G.Grammar.told c.args.grammar.now (kinds_without_trivia ts) in
     let lawful = c.in_ok-steps.ensures.lawful in
-    ap (λ (t : Tree). only_tokens t.steps) (c.in_ok-new.ensures ∙ parts_are ts told _ _ _
-    c.len.ensures.sound lawful c.in_ok-steps.ensures.steps
+    let is = c.in_ok-new.ensures ∙ parts_are ts told _ _ _ c.len.ensures.sound lawful
+    c.in_ok-steps.ensures.steps
     (c.in_ok-errors.ensures.ok ∙ ap (errors_by_step 0 ts) c.deref.ensures.value)
-    (whole_len ts _ _ c.len.ensures.count c.text_start-len.ensures))
-    ∙ leaves_whole ts told lawful.balanced lawful.tokens
+    (whole_len ts _ _ c.len.ensures.count c.text_start-len.ensures) in
+    record {
+      tree = is;
+      lawful = subst IsTree (sym is) (tree_of_lawful ts told c.len.ensures.sound lawful);
+      leaves = ap (λ (t : Tree). only_tokens t.steps) is
+          ∙ leaves_whole ts told lawful.balanced lawful.tokens;
+      len = ap (λ (t : Tree). t.len) is ∙ c.len.ensures.whole;
+    }
