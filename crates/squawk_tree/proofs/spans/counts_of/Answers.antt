@@ -1,4 +1,4 @@
-use Rattle.std.proofs.Common.{◌≡◌, ℕ, ◌+◌, ◌*◌, ap, sym, ◌∙◌, arith, length, take, drop}
+use Rattle.std.proofs.Common.{◌*◌, ap, ◌∙◌, arith, length, take}
 use Rattle.std.proofs.lemmas.List.{length_push}
 use Rattle.squawk_tree.specs.NodeRanges.{node_count}
 use Rattle.squawk_tree.proofs.NodeRangeLemmas.{node_count_chunk, chunk_len, by_index_push}

@@ -4,7 +4,6 @@ use Rattle.std.specs.Prelude.{Some, None}
 use Rattle.squawk_events.specs.declared.steps.StrStep.{StrStep}
 use Rattle.squawk_tree.specs.NodeRanges.{token_range, node_count, node_ranges}
 use Rattle.squawk_tree.specs.Ranges.{ranges}
-use Rattle.squawk_tree.specs.Steps.{leaves, tiles}
 use Rattle.squawk_tree.specs.Tree.{Tree, IsTree}
 use Rattle.squawk_tree.proofs.NodeRangeLemmas.{token_range_is, node_range_is, node_range_within}
 use Rattle.squawk_tree.proofs.OrderLemmas.{ordered}
