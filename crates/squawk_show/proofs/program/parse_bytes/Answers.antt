@@ -4,7 +4,6 @@ use Rattle.squawk_show.proofs.program.parse_bytes.Goals as goal
 pub
     returns-in_ok-parse_source-in-Ok-clause-parsed : goal.returns-in_ok-parse_source-in-Ok-clause-parsed
 returns-in_ok-parse_source-in-Ok-clause-parsed c =
-    let parse = c.in_ok-parse_source-in-Ok.ensures in
-    is_parsed _ _ _ c.in-Ok.ensures.cases.0
+    is_parsed _ _ _ _ c.in-Ok.ensures.cases.0 c.in_ok-parse_source-in-Ok.was
     (record { within = c.requires; valid = c.in-Ok.ensures.cases.1 })
-    parse.tree parse.leaves parse.children
+    c.parse_source.ensures

@@ -6,16 +6,15 @@ use Rattle.squawk_show.proofs.program.prepare_summary.Goals as goal
 
 pub returns-clause-summarized : goal.returns-clause-summarized
 returns-clause-summarized c =
-    let parse = c.in_ok-parse.ensures in
     let same = c.as_str.ensures.value ∙ c.in_ok-text.ensures.text in
     record {
-      parsed = is_parsed _ _ _ same
+      parsed = is_parsed _ _ _ _ same c.in_ok-parse.was
           (record {
             within = subst (λ bytes. length bytes ≤ limit) c.in_ok-text.ensures.text
                 c.in_ok-text.ensures.within;
             valid = subst IsUtf8 same c.as_str.utf8;
           })
-          parse.tree parse.leaves parse.children;
-      balanced = parse.lawful;
+          c.parse_source.ensures;
+      balanced = c.in_ok-parse.ensures.lawful;
       summary = c.in_ok-summary.ensures;
     }
