@@ -1,4 +1,4 @@
-//! The ranges of the nodes of a tree, found in one pass, and the counts by which they are looked up.
+//! The ranges of the nodes of a tree, and the counts by which they are looked up.
 ghost use Rattle.std.specs.Prelude.{◌≡◌, ◌≤◌, ◌<◌, OnOk, IfOk, IsTrue, length, reverse, take};
 ghost use Rattle.squawk_tree.specs.NodeRanges.{token_range, node_count, node_ranges, AreNodeCounts};
 ghost use Rattle.squawk_tree.specs.Spans.{spans_after, open_nodes_after, offset_after, AreBelow};
