@@ -14,8 +14,8 @@ pub enum FrontError {
     /// An allocation failed.
     #[error("out of memory")]
     OutOfMemory,
-    /// A range of bytes that an edit replaces does not lie in the text, or does not start and end on
-    /// character boundaries.
+    /// The range of bytes that an edit replaces is not one of the text: its start is above its end,
+    /// its end is above the text's length, or one of them is no character boundary.
     #[error("bad range")]
     BadRange,
 }

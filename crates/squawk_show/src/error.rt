@@ -20,8 +20,8 @@ pub enum RunError {
     /// The input is not UTF-8; `at` is the length in bytes of its longest valid prefix.
     #[error("not UTF-8 at {at}")]
     NotUtf8 { at: usize },
-    /// The front end refused: the input is too long, there is not enough memory, or an edit has a bad
-    /// range.
+    /// The front end refused: the input is too long, there is not enough memory, or an edit has a
+    /// bad range.
     #[error("{0}")]
     Front(FrontError),
     /// The script of edits is malformed; `at` is the offset in bytes of its first bad record.

@@ -4,7 +4,8 @@ ghost use Rattle.squawk_events.specs.Limit.{limit};
 ghost use Rattle.squawk_show.specs.Command.{command_of, IsWithinPieces};
 ghost use Rattle.squawk_show.specs.Edge.{TakesAtMost, SinkFaultRose};
 ghost use Rattle.squawk_show.specs.Made.{most_pieces};
-ghost use Rattle.squawk_show.specs.Run.{Writes, IsReadToEnd, ReadsSource, Reads, HasText, SourceFailed, IsInvalidText, IsOverLimit, IsTreeOf, HasLeavesOf, IsDivided, IsRunRefusal, EndsWith, WritesErrorLine, status_of, IsParsed, IsParseRefusal, IsPrepared, IsPrepareRefusal, IsSummarized};
+ghost use Rattle.squawk_show.specs.Run as spec;
+ghost use Rattle.squawk_show.specs.Run.{HasLeavesOf, IsDivided, IsReadToEnd, WritesErrorLine};
 ghost use Rattle.squawk_tree.specs.Tree.{IsTree};
 
 use crate::command::parse_command;
@@ -28,9 +29,9 @@ pub struct Shown {
 // Parses bytes, if they are UTF-8.
 fn parse_bytes(alloc: Global, bytes: &[u8]) -> Result<Parse, RunError>
     requires { length bytes.now ≤ limit }
-    ensures parsed { IfOk result (IsParsed bytes.now) }
+    ensures parsed { IfOk result (spec.IsParsed bytes.now) }
     ensures balanced { IfOk result IsTree }
-    ensures refusals { IfErr result (IsParseRefusal bytes.now) }
+    ensures refusals { IfErr result (spec.IsParseRefusal bytes.now) }
 {
     match std::str::from_utf8(bytes) {
         Ok(text) => Ok(parse_source(alloc, text)?),
@@ -40,12 +41,12 @@ fn parse_bytes(alloc: Global, bytes: &[u8]) -> Result<Parse, RunError>
     }
 }
 
-// Reads the source to its end, and makes the tree of its text and the report.
+// spec.Reads the source to its end, and makes the tree of its text and the report.
 fn prepare_report<S: Source>(alloc: Global, source: &mut S) -> Result<(Parse, Vec<u8>), RunError>
     ensures prepared { IfOk result (λ r.
-        IsPrepared Command.Report (S.view source.old) (S.view source.new) r.0 r.1.items) }
+        spec.IsPrepared Command.Report (S.view source.old) (S.view source.new) r.0 r.1.items) }
     ensures refusals { IfErr result
-        (IsPrepareRefusal Command.Report (S.view source.old) (S.view source.new)) }
+        (spec.IsPrepareRefusal Command.Report (S.view source.old) (S.view source.new)) }
     ensures taken { result ≢ Err (RunError.Front FrontError.TooLong)
         → TakesAtMost (S.view source.old) (S.view source.new) limit }
 {
@@ -58,7 +59,7 @@ fn prepare_report<S: Source>(alloc: Global, source: &mut S) -> Result<(Parse, Ve
 // Makes a text, its tree and its summary.
 fn prepare_summary(alloc: Global, pieces: u32) -> Result<(Parse, Vec<u8>), RunError>
     requires { pieces ≤ most_pieces }
-    ensures summarized { IfOk result (λ r. IsSummarized pieces r.0 r.1.items) }
+    ensures summarized { IfOk result (λ r. spec.IsSummarized pieces r.0 r.1.items) }
     ensures refusals { IsOkUnless result (RunError.Front FrontError.OutOfMemory) }
 {
     let text = make_text(alloc, pieces)?;
@@ -75,10 +76,10 @@ fn prepare<S: Source>(
 ) -> Result<(Parse, Vec<u8>), RunError>
     requires { IsWithinPieces command }
     ensures prepared { IfOk result (λ r.
-        IsPrepared command (S.view source.old) (S.view source.new) r.0 r.1.items) }
+        spec.IsPrepared command (S.view source.old) (S.view source.new) r.0 r.1.items) }
     ensures refusals { IfErr result
-        (IsPrepareRefusal command (S.view source.old) (S.view source.new)) }
-    ensures unread { ¬ (ReadsSource (Ok command)) → source.new ≡ source.old }
+        (spec.IsPrepareRefusal command (S.view source.old) (S.view source.new)) }
+    ensures unread { ¬ (spec.ReadsSource (Ok command)) → source.new ≡ source.old }
     ensures taken { result ≢ Err (RunError.Front FrontError.TooLong)
         → TakesAtMost (S.view source.old) (S.view source.new) limit }
 {
@@ -95,7 +96,7 @@ fn run_command<S: Source, K: Sink>(
     source: &mut S,
     out: &mut K,
 ) -> Result<Parse, RunError>
-    ensures ends { EndsWith (record {
+    ensures ends { spec.EndsWith (record {
       command = command_of words.now;
       source_before = S.view source.old;
       source_after = S.view source.new;
@@ -103,7 +104,7 @@ fn run_command<S: Source, K: Sink>(
       out_after = K.view out.new;
     }) result }
     ensures bad_words { IsErr (command_of words.now) → IsErrOf result RunError.BadWords }
-    ensures unread { ¬ (ReadsSource (command_of words.now)) → source.new ≡ source.old }
+    ensures unread { ¬ (spec.ReadsSource (command_of words.now)) → source.new ≡ source.old }
     ensures untouched { IfErr result (λ e. e ≢ RunError.WriteFault → out.new ≡ out.old) }
     ensures taken { result ≢ Err (RunError.Front FrontError.TooLong)
         → TakesAtMost (S.view source.old) (S.view source.new) limit }
@@ -120,10 +121,10 @@ fn run_command<S: Source, K: Sink>(
 /// that ended.
 ///
 /// `words` are those of the command line without the program's name. Without words the text is what
-/// `source` has left, and the output is the report of its tree. With `make` and a number the text is
-/// made, the output is a summary, and the source is not read. The whole output is made before its
-/// first byte is written to `out`, and writing allocates nothing. After an error its line is written
-/// to `err`, whose faults change nothing.
+/// `source` has left, and the output is the report of its tree. With `make` and a number the text
+/// is made, the output is a summary, and the source is not read. The whole output is made before
+/// its first byte is written to `out`, and writing allocates nothing. After an error its line is
+/// written to `err`, whose faults change nothing.
 pub fn run<S: Source, K: Sink, E: Sink>(
     alloc: Global,
     words: &[String],
@@ -131,12 +132,12 @@ pub fn run<S: Source, K: Sink, E: Sink>(
     out: &mut K,
     err: &mut E,
 ) -> Shown
-    ensures status { result.status ≡ status_of result.outcome }
+    ensures status { result.status ≡ spec.status_of result.outcome }
 
     // With status 0 `out` took exactly the output of the command for the tree of its text.
     ensures written { IfOk result.outcome
-        (Writes (command_of words.now) (K.view out.old) (K.view out.new)) }
-    ensures tree { IfOk result.outcome (IsTreeOf (command_of words.now) (S.view source.old)) }
+        (spec.Writes (command_of words.now) (K.view out.old) (K.view out.new)) }
+    ensures tree { IfOk result.outcome (spec.IsTreeOf (command_of words.now) (S.view source.old)) }
     ensures balanced { IfOk result.outcome IsTree }
     ensures end { OnOk result.outcome (IsReadToEnd (command_of words.now) (S.view source.new)) }
     ensures quiet { result.status ≡ 0 → err.new ≡ err.old }
@@ -147,7 +148,7 @@ pub fn run<S: Source, K: Sink, E: Sink>(
     ensures children { IfOk result.outcome (IsDivided (command_of words.now) (S.view source.old)) }
 
     // When each error comes.
-    ensures refusals { IfErr result.outcome (IsRunRefusal (record {
+    ensures refusals { IfErr result.outcome (spec.IsRunRefusal (record {
       command = command_of words.now;
       source_before = S.view source.old;
       source_after = S.view source.new;
@@ -157,23 +158,23 @@ pub fn run<S: Source, K: Sink, E: Sink>(
     ensures bad_words { IsErrOf result.outcome RunError.BadWords ↔ IsErr (command_of words.now) }
 
     // What an error leaves.
-    ensures unread { ¬ (ReadsSource (command_of words.now)) → source.new ≡ source.old }
+    ensures unread { ¬ (spec.ReadsSource (command_of words.now)) → source.new ≡ source.old }
     ensures taken { result.status ≢ 5 → TakesAtMost (S.view source.old) (S.view source.new) limit }
     ensures untouched { IfErr result.outcome (λ e. e ≢ RunError.WriteFault → out.new ≡ out.old) }
     ensures error_line { IfErr result.outcome (WritesErrorLine (E.view err.old) (E.view err.new)) }
 
-    // Without a fault of the source, the text decides the status unless memory runs out. Each clause
-    // has one case: a text within the limit, where `out` has no fault either; bytes within the limit
-    // that are not UTF-8; more bytes than the limit.
-    ensures complete { HasText (command_of words.now) (S.view source.old)
-        → ¬ (SourceFailed (command_of words.now) (S.view source.old) (S.view source.new))
+    // Without a fault of the source, the text decides the status unless memory runs out. Each
+    // clause has one case: a text within the limit, where `out` has no fault either; bytes within
+    // the limit that are not UTF-8; more bytes than the limit.
+    ensures complete { spec.HasText (command_of words.now) (S.view source.old)
+        → ¬ (spec.SourceFailed (command_of words.now) (S.view source.old) (S.view source.new))
         → ¬ (SinkFaultRose (K.view out.old) (K.view out.new))
         → (result.status ≡ 0) ⊎ (result.status ≡ 6) }
-    ensures invalid { Reads IsInvalidText (command_of words.now) (S.view source.old)
-        → ¬ (SourceFailed (command_of words.now) (S.view source.old) (S.view source.new))
+    ensures invalid { spec.Reads spec.IsInvalidText (command_of words.now) (S.view source.old)
+        → ¬ (spec.SourceFailed (command_of words.now) (S.view source.old) (S.view source.new))
         → (result.status ≡ 4) ⊎ (result.status ≡ 6) }
-    ensures over_limit { Reads IsOverLimit (command_of words.now) (S.view source.old)
-        → ¬ (SourceFailed (command_of words.now) (S.view source.old) (S.view source.new))
+    ensures over_limit { spec.Reads spec.IsOverLimit (command_of words.now) (S.view source.old)
+        → ¬ (spec.SourceFailed (command_of words.now) (S.view source.old) (S.view source.new))
         → (result.status ≡ 5) ⊎ (result.status ≡ 6) }
 {
     match run_command(alloc, words, source, out) {
