@@ -1,8 +1,10 @@
 //! Leaf kinds, faults and accessors over texts whose tokens were worked by hand.
 use super::*;
+use squawk_events::{FrontError, Output, StepSink, StrStep};
 use squawk_kinds::SyntaxKind;
 use squawk_kinds::numbers::Number;
 use squawk_lexer::{Strings, Token, TokenKind};
+use std::test::Fail;
 
 // Each row: the kind of a token, the token's text, and the kind of its leaf.
 const LEAF_KINDS: &[(&str, &str, u16)] = &[
@@ -150,6 +152,69 @@ fn lexed_text(rt: HostRuntime) {
     assert_eq!(rt; input.len(), 2);
     assert_eq!(rt; input.kind(0), SyntaxKind::IDENT);
     assert_eq!(rt; input.kind(1), SyntaxKind::SEMICOLON);
+}
+
+// A sink that keeps its steps in a list.
+#[derive(Drop)]
+struct ListSink {
+    steps: Vec<StrStep>,
+}
+
+impl StepSink for ListSink {
+    ghost use Rattle.std.specs.Prelude.{[]};
+
+    ghost steps = { λ s. s.steps.items };
+
+    ghost errors = { λ _. [] };
+
+    fn step(&mut self, step: StrStep) -> Result<(), FrontError> {
+        self.steps.push(step)?;
+        Ok(())
+    }
+}
+
+fn enter(kind: SyntaxKind) -> StrStep {
+    StrStep::Enter { kind }
+}
+
+fn token(kind: SyntaxKind, start: u32, end: u32) -> StrStep {
+    StrStep::Token { kind, start, end }
+}
+
+// The steps of a grammar for the kinds of " a ;", and where its trivia stands between them.
+#[test]
+fn trivia_between_steps(rt: HostRuntime) -> Result<(), Fail> {
+    let lexed = LexedStr::new(rt.alloc(), " a ;").expect(&rt, "memory");
+    let input = lexed.to_input(rt.alloc())?;
+    assert!(rt; input.len() == 2);
+    assert!(rt; input.kind(0).to_raw() == Number::IDENT);
+    assert!(rt; input.kind(1).to_raw() == Number::SEMICOLON);
+    let mut output = Output::new(rt.alloc());
+    output.enter(SyntaxKind::SOURCE_FILE)?;
+    output.enter(SyntaxKind::ERROR)?;
+    output.error(10)?;
+    output.token(SyntaxKind::IDENT)?;
+    output.token(SyntaxKind::SEMICOLON)?;
+    output.exit()?;
+    output.exit()?;
+    let mut sink = ListSink {
+        steps: Vec::new(rt.alloc()),
+    };
+    let all = lexed.intersperse_trivia(&output, &mut sink)?;
+    assert!(rt; all);
+    let woven = [
+        enter(SyntaxKind::SOURCE_FILE),
+        token(SyntaxKind::WHITESPACE, 0, 1),
+        enter(SyntaxKind::ERROR),
+        StrStep::Error { number: 10, at: 1 },
+        token(SyntaxKind::IDENT, 1, 2),
+        token(SyntaxKind::WHITESPACE, 2, 3),
+        token(SyntaxKind::SEMICOLON, 3, 4),
+        StrStep::Exit,
+        StrStep::Exit,
+    ];
+    assert_eq!(rt; sink.steps.as_slice(), woven.as_slice());
+    Ok(())
 }
 
 #[test]
