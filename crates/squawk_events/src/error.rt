@@ -1,5 +1,5 @@
 //! The errors of the front end.
-ghost use Rattle.std.specs.Prelude.{◌≡◌, ◌↔◌, IsTrue};
+ghost use Rattle.std.specs.Prelude.{◌≡◌};
 ghost use Rattle.squawk_events.specs.declared.error.FrontError.TheVariants.{OutOfMemory};
 
 use std::alloc::{AllocError, AllocFailed};
@@ -8,14 +8,16 @@ use thiserror::Error;
 /// Why a call of the front end failed.
 #[derive(Clone, Copy, Debug, PartialEq, Eq, Error)]
 pub enum FrontError {
-    /// The text has more than 4294967295 bytes, so its offsets do not fit in a `u32`.
+    /// The text, or the one that the call would return, has more than 4294967295 bytes, so its
+    /// offsets do not fit in a `u32`.
     #[error("too long")]
     TooLong,
     /// An allocation failed.
     #[error("out of memory")]
     OutOfMemory,
     /// The range of bytes that an edit replaces is not one of the text: its start is above its end,
-    /// its end is above the text's length, or one of them is no character boundary.
+    /// its end is above the text's length, or one of them is no character boundary. No call returns
+    /// it yet.
     #[error("bad range")]
     BadRange,
 }
@@ -35,9 +37,3 @@ impl<T: Drop> From<AllocFailed<T>> for FrontError {
         FrontError::from(AllocError)
     }
 }
-
-/// Two errors are equal exactly if they are the same variant. For proofs: the function does
-/// nothing.
-pub fn front_errors_are_equal_if_same()
-    ensures { (a b : FrontError) → IsTrue (⟦<FrontError as PartialEq>⟧.eq a b) ↔ (a ≡ b) }
-{}

@@ -5,6 +5,7 @@
 mod error;
 mod grammar;
 mod input;
+pub mod laws;
 mod limit;
 mod messages;
 mod output;
@@ -14,10 +15,10 @@ mod steps;
 mod tests;
 mod trivia;
 
-pub use error::{FrontError, front_errors_are_equal_if_same};
+pub use error::FrontError;
 pub use grammar::{EntryPoint, Grammar};
 pub use input::Input;
-pub use limit::{LIMIT, limit_is_the_largest_offset};
+pub use limit::LIMIT;
 pub use messages::message;
 pub use output::Output;
 pub use sink::StepSink;

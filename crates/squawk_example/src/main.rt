@@ -1,4 +1,4 @@
-//! Checks a migration: prints its statements and then its errors.
+//! Checks a migration: prints the nodes under its root and then its errors.
 #![tactic(auto)]
 
 use squawk_events::message;

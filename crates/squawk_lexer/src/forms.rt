@@ -1,5 +1,5 @@
-//! The forms of tokens and the prefixes of strings, which the definitions of the grammar go by. For
-//! contracts: no function returns them.
+//! The forms of tokens and the prefixes of strings, which the definitions of the grammar go by.
+//! Public for contracts: no public function returns them.
 
 /// The form of a token: a row of the lexical grammar (`docs/GRAMMAR.md`, "Forms"). The first two
 /// characters of a token decide which form it has.
@@ -30,8 +30,8 @@ pub enum TokenForm {
     Symbol,
 }
 
-/// The prefix of a string or of a quoted identifier, with its letter in either case (4.1.2.1 to
-/// 4.1.2.3, 4.1.2.5).
+/// The prefix of a string or of a quoted identifier, with its letter in either case (PostgreSQL
+/// manual, 4.1.1, 4.1.2.2, 4.1.2.3 and 4.1.2.5; `N'..'` is standard SQL).
 pub enum StringPrefix {
     /// `N'`
     National,

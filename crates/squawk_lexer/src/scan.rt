@@ -101,7 +101,8 @@ fn short_len_until2(a: u8, b: u8, bytes: &[u8]) -> usize
     len
 }
 
-// The same with `memchr`. Not inlined, so that `len_until2` stays small for short runs.
+// The length of that run, found by `memchr`. Not inlined, so that `len_until2` stays small for short
+// runs.
 #[inline(never)]
 fn memchr_len_until2(a: u8, b: u8, bytes: &[u8]) -> usize
     ensures { result ≡ prefix_len (is_neither a b) bytes.now }
@@ -146,8 +147,8 @@ fn is_neither_on_line(a: u8, b: u8, byte: u8) -> bool
     byte != a && byte != b && byte != b'\n' && byte != b'\r'
 }
 
-// The same with `memchr`, not inlined either. The second search reads only what the first one
-// skipped, so both together are linear.
+// The length of that run, found by `memchr`; not inlined either. The second search reads only what
+// the first one skipped, so both together are linear.
 #[inline(never)]
 fn memchr_len_until2_on_line(a: u8, b: u8, bytes: &[u8]) -> usize
     ensures { result ≡ prefix_len (is_neither_on_line a b) bytes.now }

@@ -1,7 +1,7 @@
 -- How a run of the program ends, and when it ends with each error.
 use Rattle.std.specs.Prelude.{ℕ, ◌≡◌, ◌≤◌, ◌<◌, ◌+◌, List, [], length, map, Option, Some, None, Result, Ok, Err, IsOk, IsErr, IfOk, IfErr, OnOk, IfSome, IsSomeAnd, IsUtf8, chars, ⊤}
 use Rattle.std.specs.Io.KnownBytes.{IsAtEnd}
-use Rattle.std.specs.Str.Lossy.{utf8_valid_len}
+use Rattle.std.specs.Str.{IsValidUpTo}
 use Rattle.squawk_events.specs.Limit.{limit}
 use Rattle.squawk_events.specs.declared.error.FrontError.TheVariants.{TooLong, OutOfMemory, BadRange}
 use Rattle.squawk_lexer.specs.Cut.{tokens, token_ends}
@@ -149,7 +149,7 @@ pub record IsInvalidAt (at : ℕ) (command : Result Command RunError) (old new :
   pub reads : ReadsSource command
   pub end : IsReadToEnd command new
   pub input : (bytes : List ℕ) × IsInput command old bytes × IsInvalidText bytes
-      × (at ≡ utf8_valid_len bytes)
+      × IsValidUpTo bytes at
 
 -- one byte more than the limit was taken from the source
 abbrev pub ExceedsLimit : Result Command RunError → (old new : SourceView) → Type 0
@@ -192,7 +192,7 @@ pub record WritesErrorLine (old new : SinkView) (e : RunError) : Type 0 where
 abbrev pub IsParseRefusal : List ℕ → RunError → Type 0
 IsParseRefusal bytes BadWords = ⊥
 IsParseRefusal bytes ReadFault = ⊥
-IsParseRefusal bytes (NotUtf8 at) = IsInvalidText bytes × (at ≡ utf8_valid_len bytes)
+IsParseRefusal bytes (NotUtf8 at) = IsInvalidText bytes × IsValidUpTo bytes at
 IsParseRefusal bytes (Front TooLong) = ⊥
 IsParseRefusal bytes (Front OutOfMemory) = ⊤
 IsParseRefusal bytes (Front BadRange) = ⊥

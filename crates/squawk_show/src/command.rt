@@ -5,13 +5,13 @@ ghost use Rattle.squawk_show.specs.Command.{command_of, make_command, IsWithinPi
 use crate::RunError;
 use crate::made::MAX_PIECES;
 
-/// A command of the program.
+/// A command of the program. Public for contracts: `run` reads it from its words.
 #[derive(Clone, Copy, Debug, PartialEq, Eq)]
 pub enum Command {
     /// Reads a text and writes the report of its tree: the command of an empty command line.
     Report,
-    /// Makes a text of so many pieces, from 1 to 100000, and writes a summary of its tree: the
-    /// words `make` and the number in decimal digits without leading zeros.
+    /// Makes a text of `pieces` pieces, from 1 to 100000, and writes the summary of its tree. Its
+    /// words are `make` and the number in decimal digits, without leading zeros.
     Make { pieces: u32 },
 }
 

@@ -1,5 +1,5 @@
-//! Why a run ends without a report.
-ghost use Rattle.std.specs.Prelude.{◌≡◌, ◌≤◌, ◌↔◌, IsTrue, length};
+//! Why a run fails.
+ghost use Rattle.std.specs.Prelude.{◌≡◌, ◌≤◌, length};
 ghost use Rattle.squawk_events.specs.declared.error.FrontError.TheVariants.{OutOfMemory};
 ghost use Rattle.squawk_show.specs.Outcome.{status_of_error, error_message};
 ghost use Rattle.squawk_show.specs.declared.error.RunError.TheVariants.{Front};
@@ -8,7 +8,7 @@ use squawk_events::FrontError;
 use std::alloc::{AllocError, AllocFailed};
 use thiserror::Error;
 
-/// Why a run ends without a report. It is displayed as its line on standard error without the LF.
+/// Why a run fails. It is displayed as its line on standard error without the LF.
 #[derive(Clone, Copy, Debug, PartialEq, Eq, Error)]
 pub enum RunError {
     /// The words of the command line name no command.
@@ -24,7 +24,8 @@ pub enum RunError {
     /// bad range.
     #[error("{0}")]
     Front(FrontError),
-    /// The script of edits is malformed; `at` is the offset in bytes of its first bad record.
+    /// The script of edits is malformed; `at` is the offset in bytes of its first bad record. No
+    /// command returns it yet.
     #[error("bad script at {at}")]
     BadScript { at: usize },
     /// The sink of the output failed.
@@ -90,8 +91,3 @@ impl<T: Drop> From<AllocFailed<T>> for RunError {
         RunError::Front(FrontError::OutOfMemory)
     }
 }
-
-/// A law, for proofs: two errors are equal exactly if they are the same.
-pub fn run_errors_are_equal_if_same()
-    ensures { (a b : RunError) → IsTrue (⟦<RunError as PartialEq>⟧.eq a b) ↔ (a ≡ b) }
-{}

@@ -1,10 +1,11 @@
-//! The program: it writes the report of the syntax tree of the SQL on standard input.
+//! The program: it writes the report of the SQL on standard input, or a summary of a made text.
 #![tactic(auto)]
 
 mod command;
 mod digits;
 mod edge;
 mod error;
+pub mod laws;
 mod line;
 mod line_buffer;
 mod made;
@@ -19,7 +20,7 @@ mod writing;
 
 pub use command::Command;
 pub use edge::{Failed, MemorySink, MemorySource, ReadSource, Sink, Source, WriteSink};
-pub use error::{RunError, run_errors_are_equal_if_same};
+pub use error::RunError;
 pub use program::{Shown, run};
 pub use reading::read_all;
 pub use report::make_report;

@@ -41,7 +41,7 @@ fn parse_bytes(alloc: Global, bytes: &[u8]) -> Result<Parse, RunError>
     }
 }
 
-// spec.Reads the source to its end, and makes the tree of its text and the report.
+// Reads the source to its end, and makes the tree of its text and the report.
 fn prepare_report<S: Source>(alloc: Global, source: &mut S) -> Result<(Parse, Vec<u8>), RunError>
     ensures prepared { IfOk result (λ r.
         spec.IsPrepared Command.Report (S.view source.old) (S.view source.new) r.0 r.1.items) }
@@ -121,8 +121,8 @@ fn run_command<S: Source, K: Sink>(
 /// that ended.
 ///
 /// `words` are those of the command line without the program's name. Without words the text is what
-/// `source` has left, and the output is the report of its tree. With `make` and a number the text
-/// is made, the output is a summary, and the source is not read. The whole output is made before
+/// `source` has left, and the output is the report of its tree. With `make` and a number from 1 to
+/// 100000 the text is made, the output is a summary, and the source is not read. The whole output is made before
 /// its first byte is written to `out`, and writing allocates nothing. After an error its line is
 /// written to `err`, whose faults change nothing.
 pub fn run<S: Source, K: Sink, E: Sink>(

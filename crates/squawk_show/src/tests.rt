@@ -5,6 +5,8 @@ mod streams;
 
 use crate::{MemorySink, MemorySource, ReadSource, RunError, read_all, run};
 use squawk_events::FrontError;
+use std::alloc::Global;
+use std::process::Abort;
 use std::test::Fail;
 
 const SELECT_ONE: &[u8] = b"0 N source file 0..9\n\
@@ -13,6 +15,50 @@ const SELECT_ONE: &[u8] = b"0 N source file 0..9\n\
     2 T whitespace 6..7\n\
     2 T integer literal 7..8\n\
     2 T `;` 8..9\n";
+
+const LONE_COMMAND: &[u8] = b"0 N source file 0..7\n\
+    1 T whitespace 0..1\n\
+    1 N empty stmt 1..2\n\
+    2 T `;` 1..2\n\
+    1 T whitespace 2..3\n\
+    1 N psql command 3..6\n\
+    2 T psql meta-command 3..6\n\
+    1 T whitespace 6..7\n";
+
+const COMMANDS: &[u8] = b"0 N source file 0..25\n\
+    1 N select 0..25\n\
+    2 T `select` 0..6\n\
+    2 T whitespace 6..7\n\
+    2 T integer literal 7..8\n\
+    2 T whitespace 8..9\n\
+    2 T psql meta-command 9..17\n\
+    2 T psql terminator 17..25\n";
+
+const SEMICOLON_IN_GROUP: &[u8] = b"0 N source file 0..8\n\
+    1 N error 0..7\n\
+    2 T identifier 0..3\n\
+    2 T whitespace 3..4\n\
+    2 N paren expr 4..6\n\
+    3 T `(` 4..5\n\
+    3 T identifier 5..6\n\
+    2 T `;` 6..7\n\
+    1 N error 7..8\n\
+    2 T identifier 7..8\n\
+    E 0..3 unknown statement\n\
+    E 7..8 unknown statement\n";
+
+const MARK_AND_SEMICOLON: &[u8] = b"0 N source file 0..4\n\
+    1 T whitespace 0..3\n\
+    1 N empty stmt 3..4\n\
+    2 T `;` 3..4\n";
+
+const COMMENT_HALF: &[u8] = b"0 N source file 0..3\n\
+    1 T comment 0..3\n\
+    E 0..3 unterminated block comment\n";
+
+const READ_LINE: &[u8] = b"cannot read the input\n";
+
+const WRITE_LINE: &[u8] = b"cannot write the output\n";
 
 // A run: the bytes of the source; of each stream the most bytes of a call, and the calls that fail;
 // the room of the output; and the expected status, output and line on `err`.
@@ -46,75 +92,57 @@ impl<'a> Row<'a> {
     }
 }
 
+// Runs the program without words as a row says.
+fn check_row(rt: &impl Abort, alloc: Global, row: &Row<'_>) -> Result<(), Fail> {
+    let write_err_most = row.write_err.0;
+    assert!(rt; row.read.0 > 0 && row.write.0 > 0);
+    assert!(rt; write_err_most > 0);
+    let mut source = MemorySource::new(alloc, row.input, row.read.0, row.read.1)?;
+    let mut out = MemorySink::new(alloc, row.room, row.write.0, row.write.1)?;
+    let mut err = MemorySink::new(alloc, 1000, write_err_most, row.write_err.1)?;
+    let result = run(alloc, &[], &mut source, &mut out, &mut err);
+    assert_eq!(rt; result.status, row.status, "{}", row.name);
+    assert_eq!(rt; out.taken(), row.out, "{}", row.name);
+    assert_eq!(rt; err.taken(), row.err, "{}", row.name);
+    Ok(())
+}
+
 #[test]
 fn runs_without_words(rt: HostRuntime) -> Result<(), Fail> {
-    let lone_command = b"0 N source file 0..7\n\
-        1 T whitespace 0..1\n\
-        1 N empty stmt 1..2\n\
-        2 T `;` 1..2\n\
-        1 T whitespace 2..3\n\
-        1 N psql command 3..6\n\
-        2 T psql meta-command 3..6\n\
-        1 T whitespace 6..7\n";
-    let commands = b"0 N source file 0..25\n\
-        1 N select 0..25\n\
-        2 T `select` 0..6\n\
-        2 T whitespace 6..7\n\
-        2 T integer literal 7..8\n\
-        2 T whitespace 8..9\n\
-        2 T psql meta-command 9..17\n\
-        2 T psql terminator 17..25\n";
-    let semicolon_in_group = b"0 N source file 0..8\n\
-        1 N error 0..7\n\
-        2 T identifier 0..3\n\
-        2 T whitespace 3..4\n\
-        2 N paren expr 4..6\n\
-        3 T `(` 4..5\n\
-        3 T identifier 5..6\n\
-        2 T `;` 6..7\n\
-        1 N error 7..8\n\
-        2 T identifier 7..8\n\
-        E 0..3 unknown statement\n\
-        E 7..8 unknown statement\n";
-    let mark_and_semicolon = b"0 N source file 0..4\n\
-        1 T whitespace 0..3\n\
-        1 N empty stmt 3..4\n\
-        2 T `;` 3..4\n";
-    let read_line = b"cannot read the input\n";
-    let write_line = b"cannot write the output\n";
     let rows = [
         Row::new("empty_text", b"", 0, b"0 N source file 0..0\n", b""),
         Row::new("select_one", b"select 1;", 0, SELECT_ONE, b""),
-        Row::new("lone_command", b" ;\n\\dt\n", 0, lone_command, b""),
+        Row::new("lone_command", b" ;\n\\dt\n", 0, LONE_COMMAND, b""),
         Row::new(
             "commands_in_statement",
             b"select 1 \\echo x \\gset x_",
             0,
-            commands,
+            COMMANDS,
             b"",
         ),
         Row::new(
             "semicolon_in_group",
             b"foo (a;b",
             0,
-            semicolon_in_group,
+            SEMICOLON_IN_GROUP,
             b"",
         ),
         Row::new(
             "mark_and_semicolon",
             b"\xef\xbb\xbf;",
             0,
-            mark_and_semicolon,
+            MARK_AND_SEMICOLON,
             b"",
         ),
+        Row::new("comment_half", b"/*/", 0, COMMENT_HALF, b""),
         Row::new("not_utf8", b"\x73\xff", 4, b"", b"not UTF-8 at 1\n"),
         Row {
             read: (4, &[2]),
-            ..Row::new("second_read_fails", b"select 1;", 3, b"", read_line)
+            ..Row::new("second_read_fails", b"select 1;", 3, b"", READ_LINE)
         },
         Row {
             write: (1000, &[1]),
-            ..Row::new("first_write_fails", b"select 1;", 7, b"", write_line)
+            ..Row::new("first_write_fails", b"select 1;", 7, b"", WRITE_LINE)
         },
         Row {
             room: 20,
@@ -123,7 +151,7 @@ fn runs_without_words(rt: HostRuntime) -> Result<(), Fail> {
                 b"select 1;",
                 7,
                 b"0 N source file 0..9",
-                write_line,
+                WRITE_LINE,
             )
         },
         Row {
@@ -137,16 +165,7 @@ fn runs_without_words(rt: HostRuntime) -> Result<(), Fail> {
         },
     ];
     for row in &rows {
-        let write_err_most = row.write_err.0;
-        assert!(rt; row.read.0 > 0 && row.write.0 > 0);
-        assert!(rt; write_err_most > 0);
-        let mut source = MemorySource::new(rt.alloc(), row.input, row.read.0, row.read.1)?;
-        let mut out = MemorySink::new(rt.alloc(), row.room, row.write.0, row.write.1)?;
-        let mut err = MemorySink::new(rt.alloc(), 1000, write_err_most, row.write_err.1)?;
-        let result = run(rt.alloc(), &[], &mut source, &mut out, &mut err);
-        assert_eq!(rt; result.status, row.status, "{}", row.name);
-        assert_eq!(rt; out.taken(), row.out, "{}", row.name);
-        assert_eq!(rt; err.taken(), row.err, "{}", row.name);
+        check_row(&rt, rt.alloc(), row)?;
     }
     Ok(())
 }

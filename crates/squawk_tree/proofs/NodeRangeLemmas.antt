@@ -8,27 +8,27 @@ use Rattle.std.proofs.lemmas.Option.{get_or_from_slice_get, slice_get_within, sl
 use Rattle.std.specs.List.{zip}
 use Rattle.squawk_events.specs.declared.steps.StrStep.{StrStep}
 use Rattle.squawk_events.specs.declared.steps.StrStep.TheVariants.{Enter, Token, Exit, Error}
-use Rattle.squawk_tree.specs.NodeRanges.{AreNodeCounts, token_range, node_count, at_nodes, node_ranges, with_ranges}
+use Rattle.squawk_tree.specs.NodeRanges.{AreNodeStepCounts, token_range, node_step_count, at_nodes, node_ranges, with_ranges}
 use Rattle.squawk_tree.specs.Ranges.{node_end, first_offset, other_offsets, ranges, ranges_from}
 use Rattle.squawk_tree.proofs.RangeLemmas.{length_ranges_from}
 
 -- a step counts as one if it is no `Token`, and else as none
 pub count_node : (x : StrStep) (xs : List StrStep) → is_none (token_range x) ≡ true
-    → node_count (x ∷ xs) ≡ suc (node_count xs)
+    → node_step_count (x ∷ xs) ≡ suc (node_step_count xs)
 count_node (Enter kind) xs h = refl
 count_node (Token kind start end) xs h = cc
 count_node Exit xs h = refl
 count_node (Error number offset) xs h = refl
 
 pub count_token : (x : StrStep) (xs : List StrStep) → is_none (token_range x) ≡ false
-    → node_count (x ∷ xs) ≡ node_count xs
+    → node_step_count (x ∷ xs) ≡ node_step_count xs
 count_token (Enter kind) xs h = cc
 count_token (Token kind start end) xs h = refl
 count_token Exit xs h = cc
 count_token (Error number offset) xs h = cc
 
 -- there are no more steps of nodes than steps
-pub node_count_le : (xs : List StrStep) → node_count xs ≤ length xs
+pub node_count_le : (xs : List StrStep) → node_step_count xs ≤ length xs
 node_count_le [] = omega arith
 node_count_le (Enter kind ∷ xs) = let h = node_count_le xs in omega arith
 node_count_le (Token kind start end ∷ xs) = let h = node_count_le xs in omega arith
@@ -41,25 +41,25 @@ suc_plus a b = omega arith
 
 -- the steps of nodes among the first a + b are those among the first a, and among the next b
 pub node_count_split : (a b : ℕ) (xs : List StrStep)
-    → node_count (take (a + b) xs) ≡ node_count (take a xs) + node_count (take b (drop a xs))
-node_count_split zero b xs = ap (λ n. node_count (take n xs)) (let e : 0 + b ≡ b = omega arith in e)
-    ∙ (let e : node_count (take b xs) ≡ 0 + node_count (take b xs) = omega arith in e)
+    → node_step_count (take (a + b) xs) ≡ node_step_count (take a xs) + node_step_count (take b (drop a xs))
+node_count_split zero b xs = ap (λ n. node_step_count (take n xs)) (let e : 0 + b ≡ b = omega arith in e)
+    ∙ (let e : node_step_count (take b xs) ≡ 0 + node_step_count (take b xs) = omega arith in e)
 node_count_split (suc a) zero [] =
-    ap (λ n. node_count (take n [])) (let e : suc a + 0 ≡ suc a = omega arith in e)
+    ap (λ n. node_step_count (take n [])) (let e : suc a + 0 ≡ suc a = omega arith in e)
 node_count_split (suc a) (suc b) [] =
-    ap (λ n. node_count (take n [])) (suc_plus a (suc b))
+    ap (λ n. node_step_count (take n [])) (suc_plus a (suc b))
 node_count_split (suc a) b (Enter kind ∷ xs) =
     let more = node_count_split a b xs in
-    ap (λ n. node_count (take n (Enter kind ∷ xs))) (suc_plus a b) ∙ omega (arith, more)
+    ap (λ n. node_step_count (take n (Enter kind ∷ xs))) (suc_plus a b) ∙ omega (arith, more)
 node_count_split (suc a) b (Token kind start end ∷ xs) =
     let more = node_count_split a b xs in
-    ap (λ n. node_count (take n (Token kind start end ∷ xs))) (suc_plus a b) ∙ more
+    ap (λ n. node_step_count (take n (Token kind start end ∷ xs))) (suc_plus a b) ∙ more
 node_count_split (suc a) b (Exit ∷ xs) =
     let more = node_count_split a b xs in
-    ap (λ n. node_count (take n (Exit ∷ xs))) (suc_plus a b) ∙ omega (arith, more)
+    ap (λ n. node_step_count (take n (Exit ∷ xs))) (suc_plus a b) ∙ omega (arith, more)
 node_count_split (suc a) b (Error number offset ∷ xs) =
     let more = node_count_split a b xs in
-    ap (λ n. node_count (take n (Error number offset ∷ xs))) (suc_plus a b) ∙ omega (arith, more)
+    ap (λ n. node_step_count (take n (Error number offset ∷ xs))) (suc_plus a b) ∙ omega (arith, more)
 
 -- the range of the i-th step, if it is a `Token`
 abbrev pub token_at : List StrStep → ℕ → Option (ℕ × ℕ)
@@ -96,7 +96,7 @@ range_of_token open_nodes at (Error number offset ∷ xs) (suc i) r is =
 -- the element at a step of a node is found by the number of nodes' steps before it
 pub element_of_node : {A : Type 0} (xs : List StrStep) (ys : List A) (i : ℕ)
     → length ys ≡ length xs → token_at xs i ≡ None
-    → slice_get (at_nodes xs ys) (node_count (take i xs)) ≡ slice_get ys i
+    → slice_get (at_nodes xs ys) (node_step_count (take i xs)) ≡ slice_get ys i
 element_of_node [] [] i len none = refl
 element_of_node [] (y ∷ ys) i len none = absurd (omega (arith, len))
 element_of_node (x ∷ xs) [] i len none = absurd (omega (arith, len))
@@ -120,7 +120,7 @@ token_range_is steps i x r at is = range_of_token [] 0 steps i r (token_at_get s
 
 pub node_range_is : (steps : List StrStep) (spans : List (ℕ × ℕ)) (i n : ℕ) (x : StrStep)
     → slice_get steps i ≡ Some x → token_range x ≡ None → spans ≡ node_ranges steps
-    → n ≡ node_count (take i steps) → slice_get spans n ≡ slice_get (ranges steps) i
+    → n ≡ node_step_count (take i steps) → slice_get spans n ≡ slice_get (ranges steps) i
 node_range_is steps spans i n x at none spans_are n_is =
     rw (spans_are, n_is) (element_of_node steps (ranges steps) i (length_ranges_from [] 0 steps)
     (token_at_get steps i x at ∙ none))
@@ -128,7 +128,7 @@ node_range_is steps spans i n x at none spans_are n_is =
 -- the range of a node is among those of nodes
 pub node_range_within : (steps : List StrStep) (spans : List (ℕ × ℕ)) (i n : ℕ) (x : StrStep)
     → i < length steps → slice_get steps i ≡ Some x → token_range x ≡ None
-    → spans ≡ node_ranges steps → n ≡ node_count (take i steps) → n < length spans
+    → spans ≡ node_ranges steps → n ≡ node_step_count (take i steps) → n < length spans
 node_range_within steps spans i n x lt at none spans_are n_is =
     let len = length_ranges_from [] 0 steps in
     slice_get_within spans n (get_or (ranges steps) i (0, 0))
@@ -167,29 +167,29 @@ by_index_push f (x ∷ xs) y are is (suc j) lt =
 
 -- the steps of nodes among the first a steps and those from a to n are those among the first n
 pub node_count_up_to : (a n : ℕ) (xs : List StrStep) → a ≤ n
-    → node_count (take a xs) + node_count (take (n - a) (drop a xs)) ≡ node_count (take n xs)
+    → node_step_count (take a xs) + node_step_count (take (n - a) (drop a xs)) ≡ node_step_count (take n xs)
 node_count_up_to a n xs le =
     let sum : a + (n - a) ≡ n = omega (arith, le) in
-    sym (node_count_split a (n - a) xs) ∙ ap (λ k. node_count (take k xs)) sum
+    sym (node_count_split a (n - a) xs) ∙ ap (λ k. node_step_count (take k xs)) sum
 
 -- the steps of nodes before the i-th step are those that were counted, and those since then
 pub count_and_rest : (steps : List StrStep) (counts : List ℕ) (i rest : ℕ)
-    → AreNodeCounts steps counts → i < length steps
-    → rest ≡ node_count (take (i - i / 64 * 64) (drop (i / 64 * 64) steps))
-    → slice_index_or counts (i / 64) 0 + rest ≡ node_count (take i steps)
+    → AreNodeStepCounts steps counts → i < length steps
+    → rest ≡ node_step_count (take (i - i / 64 * 64) (drop (i / 64 * 64) steps))
+    → slice_index_or counts (i / 64) 0 + rest ≡ node_step_count (take i steps)
 count_and_rest steps counts i rest are lt is =
     let enough = are.enough in
     let below : i / 64 < length counts = omega (arith, enough, lt) in
     let at : 64 * (i / 64) ≡ i / 64 * 64 = omega arith in
     let le : i / 64 * 64 ≤ i = omega arith in
     let counted = get_or_from_slice_get counts (i / 64) _ 0 (are.counts_are (i / 64) below)
-    ∙ ap (λ n. node_count (take n steps)) at in
+    ∙ ap (λ n. node_step_count (take n steps)) at in
     rw (counted, is) (node_count_up_to (i / 64 * 64) i steps le)
 
 -- so that sum is at most i
 pub count_and_rest_le : (steps : List StrStep) (counts : List ℕ) (i rest : ℕ)
-    → AreNodeCounts steps counts → i < length steps
-    → rest ≡ node_count (take (i - i / 64 * 64) (drop (i / 64 * 64) steps))
+    → AreNodeStepCounts steps counts → i < length steps
+    → rest ≡ node_step_count (take (i - i / 64 * 64) (drop (i / 64 * 64) steps))
     → slice_index_or counts (i / 64) 0 + rest ≤ i
 count_and_rest_le steps counts i rest are lt is =
     let sum = count_and_rest steps counts i rest are lt is in
@@ -207,11 +207,11 @@ take_past a n xs le within =
 
 -- one more chunk of steps, which ends after 64 or with the last
 pub node_count_chunk : (at end : ℕ) (xs : List StrStep) (nodes more : ℕ) → at ≤ length xs
-    → end ≡ min (length xs) (at + 64) → nodes ≡ node_count (take at xs)
-    → more ≡ node_count (take (end - at) (drop at xs))
-    → nodes + more ≡ node_count (take (at + 64) xs)
+    → end ≡ min (length xs) (at + 64) → nodes ≡ node_step_count (take at xs)
+    → more ≡ node_step_count (take (end - at) (drop at xs))
+    → nodes + more ≡ node_step_count (take (at + 64) xs)
 node_count_chunk at end xs nodes more within end_is nodes_are more_is =
-    rw (nodes_are, more_is, end_is) (ap (λ ys. node_count (take at xs) + node_count ys)
+    rw (nodes_are, more_is, end_is) (ap (λ ys. node_step_count (take at xs) + node_step_count ys)
     (by (leb (length xs) (at + 64)) refl) ∙ node_count_up_to at (at + 64) xs (omega arith))
   where
     by : (b : Bool) → leb (length xs) (at + 64) ≡ b

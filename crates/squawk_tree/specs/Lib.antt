@@ -11,7 +11,6 @@ pub mod Parses
 -- what contracts of private functions and invariants cite
 pub mod NodeRanges
 pub mod StepRangesModel
-pub mod Kept
 pub mod Spans
 pub mod ChildPass
 pub mod Walk

@@ -14,12 +14,12 @@ token_range Exit = None
 token_range (Error number offset) = None
 
 -- the number of steps of nodes
-abbrev pub node_count : List StrStep → ℕ
-node_count [] = 0
-node_count (Enter kind ∷ xs) = suc (node_count xs)
-node_count (Token kind start end ∷ xs) = node_count xs
-node_count (Exit ∷ xs) = suc (node_count xs)
-node_count (Error number offset ∷ xs) = suc (node_count xs)
+abbrev pub node_step_count : List StrStep → ℕ
+node_step_count [] = 0
+node_step_count (Enter kind ∷ xs) = suc (node_step_count xs)
+node_step_count (Token kind start end ∷ xs) = node_step_count xs
+node_step_count (Exit ∷ xs) = suc (node_step_count xs)
+node_step_count (Error number offset ∷ xs) = suc (node_step_count xs)
 
 -- of a list with an element for each step, those at the steps of nodes
 abbrev pub at_nodes : {A : Type 0} → List StrStep → List A → List A
@@ -35,10 +35,10 @@ abbrev pub node_ranges : List StrStep → List (ℕ × ℕ)
 node_ranges steps = at_nodes steps (ranges steps)
 
 -- for every 64th step, the number of steps of nodes before it
-pub record AreNodeCounts (steps : List StrStep) (counts : List ℕ) : Type 0 where
+pub record AreNodeStepCounts (steps : List StrStep) (counts : List ℕ) : Type 0 where
   pub enough : length steps ≤ 64 * length counts
   pub counts_are : (j : ℕ) → j < length counts
-      → slice_get counts j ≡ Some (node_count (take (64 * j) steps))
+      → slice_get counts j ≡ Some (node_step_count (take (64 * j) steps))
 
 -- the steps with their ranges, where the steps of nodes have the ranges of the second list
 abbrev pub with_ranges : List StrStep → List (ℕ × ℕ) → List (StrStep × (ℕ × ℕ))

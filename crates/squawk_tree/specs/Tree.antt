@@ -6,7 +6,7 @@ use Rattle.squawk_events.specs.declared.steps.ParseError.{ParseError}
 use Rattle.squawk_tree.specs.declared.children.ChildSpan.{ChildSpan}
 use Rattle.squawk_tree.specs.Steps.{is_balanced, has_no_errors, leaves, tiles}
 use Rattle.squawk_tree.specs.ChildSpans.{child_spans}
-use Rattle.squawk_tree.specs.NodeRanges.{node_ranges, AreNodeCounts}
+use Rattle.squawk_tree.specs.NodeRanges.{node_ranges, AreNodeStepCounts}
 
 -- the steps of a tree, the errors in its text, and the length of its text in bytes
 pub record Tree : Type 0 where
@@ -35,9 +35,9 @@ IsRangeOf text range = IsCharBoundary text range.0 × IsCharBoundary text range.
 
 -- what a `Parse` stores: a tree, the ranges of its nodes, counts to find them, and the children of
 -- the root
-pub record IsKept (t : Tree) (spans : List (ℕ × ℕ)) (counts : List ℕ) (children : List ChildSpan)
+pub record IsStored (t : Tree) (spans : List (ℕ × ℕ)) (counts : List ℕ) (children : List ChildSpan)
     : Type 0 where
   pub tree : IsTree t
   pub spans_are : spans ≡ node_ranges t.steps
-  pub counts_are : AreNodeCounts t.steps counts
+  pub counts_are : AreNodeStepCounts t.steps counts
   pub children_are : children ≡ child_spans t.steps

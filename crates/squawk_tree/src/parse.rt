@@ -2,14 +2,13 @@
 ghost use Rattle.std.specs.Prelude.{◌≡◌, ◌≤◌, ◌<◌, All, length, map, slice_get, slice_range, IfOk, IfSome, Some};
 ghost use Rattle.std.specs.List.{zip};
 ghost use Rattle.std.specs.Str.{IsCharBoundary};
-ghost use Rattle.squawk_tree.specs.Kept.{kept_steps, kept_after};
 ghost use Rattle.squawk_tree.specs.ChildSpans.{child_spans, span_child};
 ghost use Rattle.squawk_tree.specs.Ranges.{ranges};
 ghost use Rattle.squawk_tree.specs.Steps.{root_children, without_errors};
 ghost use Rattle.squawk_tree.specs.Tree.{Tree, IsTree, IsErrorWithin, IsRangeOf};
 
 use crate::children::{ChildSpan, child_spans};
-use crate::spans::{counts_of, nodes_before, spans_of, token_range};
+use crate::spans::{counts_of, node_steps_before, spans_of, token_range};
 use crate::step_ranges::{StepRanges, step_ranges};
 use squawk_events::{ParseError, StrStep};
 use std::alloc::{AllocError, Global};
@@ -33,41 +32,22 @@ pub struct Parse {
 }
 
 impl Model for Parse {
-    ghost use Rattle.squawk_tree.specs.Tree.{Tree, IsKept};
+    ghost use Rattle.squawk_tree.specs.Tree.{Tree, IsStored};
 
     ghost Value = { Tree };
 
     ghost view = { λ p. record { steps = p.steps.items; errors = p.errors.items; len = p.len } };
 
-    ghost invariant = { λ p. IsKept
+    ghost invariant = { λ p. IsStored
         (record { steps = p.steps.items; errors = p.errors.items; len = p.len })
         p.spans.items p.counts.items p.children.items };
-}
-
-// Keeps a step for the tree unless it is an `Error`: writes it over the step with index `kept`.
-// Returns the number of steps that are kept then.
-fn keep_step(steps: &mut [StrStep], kept: usize, step: StrStep) -> usize
-    requires { kept < length steps.old }
-    ensures steps { steps.new ≡ kept_steps steps.old kept step }
-    ensures kept { result ≡ kept_after kept step }
-{
-    if let StrStep::Error { .. } = step {
-        return kept;
-    }
-    steps[kept] = step;
-    kept + 1
 }
 
 // Removes the `Error` steps, in place.
 fn remove_errors(steps: &mut Vec<StrStep>)
     ensures { steps.new.items ≡ without_errors steps.old.items }
 {
-    let mut kept = 0;
-    for i in 0..steps.len() {
-        let step = steps[i];
-        kept = keep_step(steps, kept, step);
-    }
-    steps.truncate(kept);
+    steps.retain(|step| !matches!(step, StrStep::Error { .. }));
 }
 
 impl Parse {
@@ -106,7 +86,7 @@ impl Parse {
 
     /// The length of the text in bytes.
     ///
-    /// The second clause holds for every parse: the steps are balanced, no `Error` is among them,
+    /// The clause `tree` holds for every parse: the steps are balanced, no `Error` is among them,
     /// the tokens cover the text from 0 to `len`, and each error lies in the text and has a number
     /// from 1 to 10.
     pub fn len(&self) -> u32
@@ -123,7 +103,10 @@ impl Parse {
         &self.steps
     }
 
-    /// The errors in the text, in order. Each has a number from 1 to 10 and lies in the text.
+    /// The errors in the text. Each has a number from 1 to 10 and lies in the text. In a parse that
+    /// the calls of this crate made they are in the order of the tokens, and at each token first come
+    /// those of the grammar, then the token's faults by number; a `TreeSink` keeps the order in which
+    /// they were pushed.
     pub fn errors(&self) -> &[ParseError]
         ensures errors { result.now ≡ self.now.errors }
         ensures within { All (IsErrorWithin self.now.len) result.now }
@@ -147,12 +130,13 @@ impl Parse {
     {
         match token_range(self.steps[i]) {
             Some(range) => range,
-            None => self.spans[nodes_before(&self.counts, &self.steps, i)],
+            None => self.spans[node_steps_before(&self.counts, &self.steps, i)],
         }
     }
 
     /// The range of a step in bytes, end exclusive: for a `Token` that of the token, for an `Enter`
-    /// and its `Exit` that of the node. Takes constant time.
+    /// and its `Exit` that of the node. `i` is the index of the step, below the number of steps. Takes
+    /// constant time.
     ///
     /// A node begins where the last token before its `Enter` ends, and ends where the last token
     /// before its `Exit` does. Before the first token that offset is 0.
@@ -171,8 +155,9 @@ impl Parse {
         step_ranges(&self.steps, &self.spans)
     }
 
-    /// The part of `text` in the range of a step. `text` is the text of the parse, or any other in
-    /// which both ends of the range are character boundaries. Takes constant time.
+    /// The part of `text` in the range of step `i`, which is below the number of steps. `text` is the
+    /// text of the parse, or any other in which both ends of the range are character boundaries.
+    /// Takes constant time.
     pub fn text<'a>(&self, text: &'a str, i: usize) -> &'a str
         requires step { i < length self.now.steps }
         requires range { IfSome (slice_get (ranges self.now.steps) i) (IsRangeOf text.now) }

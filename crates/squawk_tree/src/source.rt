@@ -41,8 +41,10 @@ fn woven_steps<G: Grammar>(
 
 /// Parses the tokens of a text by a grammar. The only error is `OutOfMemory`.
 ///
-/// Its steps are those of the grammar, less `Error` steps, with the trivia between them. Its errors
-/// are the faults of the tokens and the `Error` steps, token by token.
+/// The steps of the parse are those of the grammar without `Error` steps, with the trivia between
+/// them. Its errors are, at each token, first the `Error` steps at its start, with the token's range
+/// in bytes, and then its faults; `Error` steps at the end of the text come last, with an empty
+/// range.
 pub fn parse_lexed<G: Grammar>(
     alloc: Global,
     lexed: &LexedStr<'_>,
@@ -58,9 +60,9 @@ pub fn parse_lexed<G: Grammar>(
     Ok(Parse::new(alloc, steps, errors, len)?)
 }
 
-/// Parses a text by a grammar; `strings` says how plain strings are read.
+/// Parses a text by a grammar, as `parse_lexed` does; `strings` says how plain strings are read.
 ///
-/// The errors are `TooLong`, exactly if the text has more than `LIMIT` bytes, and `OutOfMemory`.
+/// The errors are `TooLong`, exactly if the text has more than 4294967295 bytes, and `OutOfMemory`.
 /// `TooLong` is returned before anything is allocated.
 pub fn parse_with_in<G: Grammar>(
     alloc: Global,
@@ -102,7 +104,7 @@ fn parse_tokens(
     }
 }
 
-/// Parses a text into statements. `strings` says how plain strings are read, and `division`
+/// Parses a text into statements (`docs/STATEMENTS.md`). `strings` says how plain strings are read, and `division`
 /// whether a semicolon between parentheses ends a statement.
 ///
 /// Each child of the root is a statement, a lone semicolon or psql command, or a leaf: a trivia
@@ -110,7 +112,7 @@ fn parse_tokens(
 /// the text are the faults of its tokens, and one for each statement that does not begin with known
 /// words.
 ///
-/// Every UTF-8 text of at most `LIMIT` bytes parses. The errors are `TooLong`, exactly if the text
+/// Every UTF-8 text of at most 4294967295 bytes parses. The errors are `TooLong`, exactly if the text
 /// is longer, and `OutOfMemory`. `TooLong` is returned before anything is allocated.
 pub fn parse_divided(
     alloc: Global,

@@ -1,6 +1,6 @@
 //! The ranges of the nodes of a tree, and the counts by which they are looked up.
 ghost use Rattle.std.specs.Prelude.{◌≡◌, ◌≤◌, ◌<◌, OnOk, IfOk, IsTrue, length, reverse, take};
-ghost use Rattle.squawk_tree.specs.NodeRanges.{token_range, node_count, node_ranges, AreNodeCounts};
+ghost use Rattle.squawk_tree.specs.NodeRanges.{token_range, node_step_count, node_ranges, AreNodeStepCounts};
 ghost use Rattle.squawk_tree.specs.Spans.{spans_after, open_nodes_after, offset_after, AreBelow};
 ghost use Rattle.squawk_tree.specs.Steps.{is_balanced};
 
@@ -65,7 +65,7 @@ pub(crate) fn spans_of(alloc: Global, steps: &[StrStep]) -> Result<Vec<(u32, u32
     requires { IsTrue (is_balanced steps.now) }
     ensures { IfOk result (λ spans. spans.items ≡ node_ranges steps.now) }
 {
-    let mut spans = Vec::with_capacity(alloc, node_count(steps))?;
+    let mut spans = Vec::with_capacity(alloc, node_step_count(steps))?;
     let mut open_nodes = Vec::new(alloc);
     let mut at = 0;
     for step in steps {
@@ -75,8 +75,8 @@ pub(crate) fn spans_of(alloc: Global, steps: &[StrStep]) -> Result<Vec<(u32, u32
 }
 
 // The number of steps other than `Token`.
-fn node_count(steps: &[StrStep]) -> usize
-    ensures count { result ≡ node_count steps.now }
+fn node_step_count(steps: &[StrStep]) -> usize
+    ensures count { result ≡ node_step_count steps.now }
     ensures few { result ≤ length steps.now }
 {
     let mut count = 0;
@@ -90,7 +90,7 @@ fn node_count(steps: &[StrStep]) -> usize
 
 // For every 64th step, the number of steps other than `Token` before it.
 pub(crate) fn counts_of(alloc: Global, steps: &[StrStep]) -> Result<Vec<usize>, AllocError>
-    ensures { IfOk result (λ counts. AreNodeCounts steps.now counts.items) }
+    ensures { IfOk result (λ counts. AreNodeStepCounts steps.now counts.items) }
 {
     let mut counts = Vec::with_capacity(alloc, steps.len() / STRIDE + 1)?;
     let mut nodes = 0;
@@ -98,18 +98,18 @@ pub(crate) fn counts_of(alloc: Global, steps: &[StrStep]) -> Result<Vec<usize>, 
     while at < steps.len() {
         counts.push(nodes)?;
         let end = steps.len().min(at + STRIDE);
-        nodes += node_count(&steps[at..end]);
+        nodes += node_step_count(&steps[at..end]);
         at += STRIDE;
     }
     Ok(counts)
 }
 
 // The number of steps other than `Token` before the i-th, found from the kept counts.
-pub(crate) fn nodes_before(counts: &[usize], steps: &[StrStep], i: usize) -> usize
-    requires counts { AreNodeCounts steps.now counts.now }
+pub(crate) fn node_steps_before(counts: &[usize], steps: &[StrStep], i: usize) -> usize
+    requires counts { AreNodeStepCounts steps.now counts.now }
     requires step { i < length steps.now }
-    ensures { result ≡ node_count (take i steps.now) }
+    ensures { result ≡ node_step_count (take i steps.now) }
 {
     let counted = i / STRIDE;
-    counts[counted] + node_count(&steps[counted * STRIDE..i])
+    counts[counted] + node_step_count(&steps[counted * STRIDE..i])
 }

@@ -32,7 +32,7 @@ impl<'a> Model for StepRanges<'a> {
     ghost view = { steps_left };
 }
 
-// The steps with their ranges, where those other than `Token` have the ranges of the second list.
+// The steps with their ranges, where those other than `Token` have the ranges in `node_ranges`.
 pub(crate) fn step_ranges<'a>(steps: &'a [StrStep], node_ranges: &'a [(u32, u32)]) -> StepRanges<'a>
     ensures { result ≡ with_ranges steps.now node_ranges.now }
 {

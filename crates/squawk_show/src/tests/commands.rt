@@ -13,73 +13,89 @@ pub(crate) fn command_line(alloc: Global, words: &[&str]) -> Result<Vec<String>,
     Ok(line)
 }
 
-// Words, and what a run with them writes to `out`; without output they are bad words.
+// Words, and what a run with them writes to `out`; `None` for bad words.
 #[derive(Drop)]
 struct Row<'a> {
+    name: &'a str,
     words: &'a [&'a str],
-    out: &'a str,
+    out: Option<&'a str>,
 }
 
 const ROWS: &[Row<'static>] = &[
     Row {
+        name: "make_four",
         words: &["make", "4"],
-        out: "bytes 84 tokens 43 children 10 nodes 4 errors 0\n",
+        out: Some("bytes 84 tokens 43 children 10 nodes 4 errors 0\n"),
     },
     Row {
+        name: "make_one",
         words: &["make", "1"],
-        out: "bytes 10 tokens 5 children 2 nodes 1 errors 0\n",
+        out: Some("bytes 10 tokens 5 children 2 nodes 1 errors 0\n"),
     },
     Row {
+        name: "make_zero",
         words: &["make", "0"],
-        out: "",
+        out: None,
     },
     Row {
+        name: "make_leading_zero",
         words: &["make", "04"],
-        out: "",
+        out: None,
     },
     Row {
+        name: "make_sign",
         words: &["make", "+4"],
-        out: "",
+        out: None,
     },
     Row {
+        name: "make_letter",
         words: &["make", "4a"],
-        out: "",
+        out: None,
     },
     Row {
+        name: "make_empty_word",
         words: &["make", ""],
-        out: "",
+        out: None,
     },
     Row {
+        name: "make_above_its_limit",
         words: &["make", "100001"],
-        out: "",
+        out: None,
     },
     Row {
+        name: "make_beyond_u32",
         words: &["make", "99999999999"],
-        out: "",
+        out: None,
     },
     Row {
+        name: "made_with_number",
         words: &["made", "4"],
-        out: "",
+        out: None,
     },
     Row {
+        name: "make_uppercase",
         words: &["Make", "4"],
-        out: "",
+        out: None,
     },
     Row {
+        name: "make_alone",
         words: &["make"],
-        out: "",
+        out: None,
     },
     Row {
+        name: "made",
         words: &["made"],
-        out: "",
+        out: None,
     },
     Row {
+        name: "make_two_numbers",
         words: &["make", "4", "5"],
-        out: "",
+        out: None,
     },
     Row {
+        name: "select",
         words: &["select"],
-        out: "",
+        out: None,
     },
 ];
 
@@ -90,14 +106,14 @@ fn check_row(rt: &impl Abort, alloc: Global, row: &Row<'_>) -> Result<(), Fail> 
     let mut out = MemorySink::new(alloc, 1000, 1000, &[])?;
     let mut err = MemorySink::new(alloc, 1000, 1000, &[])?;
     let result = run(alloc, &words, &mut source, &mut out, &mut err);
-    let (status, line) = match row.out {
-        "" => (2, "bad words\n"),
-        _ => (0, ""),
+    let (status, written, line) = match row.out {
+        Some(written) => (0, written, ""),
+        None => (2, "", "bad words\n"),
     };
-    assert_eq!(rt; result.status, status, "{:?}", row.words);
-    assert_eq!(rt; out.taken(), row.out.as_bytes(), "{:?}", row.words);
-    assert_eq!(rt; err.taken(), line.as_bytes(), "{:?}", row.words);
-    assert_eq!(rt; source.left(), b"select 1;".as_slice(), "{:?}", row.words);
+    assert_eq!(rt; result.status, status, "{}", row.name);
+    assert_eq!(rt; out.taken(), written.as_bytes(), "{}", row.name);
+    assert_eq!(rt; err.taken(), line.as_bytes(), "{}", row.name);
+    assert_eq!(rt; source.left(), b"select 1;".as_slice(), "{}", row.name);
     Ok(())
 }
 
@@ -112,8 +128,9 @@ fn words_name_commands(rt: HostRuntime) -> Result<(), Fail> {
 #[test]
 fn make_at_its_limit(rt: HostRuntime) -> Result<(), Fail> {
     let row = Row {
+        name: "make_at_its_limit",
         words: &["make", "100000"],
-        out: "bytes 2586113 tokens 1075000 children 250000 nodes 100000 errors 0\n",
+        out: Some("bytes 2586113 tokens 1075000 children 250000 nodes 100000 errors 0\n"),
     };
     check_row(&rt, rt.alloc(), &row)
 }
