@@ -7,7 +7,7 @@
 # there. It goes over the keywords, and over the other words, until it has made ten million calls, and prints the time
 # of the loop, by the clock, divided by their number. The time of the loop itself, with its sum, is in the figure.
 set -eu
-here=$(cd "$(dirname "${BASH_SOURCE[0]}")/.." && pwd)
+here=$(CDPATH='' cd -- "$(dirname -- "${BASH_SOURCE[0]}")/.." && pwd)
 text=$(realpath "${1:-$here/bench/statements.sql}")
 folder=$(mktemp -d)
 trap 'rm -rf "$folder"' EXIT

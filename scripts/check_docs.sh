@@ -6,7 +6,7 @@
 # - Each clause of `run` has its row in docs/PROGRAM.md, and each row its clause.
 # - `./run --help` lists the statuses of docs/PROGRAM.md with their error lines, and besides them its own status 1.
 set -u
-cd "$(dirname "${BASH_SOURCE[0]}")/.." || exit 1
+CDPATH='' cd -- "$(dirname -- "${BASH_SOURCE[0]}")/.." || exit 1
 failed=0
 
 differs() {
