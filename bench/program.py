@@ -1,0 +1,174 @@
+#!/usr/bin/env python3
+"""Measures the program, and any second one beside it: processor time, speed and peak memory.
+
+Use: program.py [--times N] [--other PROGRAM] [--program PROGRAM] [--tables NAMES] [FILE..]
+
+Each FILE is a SQL text; without one, statements.sql beside this script is repeated up to 10 MB. The program is the one
+that ./run builds, which is built first if need be; PROGRAM is any other that reads SQL on standard input. Each row is the
+least of N runs (5 if nothing is said), which take turns between the two programs. Their output goes to /dev/null.
+
+NAMES are one or more of these, with commas between them; all of them if nothing is said:
+  texts     the files, and the program's own `make 100000`
+  growth    the first file, 1, 2, 4 and 8 times, with the ratio of the time to that of half the text
+  hostile   texts of 20 MB that repeat what is bad for a lexer or a tree, and a group 100000 deep
+
+Time is user and system time of the process. Memory is its largest resident set; Linux counts in what
+this script has in memory, some 15 MB, so the figure says nothing below that.
+"""
+import argparse
+import os
+import pathlib
+import subprocess
+import sys
+import tempfile
+
+HERE = pathlib.Path(__file__).resolve().parent
+BUILT = HERE.parent / "crates/squawk_show/out/squawk_show"
+MB = 1000000
+
+# What a hostile text begins with, and what it repeats.
+HOSTILE = {
+    ";": ("", ";"),
+    "(": ("", "("),
+    "()": ("", "()"),
+    "a+": ("", "a+"),
+    "'": ("", "'"),
+    "unclosed '": ("'", "''"),
+    "$a$": ("", "$a$"),
+    "$b$ in $a$": ("$a$", "$b$ "),
+    "/*": ("", "/*"),
+    "*/ /*": ("", "*/ /*"),
+    "two-byte letters": ("", "\u00e4"),
+    "two-byte words": ("", "\u00e4 "),
+    "digits": ("", "1"),
+    "control characters": ("", "\x01"),
+    "$1a": ("", "$1a "),
+    "psql arguments": ("\\set ", "a 'b' "),
+    "psql commands": ("", "\\g\n"),
+    "current_timestamp": ("", "current_timestamp "),
+    "create or replace": ("", "create or replace "),
+    "select 1;": ("", "select 1;\n"),
+}
+
+
+def repeated(start, piece, size):
+    """The bytes of a text of about this size, in parts of about 100 KB."""
+    yield start.encode()
+    piece = piece.encode()
+    count = MB // 10 // len(piece) + 1
+    for _ in range(size // (count * len(piece)) + 1):
+        yield piece * count
+
+
+def nested(depth):
+    """The bytes of a statement with groups in one another."""
+    yield b"select "
+    yield b"(" * depth
+    yield b"1"
+    yield b")" * depth
+    yield b";"
+
+
+def parts_of(path):
+    """The bytes of a file, in parts."""
+    with open(path, "rb") as file:
+        while part := file.read(MB):
+            yield part
+
+
+def cost(program, words, path):
+    """The processor time in seconds and the peak memory in bytes of one run."""
+    with open(path, "rb") as source, open(os.devnull, "wb") as sink:
+        process = subprocess.Popen([program, *words], stdin=source, stdout=sink)
+        _, status, usage = os.wait4(process.pid, 0)
+    process.returncode = os.waitstatus_to_exitcode(status)
+    if process.returncode != 0:
+        sys.exit(f"program.py: {program} ended with {process.returncode}")
+    return usage.ru_utime + usage.ru_stime, usage.ru_maxrss * 1024
+
+
+def least_costs(programs, words, path, times):
+    """The least time and the least memory of each program, which take turns."""
+    runs = [[cost(program, words, path) for program in programs] for _ in range(times)]
+    return [(min(run[i][0] for run in runs), min(run[i][1] for run in runs)) for i in range(len(programs))]
+
+
+def row(name, size, costs):
+    """A line of a table: what the first program costs, and the second, as ratios of the first to the second."""
+    (time, memory), *others = costs
+    line = f"{name:20} {size / MB:8.2f} MB {time:7.3f} s {size / MB / time:6.1f} MB/s {memory / MB:8.1f} MB {memory / size:6.1f}x"
+    for other_time, other_memory in others:
+        line += f" | {other_time:7.3f} s {other_memory / MB:8.1f} MB | time {time / other_time:5.2f} memory {memory / other_memory:5.2f}"
+    return line
+
+
+class Bench:
+    """Runs the programs on texts, each of which it writes to a file, and prints a row for each."""
+
+    def __init__(self, programs, times, folder):
+        self.programs = programs
+        self.times = times
+        self.path = pathlib.Path(folder) / "text"
+
+    def measure(self, name, parts, half=None):
+        """Prints the row of a text, with the ratio to the time of half of it. Returns the time of the first program."""
+        with open(self.path, "wb") as file:
+            for part in parts:
+                file.write(part)
+        costs = least_costs(self.programs, [], self.path, self.times)
+        time = costs[0][0]
+        note = "" if half is None else f" | {time / half:.2f} times the time of half"
+        print(row(name, self.path.stat().st_size, costs) + note, flush=True)
+        return time
+
+    def texts(self, files):
+        for path in files:
+            self.measure(path.name, parts_of(path))
+        summary = subprocess.run([self.programs[0], "make", "100000"], capture_output=True, check=True).stdout
+        costs = least_costs(self.programs[:1], ["make", "100000"], os.devnull, self.times)
+        print(row("make 100000", int(summary.split()[1]), costs), flush=True)
+
+    def growth(self, files):
+        path = files[0]
+        half = None
+        for times in 1, 2, 4, 8:
+            parts = (part for _ in range(times) for part in parts_of(path))
+            half = self.measure(f"{path.name} {times}x", parts, half)
+
+    def hostile(self, _files):
+        for name, (start, piece) in HOSTILE.items():
+            self.measure(name, repeated(start, piece, 20 * MB))
+        self.measure("100000 deep", nested(100000))
+
+
+def repeated_statements(folder):
+    """A file with statements.sql, repeated up to 10 MB."""
+    path = pathlib.Path(folder) / "statements.sql"
+    statements = (HERE / "statements.sql").read_bytes()
+    with open(path, "wb") as file:
+        for _ in range(10 * MB // len(statements)):
+            file.write(statements)
+    return path
+
+
+def main():
+    parser = argparse.ArgumentParser(description=__doc__, formatter_class=argparse.RawDescriptionHelpFormatter)
+    parser.add_argument("files", metavar="FILE", nargs="*", type=pathlib.Path)
+    parser.add_argument("--times", metavar="N", type=int, default=5)
+    parser.add_argument("--program", metavar="PROGRAM")
+    parser.add_argument("--other", metavar="PROGRAM")
+    parser.add_argument("--tables", metavar="NAMES", default="texts,growth,hostile")
+    words = parser.parse_args()
+    if words.program is None:
+        subprocess.run([HERE.parent / "run", "make", "1"], stdout=subprocess.DEVNULL, check=True)
+    programs = [words.program or str(BUILT)] + ([words.other] if words.other else [])
+    with tempfile.TemporaryDirectory() as folder:
+        files = words.files or [repeated_statements(folder)]
+        bench = Bench(programs, words.times, folder)
+        for table in words.tables.split(","):
+            print(f"\n{table}")
+            getattr(bench, table)(files)
+
+
+if __name__ == "__main__":
+    main()
