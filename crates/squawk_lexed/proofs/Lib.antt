@@ -3,6 +3,7 @@ pub mod StoredLemmas
 pub mod PrefixLemmas
 pub mod KeptLemmas
 pub mod WeaveLemmas
+pub mod WeaveSteps
 pub mod PartLemmas
 mod PlacedLemmas
 mod GivenLemmas

@@ -61,11 +61,10 @@ prefix_then old mid now xs ys first (n, is) =
     ap length first in omega arith)
 
 -- some of what is left
-pub prefix_on : {A : Type 0} (old mid now xs ys w : List A) → mid ++ (xs ++ ys) ≡ old ++ w
+pub prefix_on : {A : Type 0} (old mid now xs w : List A) → mid ++ xs ≡ old ++ w
     → length old ≤ length mid → AppendsPrefix mid now xs → AppendsPrefix old now w
-prefix_on old mid now xs ys w so_far le (n, is) =
-    prefix_as now (mid ++ take n xs) (drop n xs ++ ys) old w is
-    (append_assoc mid (take n xs) (drop n xs ++ ys)
-    ∙ ap (λ zs. mid ++ zs) (sym (append_assoc (take n xs) (drop n xs) ys)
-    ∙ ap (λ zs. zs ++ ys) (take-append-drop n xs)) ∙ so_far)
+prefix_on old mid now xs w so_far le (n, is) =
+    prefix_as now (mid ++ take n xs) (drop n xs) old w is
+    (append_assoc mid (take n xs) (drop n xs)
+    ∙ ap (λ zs. mid ++ zs) (take-append-drop n xs) ∙ so_far)
     (let e = length-append mid (take n xs) in omega arith)

@@ -1,6 +1,6 @@
 -- The weave: the steps of a grammar with the ranges of their tokens, and with trivia between them.
 -- `WeaveLaws` says of the result what it is.
-use Rattle.std.specs.Prelude.{ℕ, ◌+◌, ◌==◌, Bool, true, false, IsTrue, not, ◌&&◌, List, [], ◌∷◌, ◌++◌, drop, if◌then◌else◌}
+use Rattle.std.specs.Prelude.{ℕ, ◌+◌, ◌==◌, Bool, true, false, IsTrue, ◌&&◌, List, [], ◌∷◌, ◌++◌, drop, if◌then◌else◌}
 use Rattle.squawk_events.specs.Kinds.{is_trivia_kind}
 use Rattle.squawk_events.specs.Lawful.{token_kinds}
 use Rattle.squawk_events.specs.declared.steps.Step.{Step}
@@ -98,19 +98,6 @@ remaining_tokens ts xs = ts
 -- whether each token is emitted
 abbrev pub all_emitted : List LexedToken → List Step → Bool
 all_emitted ts steps = is_empty (remaining_tokens ts steps)
-
--- whether there is a token for a step
-abbrev pub has_token_for : List LexedToken → Step → Bool
-has_token_for ts (Enter kind) = true
-has_token_for ts (Token kind) = not (is_empty (after_leading_trivia ts))
-has_token_for ts Exit = true
-has_token_for ts (Error number) = true
-
--- whether there are tokens for all steps
-abbrev pub have_tokens_for : List LexedToken → List Step → Bool
-have_tokens_for ts [] = true
-have_tokens_for ts (x ∷ xs) = has_token_for ts x
-    && have_tokens_for (tokens_after_step (is_empty xs) ts x) xs
 
 -- whether the first list begins with the second
 abbrev pub begins_with : List ℕ → List ℕ → Bool

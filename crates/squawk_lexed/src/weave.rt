@@ -2,19 +2,21 @@
 ghost use Rattle.std.specs.Prelude.{◌≡◌, ◌^◌, ◌<◌, ◌≤◌, ◌+◌, [], ◌∷◌, ◌++◌, length, OnOk, OnErr, IfOk, IfErr, IsTrue, drop};
 ghost use Rattle.squawk_events.specs.Lawful.{is_balanced};
 ghost use Rattle.squawk_events.specs.Refusals.{IsOutOfMemory};
-ghost use Rattle.squawk_lexed.specs.Weave.{KindsAgree, all_emitted, leading_trivia, leading_trivia_end, after_leading_trivia, weave_step, offset_after_step, tokens_after_step, has_token_for, have_tokens_for, weave, weave_from, remaining_from, is_empty};
+ghost use Rattle.squawk_lexed.specs.Weave.{KindsAgree, all_emitted, leading_trivia, leading_trivia_end, after_leading_trivia, weave, weave_from, remaining_from, is_empty};
+ghost use Rattle.squawk_lexed.specs.WeavePosition.{weave_left, IsTokenNext, IsPosition, IsAfter};
 ghost use Rattle.squawk_lexed.specs.LexedText.{total_len};
 ghost use Rattle.squawk_lexed.specs.Prefixes.{AppendsPrefix};
 ghost use Rattle.squawk_events.specs.declared.steps.Step.TheVariants.{Enter};
 
-use crate::lexed::LexedStr;
+use crate::lexed::{KindAndLen, LexedStr};
 use squawk_events::{FrontError, Output, Step, StepSink, StrStep, is_trivia};
 use squawk_kinds::SyntaxKind;
 
-// The index of the next token to emit, and the byte at which it starts.
+// The indices of the step and of the token that come next, and the byte at which the token starts.
 #[derive(Clone, Copy)]
-struct Position {
-    index: usize,
+pub(crate) struct Position {
+    step: usize,
+    token: usize,
     at: u32,
 }
 
@@ -24,97 +26,162 @@ fn emit_leading_trivia<K: StepSink>(
     from: Position,
     sink: &mut K,
 ) -> Result<Position, FrontError>
-    requires within { from.index ≤ length lexed.now.tokens }
-    requires small { from.at + total_len (drop from.index lexed.now.tokens) < 2 ^ 32 }
+    requires within { from.token ≤ length lexed.now.tokens }
+    requires small { from.at + total_len (drop from.token lexed.now.tokens) < 2 ^ 32 }
     ensures ok { OnOk result (K.steps sink.new
-        ≡ K.steps sink.old ++ leading_trivia from.at (drop from.index lexed.now.tokens)) }
-    ensures left { IfOk result (λ to. drop to.index lexed.now.tokens
-        ≡ after_leading_trivia (drop from.index lexed.now.tokens)) }
+        ≡ K.steps sink.old ++ leading_trivia from.at (drop from.token lexed.now.tokens)) }
+    ensures left { IfOk result (λ to. drop to.token lexed.now.tokens
+        ≡ after_leading_trivia (drop from.token lexed.now.tokens)) }
     ensures at { IfOk result (λ to.
-        to.at ≡ leading_trivia_end from.at (drop from.index lexed.now.tokens)) }
-    ensures same_end { IfOk result (λ to. to.at + total_len (drop to.index lexed.now.tokens)
-        ≡ from.at + total_len (drop from.index lexed.now.tokens)) }
-    ensures within { IfOk result (λ to. to.index ≤ length lexed.now.tokens) }
+        to.at ≡ leading_trivia_end from.at (drop from.token lexed.now.tokens)) }
+    ensures same_end { IfOk result (λ to. to.at + total_len (drop to.token lexed.now.tokens)
+        ≡ from.at + total_len (drop from.token lexed.now.tokens)) }
+    ensures same_step { IfOk result (λ to. to.step ≡ from.step) }
+    ensures forward { IfOk result (λ to. from.token ≤ to.token) }
+    ensures within { IfOk result (λ to. to.token ≤ length lexed.now.tokens) }
     ensures prefix { OnErr result (AppendsPrefix (K.steps sink.old) (K.steps sink.new)
-        (leading_trivia from.at (drop from.index lexed.now.tokens))) }
+        (leading_trivia from.at (drop from.token lexed.now.tokens))) }
+    ensures grows { length (K.steps sink.old) ≤ length (K.steps sink.new) }
     ensures errors { K.errors sink.new ≡ K.errors sink.old }
     ensures refusals { IfErr result IsOutOfMemory }
 {
-    let mut index = from.index;
+    let mut token = from.token;
     let mut at = from.at;
-    while index < lexed.len() && is_trivia(lexed.kind_and_len(index).kind) {
-        let end = at + lexed.kind_and_len(index).len;
+    while token < lexed.len() && is_trivia(lexed.kind_and_len(token).kind) {
+        let KindAndLen { kind, len } = lexed.kind_and_len(token);
+        let end = at + len;
         sink.step(StrStep::Token {
-            kind: lexed.kind_and_len(index).kind,
+            kind,
             start: at,
             end,
         })?;
         at = end;
-        index += 1;
+        token += 1;
     }
-    Ok(Position { index, at })
+    Ok(Position {
+        step: from.step,
+        token,
+        at,
+    })
 }
 
-// Emits a step. Pending trivia goes before an `Enter`, a `Token` and the last `Exit`. Returns the
-// position after the tokens that were emitted.
-fn emit_step<K: StepSink>(
+// Emits the trivia that comes next, and then an `Enter` or the last `Exit`.
+fn emit_after_trivia<K: StepSink>(
     lexed: &LexedStr<'_>,
     from: Position,
-    step: Step,
-    last: bool,
+    step: StrStep,
     sink: &mut K,
 ) -> Result<Position, FrontError>
-    requires within { from.index ≤ length lexed.now.tokens }
-    requires small { from.at + total_len (drop from.index lexed.now.tokens) < 2 ^ 32 }
-    requires enough { IsTrue (has_token_for (drop from.index lexed.now.tokens) step) }
-    ensures ok { OnOk result (K.steps sink.new
-        ≡ K.steps sink.old ++ weave_step last from.at (drop from.index lexed.now.tokens) step) }
-    ensures left { IfOk result (λ to. drop to.index lexed.now.tokens
-        ≡ tokens_after_step last (drop from.index lexed.now.tokens) step) }
+    requires within { from.token ≤ length lexed.now.tokens }
+    requires small { from.at + total_len (drop from.token lexed.now.tokens) < 2 ^ 32 }
+    requires not_last { from.step + 1 < 2 ^ 64 }
+    ensures ok { OnOk result (K.steps sink.new ≡ K.steps sink.old
+        ++ (leading_trivia from.at (drop from.token lexed.now.tokens) ++ step ∷ [])) }
+    ensures left { IfOk result (λ to. drop to.token lexed.now.tokens
+        ≡ after_leading_trivia (drop from.token lexed.now.tokens)) }
     ensures at { IfOk result (λ to.
-        to.at ≡ offset_after_step last from.at (drop from.index lexed.now.tokens) step) }
-    ensures same_end { IfOk result (λ to. to.at + total_len (drop to.index lexed.now.tokens)
-        ≡ from.at + total_len (drop from.index lexed.now.tokens)) }
-    ensures within { IfOk result (λ to. to.index ≤ length lexed.now.tokens) }
+        to.at ≡ leading_trivia_end from.at (drop from.token lexed.now.tokens)) }
+    ensures same_end { IfOk result (λ to. to.at + total_len (drop to.token lexed.now.tokens)
+        ≡ from.at + total_len (drop from.token lexed.now.tokens)) }
+    ensures next_step { IfOk result (λ to. to.step ≡ from.step + 1) }
+    ensures forward { IfOk result (λ to. from.token ≤ to.token) }
+    ensures within { IfOk result (λ to. to.token ≤ length lexed.now.tokens) }
     ensures prefix { OnErr result (AppendsPrefix (K.steps sink.old) (K.steps sink.new)
-        (weave_step last from.at (drop from.index lexed.now.tokens) step)) }
+        (leading_trivia from.at (drop from.token lexed.now.tokens) ++ step ∷ [])) }
+    ensures grows { length (K.steps sink.old) ≤ length (K.steps sink.new) }
     ensures errors { K.errors sink.new ≡ K.errors sink.old }
     ensures refusals { IfErr result IsOutOfMemory }
 {
-    match step {
-        Step::Enter { kind } => {
-            let to = emit_leading_trivia(lexed, from, sink)?;
-            sink.step(StrStep::Enter { kind })?;
-            Ok(to)
-        }
-        Step::Token { kind } => {
-            let to = emit_leading_trivia(lexed, from, sink)?;
-            let end = to.at + lexed.kind_and_len(to.index).len;
-            sink.step(StrStep::Token {
-                kind,
-                start: to.at,
-                end,
-            })?;
-            Ok(Position {
-                index: to.index + 1,
-                at: end,
-            })
-        }
-        Step::Exit if last => {
-            let to = emit_leading_trivia(lexed, from, sink)?;
-            sink.step(StrStep::Exit)?;
-            Ok(to)
+    let to = emit_leading_trivia(lexed, from, sink)?;
+    sink.step(step)?;
+    Ok(Position {
+        step: to.step + 1,
+        token: to.token,
+        at: to.at,
+    })
+}
+
+// Emits the token that comes next, trivia or not, before or for a `Token` step. One token a call
+// keeps the loop over the steps free of a branch on trivia, which is hard to predict.
+fn emit_token<K: StepSink>(
+    lexed: &LexedStr<'_>,
+    steps: &[Step],
+    from: Position,
+    sink: &mut K,
+) -> Result<Position, FrontError>
+    requires small { total_len lexed.now.tokens < 2 ^ 32 }
+    requires position { IsPosition lexed.now.tokens steps.now from }
+    requires step { from.step < length steps.now }
+    requires token { IsTokenNext steps.now from }
+    ensures ok { IfOk result (λ to. K.steps sink.new ++ weave_left lexed.now.tokens steps.now to
+        ≡ K.steps sink.old ++ weave_left lexed.now.tokens steps.now from) }
+    ensures after { IfOk result (IsAfter lexed.now.tokens steps.now from) }
+    ensures err { OnErr result (K.steps sink.new ≡ K.steps sink.old) }
+    ensures grows { length (K.steps sink.old) ≤ length (K.steps sink.new) }
+    ensures errors { K.errors sink.new ≡ K.errors sink.old }
+    ensures refusals { IfErr result IsOutOfMemory }
+{
+    let KindAndLen { kind, len } = lexed.kind_and_len(from.token);
+    let end = from.at + len;
+    sink.step(StrStep::Token {
+        kind,
+        start: from.at,
+        end,
+    })?;
+    let next = Position {
+        step: from.step,
+        token: from.token + 1,
+        at: end,
+    };
+    if is_trivia(kind) {
+        return Ok(next);
+    }
+    Ok(Position {
+        step: from.step + 1,
+        ..next
+    })
+}
+
+// Emits what comes next: a token, or a step with the trivia before it. Trivia goes before an
+// `Enter`, a `Token` and the last `Exit`.
+fn emit_next<K: StepSink>(
+    lexed: &LexedStr<'_>,
+    steps: &[Step],
+    from: Position,
+    sink: &mut K,
+) -> Result<Position, FrontError>
+    requires small { total_len lexed.now.tokens < 2 ^ 32 }
+    requires position { IsPosition lexed.now.tokens steps.now from }
+    requires step { from.step < length steps.now }
+    ensures ok { IfOk result (λ to. K.steps sink.new ++ weave_left lexed.now.tokens steps.now to
+        ≡ K.steps sink.old ++ weave_left lexed.now.tokens steps.now from) }
+    ensures after { IfOk result (IsAfter lexed.now.tokens steps.now from) }
+    ensures prefix { OnErr result (AppendsPrefix (K.steps sink.old) (K.steps sink.new)
+        (weave_left lexed.now.tokens steps.now from)) }
+    ensures grows { length (K.steps sink.old) ≤ length (K.steps sink.new) }
+    ensures errors { K.errors sink.new ≡ K.errors sink.old }
+    ensures refusals { IfErr result IsOutOfMemory }
+{
+    let next = Position {
+        step: from.step + 1,
+        ..from
+    };
+    match steps[from.step] {
+        Step::Token { .. } => emit_token(lexed, steps, from, sink),
+        Step::Enter { kind } => emit_after_trivia(lexed, from, StrStep::Enter { kind }, sink),
+        Step::Exit if next.step == steps.len() => {
+            emit_after_trivia(lexed, from, StrStep::Exit, sink)
         }
         Step::Exit => {
             sink.step(StrStep::Exit)?;
-            Ok(from)
+            Ok(next)
         }
         Step::Error { number } => {
             sink.step(StrStep::Error {
                 number,
                 at: from.at,
             })?;
-            Ok(from)
+            Ok(next)
         }
     }
 }
@@ -125,7 +192,7 @@ fn emit_rest<K: StepSink>(
     rest: &[Step],
     sink: &mut K,
 ) -> Result<bool, FrontError>
-    requires enough { IsTrue (have_tokens_for lexed.now.tokens rest.now) }
+    requires agree { KindsAgree lexed.now.tokens rest.now }
     ensures ok { OnOk result (K.steps sink.new
         ≡ K.steps sink.old ++ weave_from 0 lexed.now.tokens rest.now) }
     ensures all { IfOk result (λ all. all ≡ is_empty (remaining_from lexed.now.tokens rest.now)) }
@@ -135,11 +202,15 @@ fn emit_rest<K: StepSink>(
     ensures refusals { IfErr result IsOutOfMemory }
 {
     let count = lexed.len();
-    let mut position = Position { index: 0, at: 0 };
-    for k in 0..rest.len() {
-        position = emit_step(lexed, position, rest[k], k + 1 == rest.len(), sink)?;
+    let mut position = Position {
+        step: 0,
+        token: 0,
+        at: 0,
+    };
+    while position.step < rest.len() {
+        position = emit_next(lexed, rest, position, sink)?;
     }
-    Ok(position.index == count)
+    Ok(position.token == count)
 }
 
 // The kind of the root of balanced steps.

@@ -1,11 +1,11 @@
 use Rattle.std.proofs.Common.{refl}
-use Rattle.squawk_lexed.proofs.WeaveLemmas.{enough_for_rest, prefix_root, on_err}
+use Rattle.squawk_lexed.proofs.WeaveLemmas.{agree_for_rest, prefix_root, on_err}
 use Rattle.squawk_lexed.proofs.lexed.LexedStr.intersperse_trivia.Goals as goal
 
 pub emit_rest-requires : goal.emit_rest-requires
 emit_rest-requires g c = record {
-  enough =
-      enough_for_rest c.args.self.now.tokens _ c.args.output.now c.steps-steps.result.now
+  agree =
+      agree_for_rest c.args.self.now.tokens _ c.args.output.now c.steps-steps.result.now
       c.root_of.result refl c.steps-steps.ensures c.root_of.ensures c.requires.tokens;
 }
 
