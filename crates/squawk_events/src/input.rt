@@ -32,6 +32,13 @@ impl Input {
         }
     }
 
+    /// Returns the list of these kinds, without allocating.
+    pub fn from_kinds(kinds: Vec<SyntaxKind>) -> Input
+        ensures { result ≡ kinds.items }
+    {
+        Input { kinds }
+    }
+
     /// Appends a kind. Fails only if memory runs out, and then leaves the list unchanged.
     pub fn push(&mut self, kind: SyntaxKind) -> Result<(), FrontError>
         ensures ok { OnOk result (self.new ≡ self.old ++ kind ∷ []) }

@@ -74,6 +74,16 @@ fn kinds_of_an_input(rt: HostRuntime) {
     assert_eq!(rt; input.kinds().len(), 2);
 }
 
+#[test]
+fn input_from_kinds(rt: HostRuntime) -> Result<(), AllocError> {
+    let kinds = vec![in rt.alloc(); SyntaxKind::IDENT, SyntaxKind::SEMICOLON]?;
+    let input = Input::from_kinds(kinds);
+    assert_eq!(rt; input.len(), 2);
+    assert_eq!(rt; input.kind(0), SyntaxKind::IDENT);
+    assert_eq!(rt; input.kind(1), SyntaxKind::SEMICOLON);
+    Ok(())
+}
+
 // A node with one token and an error.
 fn one_token(alloc: Global) -> Result<Output, FrontError> {
     let mut output = Output::new(alloc);

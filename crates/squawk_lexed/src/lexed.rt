@@ -80,18 +80,20 @@ pub(crate) struct KindAndLen {
     pub(crate) len: u32,
 }
 
-// The kinds that are not trivia.
+// The kinds that are not trivia. Each kind is appended, and trivia removed again: so the compiler
+// makes no branch on trivia, which would be hard to predict.
 fn without_trivia(alloc: Global, kinds: &[SyntaxKind]) -> Result<Input, FrontError>
     ensures ok { IfOk result (λ input. input ≡ without_trivia kinds.now) }
     ensures refusals { IfErr result IsOutOfMemory }
 {
-    let mut input = Input::new(alloc);
+    let mut kept = Vec::new(alloc);
     for i in 0..kinds.len() {
-        if !is_trivia(kinds[i]) {
-            input.push(kinds[i])?;
+        kept.push(kinds[i])?;
+        if is_trivia(kinds[i]) {
+            kept.pop();
         }
     }
-    Ok(input)
+    Ok(Input::from_kinds(kept))
 }
 
 impl<'a> LexedStr<'a> {

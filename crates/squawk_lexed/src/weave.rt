@@ -21,6 +21,7 @@ pub(crate) struct Position {
 }
 
 // Emits the trivia that the tokens from `from` on begin with. Returns the position after it.
+#[inline(always)]
 fn emit_leading_trivia<K: StepSink>(
     lexed: &LexedStr<'_>,
     from: Position,
@@ -66,6 +67,7 @@ fn emit_leading_trivia<K: StepSink>(
 }
 
 // Emits the trivia that comes next, and then an `Enter` or the last `Exit`.
+#[inline(always)]
 fn emit_after_trivia<K: StepSink>(
     lexed: &LexedStr<'_>,
     from: Position,
@@ -103,6 +105,7 @@ fn emit_after_trivia<K: StepSink>(
 
 // Emits the token that comes next, trivia or not, before or for a `Token` step. One token a call
 // keeps the loop over the steps free of a branch on trivia, which is hard to predict.
+#[inline(always)]
 fn emit_token<K: StepSink>(
     lexed: &LexedStr<'_>,
     steps: &[Step],
@@ -128,22 +131,16 @@ fn emit_token<K: StepSink>(
         start: from.at,
         end,
     })?;
-    let next = Position {
-        step: from.step,
+    Ok(Position {
+        step: from.step + usize::from(!is_trivia(kind)),
         token: from.token + 1,
         at: end,
-    };
-    if is_trivia(kind) {
-        return Ok(next);
-    }
-    Ok(Position {
-        step: from.step + 1,
-        ..next
     })
 }
 
 // Emits what comes next: a token, or a step with the trivia before it. Trivia goes before an
 // `Enter`, a `Token` and the last `Exit`.
+#[inline(always)]
 fn emit_next<K: StepSink>(
     lexed: &LexedStr<'_>,
     steps: &[Step],

@@ -3,4 +3,4 @@ use Rattle.squawk_events.specs.Kinds.{without_trivia}
 use Rattle.squawk_lexed.proofs.lexed.without_trivia.Given as goal
 
 abbrev pub invariant-loop-i : goal.invariant-loop-i
-invariant-loop-i l = l.input ++ without_trivia (drop l.i l.kinds) ≡ without_trivia l.kinds
+invariant-loop-i l = l.kept.items ++ without_trivia (drop l.i l.kinds) ≡ without_trivia l.kinds
