@@ -23,12 +23,35 @@ use std::alloc::Global;
 use std::marker::Model;
 use std::ops::Range;
 
+// The length of a token and the trivia around it, as it is in most SQL: the room that is reserved.
+const BYTES_PER_TOKEN: usize = 4;
+
 // The lists of a lexed text while it grows.
 #[derive(Drop)]
 struct Lists {
     kinds: Vec<SyntaxKind>,
     starts: Vec<u32>,
     errors: Vec<LexError>,
+}
+
+impl Lists {
+    // Empty lists with room for this many tokens. If that much memory cannot be had, they grow as
+    // needed.
+    fn with_room(alloc: Global, tokens: usize) -> Lists
+        ensures kinds { result.kinds.items ≡ [] }
+        ensures starts { result.starts.items ≡ [] }
+        ensures errors { result.errors.items ≡ [] }
+    {
+        let mut kinds = Vec::new(alloc);
+        let mut starts = Vec::new(alloc);
+        let _ = kinds.reserve(tokens);
+        let _ = starts.reserve(tokens);
+        Lists {
+            kinds,
+            starts,
+            errors: Vec::new(alloc),
+        }
+    }
 }
 
 // Appends a token with this text, which begins at byte `at`.
@@ -80,19 +103,19 @@ pub(crate) struct KindAndLen {
     pub(crate) len: u32,
 }
 
-// The kinds that are not trivia. Each kind is appended, and trivia removed again: so the compiler
-// makes no branch on trivia, which would be hard to predict.
+// The kinds that are not trivia. Each kind is stored, and the next one in its place if it is trivia:
+// a branch on trivia would be hard to predict.
 fn without_trivia(alloc: Global, kinds: &[SyntaxKind]) -> Result<Input, FrontError>
     ensures ok { IfOk result (λ input. input ≡ without_trivia kinds.now) }
     ensures refusals { IfErr result IsOutOfMemory }
 {
-    let mut kept = Vec::new(alloc);
+    let mut kept = vec![in alloc; SyntaxKind::EOF; kinds.len()]?;
+    let mut count = 0;
     for i in 0..kinds.len() {
-        kept.push(kinds[i])?;
-        if is_trivia(kinds[i]) {
-            kept.pop();
-        }
+        kept[count] = kinds[i];
+        count += usize::from(!is_trivia(kinds[i]));
     }
+    kept.truncate(count);
     Ok(Input::from_kinds(kept))
 }
 
@@ -114,11 +137,7 @@ impl<'a> LexedStr<'a> {
             return Err(FrontError::TooLong);
         }
         flags_lie_within();
-        let mut lists = Lists {
-            kinds: Vec::new(alloc),
-            starts: Vec::new(alloc),
-            errors: Vec::new(alloc),
-        };
+        let mut lists = Lists::with_room(alloc, text.len() / BYTES_PER_TOKEN);
         let mut at = 0;
         for token in tokenize_in(text, strings) {
             let end = at + token.len as usize;
@@ -168,11 +187,7 @@ impl<'a> LexedStr<'a> {
         ensures refusals { IfErr result IsOutOfMemory }
     {
         flags_lie_within();
-        let mut lists = Lists {
-            kinds: Vec::new(alloc),
-            starts: Vec::new(alloc),
-            errors: Vec::new(alloc),
-        };
+        let mut lists = Lists::with_room(alloc, tokens.len());
         let mut from = at;
         for i in 0..tokens.len() {
             let token = tokens[i];

@@ -11,10 +11,10 @@ pub loop-token-init : goal.loop-token-init
 loop-token-init c =
     let tokens_are = c.into_iter-token-iterator.ensures.into_iter_gives in
     record {
-      kinds = rw (c.new.ensures.items, tokens_are, c.tokenize_in-token-items.ensures.tokens) refl;
-      starts = rw (c.new-2.ensures.items, tokens_are, c.tokenize_in-token-items.ensures.tokens)
+      kinds = rw (c.with_room-lists.ensures.kinds, tokens_are, c.tokenize_in-token-items.ensures.tokens) refl;
+      starts = rw (c.with_room-lists.ensures.starts, tokens_are, c.tokenize_in-token-items.ensures.tokens)
           refl;
-      errors = rw (c.new-3.ensures.items, tokens_are, c.tokenize_in-token-items.ensures.tokens)
+      errors = rw (c.with_room-lists.ensures.errors, tokens_are, c.tokenize_in-token-items.ensures.tokens)
           refl;
       cut = rw (tokens_are, c.tokenize_in-token-items.ensures.tokens)
           (c.flags_lie_within.ensures.cut c.args.strings (chars c.args.text.now));
