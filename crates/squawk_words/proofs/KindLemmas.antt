@@ -162,10 +162,11 @@ kind_of_apart pairs others text kind all e =
     ∙ not_true _ (found_passes (is_apart others) pairs text kind all found)
 
 -- a kind that is found in a table is found among the pairs that the table has
-pub in_pairs : (kinds : List ℕ) (pairs : List (List ℕ × ℕ)) (text : List ℕ) (kind : Option ℕ)
-    → kind ≡ kind_of (pairs_of kinds) text
-    → pairs_of kinds ≡ pairs → kind ≡ kind_of pairs text
-in_pairs kinds pairs text kind found same = found ∙ ap (λ ps. kind_of ps text) same
+pub in_pairs : (kinds : List ℕ) (pairs : List (List ℕ × ℕ)) (bytes text : List ℕ)
+    (kind : Option ℕ)
+    → kind ≡ kind_of (pairs_of kinds) bytes
+    → pairs_of kinds ≡ pairs → bytes ≡ text → kind ≡ kind_of pairs text
+in_pairs kinds pairs bytes text kind found same is = found ∙ (λ i. kind_of (same i) (is i))
 
 -- whether the kind of the pair has no role in the division into statements
 abbrev pub pair_is_other : List ℕ × ℕ → Bool

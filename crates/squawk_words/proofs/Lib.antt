@@ -1,9 +1,10 @@
 pub mod CategoryLemmas
 pub mod FlagTests
 pub mod FlagsAgree
+pub mod HashTests
 pub mod KindLemmas
 pub mod SearchLemmas
-pub mod TableTests
 pub mod Spelling
+pub mod TableTests
 pub mod WordOrder
 pub mod WordTables

@@ -1,16 +1,46 @@
--- What a comparison with one word of a sorted table says of the other words.
-use Rattle.std.proofs.Common.{◌≡◌, ◌≢◌, ℕ, ◌+◌, ◌<◌, ◌≤◌, List, ◌∷◌, length, get_or, slice_index, Option, None, Some, IsNone, IfSome, ◌↔◌, Less, Greater, refl, sym, ap, subst, ◌∙◌, arith, inl, inr, le_antisymm}
-use Rattle.std.specs.Cmp.Lexicographic.{slice_cmp}
-use Rattle.std.specs.Ordering.{nat_cmp, ordering_reverse}
+-- What the slot of a text says of the words of a table.
+use Rattle.std.proofs.Common.{◌≡◌, ◌≢◌, ℕ, zero, suc, ◌+◌, ◌*◌, ◌/◌, ◌-◌, ◌%◌, ◌<◌, ◌≤◌, ◌⊎◌, Bool, true, false, List, [], ◌∷◌, length, get_or, slice_index, nat_lt, if◌then◌else◌, Option, None, Some, IsNone, IfSome, ◌↔◌, Less, refl, sym, ap, subst, ◌∙◌, ⊎_elim, arith, inl, inr, le_antisymm}
+use Rattle.std.specs.Char.{to_ascii_lowercase}
 use Rattle.std.specs.Str.{str_to_ascii_lowercase}
 use Rattle.std.proofs.lemmas.Bool.{cases_lt}
-use Rattle.std.proofs.lemmas.Cmp.{nat_list_cmp_total}
 use Rattle.std.proofs.lemmas.List.{length-map}
+use Rattle.squawk_words.specs.WordHash.{HasSlots, letter_at, slot_of}
 use Rattle.squawk_words.specs.WordTable.{word_of, pairs_of, IsWordTable, IsInRange}
-use Rattle.squawk_words.specs.Words.{word_cmp}
 use Rattle.squawk_words.specs.KindOf.{kind_of, IsWord}
-use Rattle.squawk_words.proofs.WordOrder.{differs_if, word_cmp_bytes}
+use Rattle.squawk_words.proofs.WordOrder.{differs_if}
 use Rattle.squawk_words.proofs.KindLemmas.{kind_of_at, kind_of_missing}
+
+-- a letter has its number in uppercase and lowercase
+number_if : (below above : Bool) (b : ℕ)
+    → (if below then b else if above then b + 32 else b) % 32 ≡ b % 32
+number_if true above b = refl
+number_if false true b = omega arith
+number_if false false b = refl
+
+number_lower : (b : ℕ) → to_ascii_lowercase b % 32 ≡ b % 32
+number_lower b = number_if (nat_lt b 65) (nat_lt b 91) b
+
+letter_lower : (text : List ℕ) (k : ℕ)
+    → letter_at (str_to_ascii_lowercase text) k ≡ letter_at text k
+letter_lower [] k = refl
+letter_lower (b ∷ bs) zero = number_lower b
+letter_lower (b ∷ bs) (suc k) = letter_lower bs k
+
+-- the slot of a text is that of its lowercase form
+slot_lower : (slot_starts text : List ℕ)
+    → slot_of slot_starts (str_to_ascii_lowercase text) ≡ slot_of slot_starts text
+unfolding slot_of
+slot_lower slot_starts text =
+    let len = length-map text to_ascii_lowercase in
+    let at = letter_lower text in
+    λ i. slice_index slot_starts (len i * 32 + at 0 i)
+    + (at 1 i + 7 * at (len i / 2) i + 5 * (at (len i - 2) i + at (len i - 1) i)) % 128
+
+-- a word has the slot of a text that it equals
+slot_same : (slot_starts word text : List ℕ) → IsWord word text
+    → slot_of slot_starts word ≡ slot_of slot_starts text
+slot_same slot_starts word text is =
+    sym (slot_lower slot_starts word) ∙ ap (slot_of slot_starts) is ∙ slot_lower slot_starts text
 
 -- a word is as long as a text that it equals
 word_len : (word text : List ℕ) → IsWord word text → length word ≡ length text
@@ -25,7 +55,7 @@ some_from_raw (Some k) number past same lt = ap Some same
 
 module _ (kinds starts : List ℕ) (table : IsWordTable kinds starts) where
   -- between the starts of a length, all words have that length
-  pub len_between : (size i d : ℕ) → size + 1 < length starts → slice_index starts size ≤ i
+  len_between : (size i d : ℕ) → size + 1 < length starts → slice_index starts size ≤ i
       → i < slice_index starts (size + 1)
       → i < length kinds → length (word_of (get_or kinds i d)) ≡ size
   len_between size i d listed low high lt =
@@ -58,84 +88,16 @@ module _ (kinds starts : List ℕ) (table : IsWordTable kinds starts) where
       (ap (λ w. length w ∷ w) (sym (table.lowercase j 0 (omega arith)) ∙ is ∙ sym word)) in
       kind_of_at kinds text index 0 within before (table.lowercase index 0 within ∙ word)
 
-  -- a word at or before one that is less than the text differs from it
-  pub lower_differs : (index i : ℕ) (text : List ℕ) → i ≤ index → index < length kinds
-      → length (word_of (slice_index kinds index)) ≡ length text
-      → slice_cmp nat_cmp (word_of (slice_index kinds index)) text ≡ Less
-      → word_of (slice_index kinds i) ≢ text
-  lower_differs index i text le lt size less same =
-      let word = word_of (slice_index kinds index) in
-      let below : word_cmp word text ≡ Less = word_cmp_bytes word text size ∙ less in
-      elim (cases_lt i index) [
-        | inl earlier ↦
-            let rise : word_cmp text word ≡ Less =
-            subst (λ w. word_cmp w word ≡ Less) same (table.sorted i index 0 earlier lt) in
-            let clash : Less ≡ Greater = sym below
-            ∙ nat_list_cmp_total.antisymm (length word ∷ word) (length text ∷ text)
-            ∙ ap ordering_reverse rise in
-            cc
-        | inr ge ↦
-            differs_if word text Less less refl
-            (ap (λ n. word_of (slice_index kinds n)) (le_antisymm ge le) ∙ same)
-      ]
+  -- an index in the range of a length is within the table, and its word has this length
+  pub index_within : (size index : ℕ) → size + 1 < length starts
+      → index < slice_index starts (size + 1) → index < length kinds
+  index_within size index listed high = omega (arith, table.starts_within (size + 1) 0 listed)
 
-  -- a word at or after one that is greater than the text differs from it
-  pub higher_differs : (index i : ℕ) (text : List ℕ) → index ≤ i → i < length kinds
-      → length (word_of (slice_index kinds index)) ≡ length text
-      → slice_cmp nat_cmp (word_of (slice_index kinds index)) text ≡ Greater
-      → word_of (slice_index kinds i) ≢ text
-  higher_differs index i text le lt size greater same =
-      let word = word_of (slice_index kinds index) in
-      let above : word_cmp word text ≡ Greater = word_cmp_bytes word text size ∙ greater in
-      elim (cases_lt index i) [
-        | inl later ↦
-            let rise : word_cmp word text ≡ Less =
-            subst (λ w. word_cmp word w ≡ Less) same (table.sorted index i 0 later lt) in
-            let clash : Less ≡ Greater = sym rise ∙ above in
-            cc
-        | inr ge ↦
-            differs_if word text Greater greater refl
-            (ap (λ n. word_of (slice_index kinds n)) (le_antisymm le ge) ∙ same)
-      ]
-
-  module _ (text : List ℕ) (index : ℕ) (listed : length text + 1 < length starts)
-      (low : slice_index starts (length text) ≤ index)
-      (high : index < slice_index starts (length text + 1)) where
-    -- the table has this index, and its word is as long as the text
-    pub index_within : index < length kinds
-    index_within = omega (arith, table.starts_within (length text + 1) 0 listed)
-
-    pub len_at : length (word_of (slice_index kinds index)) ≡ length text
-    len_at = len_between (length text) index 0 listed low high index_within
-
-    -- where the word at this index is less than the text, no word up to it equals the text
-    pub none_below : slice_cmp nat_cmp (word_of (slice_index kinds index))
-        (str_to_ascii_lowercase text) ≡ Less
-        → (i : ℕ) → i ≤ index → word_of (slice_index kinds i) ≢ str_to_ascii_lowercase text
-    none_below less i le =
-        lower_differs index i (str_to_ascii_lowercase text) le index_within
-        (len_at ∙ sym (length-map text _)) less
-
-    -- where it is greater, no word from it on does
-    pub none_above : slice_cmp nat_cmp (word_of (slice_index kinds index))
-        (str_to_ascii_lowercase text) ≡ Greater
-        → (i : ℕ) → index ≤ i → i < length kinds
-        → word_of (slice_index kinds i) ≢ str_to_ascii_lowercase text
-    none_above greater i le lt =
-        higher_differs index i (str_to_ascii_lowercase text) le lt
-        (len_at ∙ sym (length-map text _)) greater
-
-  -- where no word of the text's length equals it, no word does
-  pub look_up_none : (text : List ℕ) → length text + 1 < length starts
-      → ((i : ℕ) → slice_index starts (length text) ≤ i → i < slice_index starts (length text + 1)
-      → i < length kinds
-      → word_of (slice_index kinds i) ≢ str_to_ascii_lowercase text)
-      → kind_of (pairs_of kinds) text ≡ None
-  look_up_none text listed none =
-      kind_of_missing kinds text 0 (λ i lt is.
-      let at : IsInRange starts (length text) i =
-      subst (λ n. IsInRange starts n i) (word_len _ text is) (table.ranges i 0 lt) in
-      none i at.low at.high lt (sym (table.lowercase i 0 lt) ∙ is))
+  pub len_at : (size index : ℕ) → size + 1 < length starts → slice_index starts size ≤ index
+      → index < slice_index starts (size + 1)
+      → length (word_of (slice_index kinds index)) ≡ size
+  len_at size index listed low high =
+      len_between size index 0 listed low high (index_within size index listed high)
 
   -- no word equals a text that is longer than the longest one
   pub look_up_past : (text : List ℕ) → length starts ≤ length text + 1
@@ -146,3 +108,43 @@ module _ (kinds starts : List ℕ) (table : IsWordTable kinds starts) where
       let last = at.listed in
       let size = word_len _ text is in
       absurd (omega (arith, size)))
+
+  module _ (slot_starts slots : List ℕ) (hashed : HasSlots kinds starts slot_starts slots)
+      (text : List ℕ) where
+    -- no word equals a text that is shorter than the shortest one
+    pub look_up_short : length text < 2 → kind_of (pairs_of kinds) text ≡ None
+    look_up_short short =
+        kind_of_missing kinds text 0 (λ i lt is.
+        let long = hashed.long i 0 lt in
+        let size = word_len _ text is in
+        absurd (omega (arith, size, long)))
+
+    module _ (index : ℕ) (slot : index ≡ slice_index slots (slot_of slot_starts text)) where
+      -- a word that equals the text is the one in its slot
+      in_slot : (i : ℕ) → i < length kinds → IsWord (word_of (slice_index kinds i)) text
+          → index ≡ i
+      in_slot i lt is =
+          slot ∙ ap (slice_index slots) (sym (slot_same slot_starts _ text is))
+          ∙ hashed.each i 0 lt
+
+      -- where the index in the slot is not in the range of the text's length, no word equals it
+      pub look_up_outside : (index < slice_index starts (length text))
+          ⊎ (slice_index starts (length text + 1) ≤ index)
+          → kind_of (pairs_of kinds) text ≡ None
+      look_up_outside outside =
+          kind_of_missing kinds text 0 (λ i lt is.
+          let at : IsInRange starts (length text) i =
+          subst (λ n. IsInRange starts n i) (word_len _ text is) (table.ranges i 0 lt) in
+          let same = in_slot i lt is in
+          ⊎_elim
+          (λ below. absurd (omega (arith, same, below, at.low)))
+          (λ past. absurd (omega (arith, same, past, at.high)))
+          outside)
+
+      -- where the word in the slot does not equal the text, no word does
+      pub look_up_differs : word_of (slice_index kinds index) ≢ str_to_ascii_lowercase text
+          → kind_of (pairs_of kinds) text ≡ None
+      look_up_differs differs =
+          kind_of_missing kinds text 0 (λ i lt is.
+          differs (ap (λ n. word_of (slice_index kinds n)) (in_slot i lt is)
+          ∙ sym (table.lowercase i 0 lt) ∙ is))

@@ -3,11 +3,14 @@ use Rattle.std.proofs.Common.{◌≡◌, true, length, refl}
 use Rattle.std.specs.List.{list_all}
 use Rattle.squawk_kinds.specs.Role.{role}
 use Rattle.squawk_names.specs.Texts.{texts}
+use Rattle.squawk_words.specs.WordHash.{HasSlots, slot_of}
 use Rattle.squawk_words.specs.WordTable.{pairs_of, pairs_in, other_than, IsWordTable, IsSpelled}
 use Rattle.squawk_words.specs.Words.{keywords, contextual_keywords}
+use Rattle.squawk_words.specs.declared.slots.TheConstants.{KEYWORD_SLOT_STARTS, KEYWORD_SLOTS, CONTEXTUAL_SLOT_STARTS, CONTEXTUAL_SLOTS}
 use Rattle.squawk_words.specs.declared.tables.Table.{Table}
 use Rattle.squawk_words.specs.declared.tables.Table.TheVariants.{Keywords, ContextualKeywords}
 use Rattle.squawk_words.specs.declared.tables.TheConstants.{KEYWORDS, KEYWORD_STARTS, KEYWORD_TEXT, KEYWORD_OFFSETS, CONTEXTUAL_KEYWORDS, CONTEXTUAL_STARTS, CONTEXTUAL_TEXT, CONTEXTUAL_OFFSETS}
+use Rattle.squawk_words.proofs.HashTests.{are_in_slots, HasSlots_from}
 use Rattle.squawk_words.proofs.KindLemmas.{prints, is_apart, pair_is_other}
 use Rattle.squawk_words.proofs.Spelling.{are_spelled, is_spelled, IsSpelled_from}
 use Rattle.squawk_words.proofs.TableTests.{is_sorted, is_non_decreasing, are_in_ranges, is_in_range, IsWordTable_from}
@@ -44,6 +47,19 @@ unfolding texts are_spelled is_spelled
 IsSpelled_contextual =
     IsSpelled_from CONTEXTUAL_STARTS CONTEXTUAL_TEXT.now CONTEXTUAL_OFFSETS
     (length CONTEXTUAL_TEXT.now) CONTEXTUAL_KEYWORDS refl refl
+
+-- the slots of each have the indices of its words
+pub HasSlots_keywords : HasSlots KEYWORDS KEYWORD_STARTS KEYWORD_SLOT_STARTS KEYWORD_SLOTS
+unfolding texts are_in_slots slot_of
+HasSlots_keywords =
+    HasSlots_from KEYWORD_SLOT_STARTS KEYWORD_SLOTS KEYWORDS KEYWORD_STARTS refl refl refl refl
+
+pub HasSlots_contextual : HasSlots CONTEXTUAL_KEYWORDS CONTEXTUAL_STARTS CONTEXTUAL_SLOT_STARTS
+    CONTEXTUAL_SLOTS
+unfolding texts are_in_slots slot_of
+HasSlots_contextual =
+    HasSlots_from CONTEXTUAL_SLOT_STARTS CONTEXTUAL_SLOTS CONTEXTUAL_KEYWORDS CONTEXTUAL_STARTS
+    refl refl refl refl
 
 -- each kind prints as its word between backquotes
 pub tables_print : (table : Table) → list_all prints (pairs_in table) ≡ true

@@ -7,4 +7,5 @@ pub mod Words
 -- What the contracts of private functions and the model of `KindSet` cite.
 pub mod Flags
 pub mod Members
+pub mod WordHash
 pub mod WordTable

@@ -1,7 +1,7 @@
 //! The keywords of PostgreSQL and PL/pgSQL by their text, and sets of kinds.
 //!
-//! No call allocates. A keyword is found by a binary search among the words of its length, and
-//! membership in a set is one bit of a table.
+//! No call allocates. A perfect hash finds the only word that a text can equal, and membership in a
+//! set is one bit of a table.
 #![tactic(auto)]
 
 ghost use Rattle.std.specs.Prelude.{◌≡◌, ◌↔◌, IsNone, IfSome, OnSome, Some, slice_get};
@@ -15,6 +15,7 @@ mod flags;
 pub mod laws;
 mod search;
 mod sets;
+mod slots;
 mod tables;
 #[cfg(test)]
 mod tests;

@@ -1,7 +1,9 @@
 //! The tables of keywords and contextual keywords, sorted by length and then by bytes.
 ghost use Rattle.std.specs.Prelude.{◌≡◌};
+ghost use Rattle.squawk_words.specs.WordHash.{HasSlots};
 ghost use Rattle.squawk_words.specs.WordTable.{IsWordTable, IsSpelled, pairs_of, pairs_in};
 
+use crate::slots::{CONTEXTUAL_SLOT_STARTS, CONTEXTUAL_SLOTS, KEYWORD_SLOT_STARTS, KEYWORD_SLOTS};
 use squawk_kinds::numbers::Number;
 
 // The names of the tables.
@@ -22,6 +24,10 @@ pub(crate) struct Words {
     pub(crate) text: &'static [u8],
     // The offset in `text` of the first word of each length from 0 on.
     pub(crate) offsets: &'static [u16],
+    // The first slot for each length and first letter.
+    pub(crate) slot_starts: &'static [u16],
+    // The index of the word in each slot.
+    pub(crate) slots: &'static [u16],
 }
 
 // The words of a table.
@@ -30,6 +36,8 @@ pub(crate) fn words_in(table: Table) -> Words
     ensures table { IsWordTable result.kinds.now result.starts.now }
     ensures spelled { IsSpelled result.kinds.now result.starts.now result.text.now
         result.offsets.now }
+    ensures hashed { HasSlots result.kinds.now result.starts.now result.slot_starts.now
+        result.slots.now }
 {
     match table {
         Table::Keywords => Words {
@@ -37,12 +45,16 @@ pub(crate) fn words_in(table: Table) -> Words
             starts: &KEYWORD_STARTS,
             text: KEYWORD_TEXT.as_bytes(),
             offsets: &KEYWORD_OFFSETS,
+            slot_starts: &KEYWORD_SLOT_STARTS,
+            slots: &KEYWORD_SLOTS,
         },
         Table::ContextualKeywords => Words {
             kinds: &CONTEXTUAL_KEYWORDS,
             starts: &CONTEXTUAL_STARTS,
             text: CONTEXTUAL_TEXT.as_bytes(),
             offsets: &CONTEXTUAL_OFFSETS,
+            slot_starts: &CONTEXTUAL_SLOT_STARTS,
+            slots: &CONTEXTUAL_SLOTS,
         },
     }
 }

@@ -63,6 +63,8 @@ fn words_and_sets(rt: HostRuntime) {
             Some(SyntaxKind::PG_EXCEPTION_CONTEXT_KW),
         ),
         ("empty text", "", None, None),
+        ("one letter", "a", None, None),
+        ("the hash of select, another letter", "seject", None, None),
         (
             "longer than every word",
             "aaaaaaaaaaaaaaaaaaaaa",
