@@ -12,7 +12,7 @@ use Rattle.squawk_lexer.specs.Psql.{command_word, word_end}
 -- ---- ASCII
 
 -- Whether all bytes are ASCII.
-abbrev is_ascii : List ℕ → Bool
+abbrev pub is_ascii : List ℕ → Bool
 is_ascii bs = list_all (λ b. ltb b 128) bs
 
 -- The test as a fact.
@@ -25,7 +25,7 @@ ascii_is (b ∷ bs) e = by (ascii_is bs (grind (arith, nat_tests)))
     by more (suc i) = more i
 
 -- `bytes_eq` is equality.
-same_text : (xs ys : List ℕ) → bytes_eq xs ys ≡ true → xs ≡ ys
+pub same_text : (xs ys : List ℕ) → bytes_eq xs ys ≡ true → xs ≡ ys
 same_text [] [] e = refl
 same_text [] (y ∷ ys) e = absurd (cc)
 same_text (x ∷ xs) [] e = absurd (cc)
@@ -34,7 +34,7 @@ same_text (x ∷ xs) (y ∷ ys) e =
     let rest : xs ≡ ys = same_text xs ys (grind (arith, nat_tests)) in
     ap (λ z. z ∷ xs) first ∙ ap (λ zs. y ∷ zs) rest
 
-text_same : (xs : List ℕ) → bytes_eq xs xs ≡ true
+pub text_same : (xs : List ℕ) → bytes_eq xs xs ≡ true
 text_same [] = refl
 text_same (x ∷ xs) = rw (eq-eqb x x refl) (text_same xs)
 

@@ -15,59 +15,62 @@ use crate::cursor::Cursor;
 use crate::quoted::escape_or_quote;
 use crate::token::TokenKind;
 
-// Commands that end the query before them: they send, finish or reset the query buffer.
-const QUERY_ENDING_WORDS: [&str; 18] = [
-    "g",
-    "gx",
-    "gdesc",
-    "gexec",
-    "gset",
-    "getresults",
-    "crosstabview",
-    "watch",
-    "parse",
-    "close_prepared",
-    "sendpipeline",
-    "startpipeline",
-    "syncpipeline",
-    "endpipeline",
-    "flush",
-    "flushrequest",
-    "r",
-    "reset",
-];
+// The first byte of a command's name, or NUL if it has none. The lists of names below are divided by
+// it, so that most names are compared with few others.
+fn first_byte(word: &str) -> u8
+    ensures { result ≡ slice_index word.now 0 }
+{
+    let bytes = word.as_bytes();
+    if bytes.len() > 0 { bytes[0] } else { 0 }
+}
 
-// Commands whose output can go to a pipe.
-const PIPE_WORDS: [&str; 6] = ["g", "gx", "o", "out", "w", "write"];
-
-// Those of `PIPE_WORDS` that can have options in parentheses.
-const OPTION_WORDS: [&str; 2] = ["g", "gx"];
-
-// Commands that take the rest of the line as it is. `copy` is another: see `is_copy`.
-const WHOLE_LINE_WORDS: [&str; 9] = ["!", "ef", "ev", "sf", "sf+", "sv", "sv+", "h", "help"];
-
+// Whether the command ends the query before it: it sends, finishes or resets the query buffer.
 fn is_query_ending(word: &str) -> bool
     ensures { result ≡ words.is_among words.query_ending_words (chars word.now) }
 {
-    QUERY_ENDING_WORDS.contains(&word)
+    match first_byte(word) {
+        b'g' => ["g", "gx", "gdesc", "gexec", "gset", "getresults"].contains(&word),
+        b'c' => ["crosstabview", "close_prepared"].contains(&word),
+        b's' => ["sendpipeline", "startpipeline", "syncpipeline"].contains(&word),
+        b'f' => ["flush", "flushrequest"].contains(&word),
+        b'r' => ["r", "reset"].contains(&word),
+        b'e' => word == "endpipeline",
+        b'p' => word == "parse",
+        b'w' => word == "watch",
+        _ => false,
+    }
 }
 
+// Whether the output of the command can go to a pipe.
 fn takes_pipe(word: &str) -> bool
     ensures { result ≡ words.is_among words.pipe_words (chars word.now) }
 {
-    PIPE_WORDS.contains(&word)
+    match first_byte(word) {
+        b'g' => takes_options(word),
+        b'o' => ["o", "out"].contains(&word),
+        b'w' => ["w", "write"].contains(&word),
+        _ => false,
+    }
 }
 
+// Whether the command can have options in parentheses. Such a command takes a pipe too.
 fn takes_options(word: &str) -> bool
     ensures { result ≡ words.is_among words.option_words (chars word.now) }
 {
-    OPTION_WORDS.contains(&word)
+    ["g", "gx"].contains(&word)
 }
 
+// Whether the command takes the rest of the line as it is. `copy` is another: see `is_copy`.
 fn is_whole_line_word(word: &str) -> bool
     ensures { result ≡ words.is_among words.whole_line_words (chars word.now) }
 {
-    WHOLE_LINE_WORDS.contains(&word)
+    match first_byte(word) {
+        b'!' => word == "!",
+        b'e' => ["ef", "ev"].contains(&word),
+        b's' => ["sf", "sf+", "sv", "sv+"].contains(&word),
+        b'h' => ["h", "help"].contains(&word),
+        _ => false,
+    }
 }
 
 // Like psql, compares this name ASCII case-insensitively.
