@@ -9,6 +9,7 @@ ghost use Rattle.squawk_lexer.specs.Stops.{is_neither, is_neither_on_line};
 ghost use Rattle.squawk_lexer.specs.Bytes.{HasIdentCont};
 
 use crate::classes::{Class, Digits, is_digit_byte, is_in, is_whitespace};
+use crate::lanes::{LANES, ident_cont_run, run_until2};
 use memchr::{memchr, memchr2, memchr3};
 
 // The entry of a byte is `,` if the byte ends an identifier. Otherwise the byte continues one, and
@@ -44,6 +45,21 @@ pub(crate) fn run_len(class: Class, bytes: &[u8]) -> usize
 fn ident_cont_len(bytes: &[u8]) -> usize
     ensures { result ≡ prefix_len is_ident_cont bytes.now }
 {
+    let mut len = 0;
+    while bytes.len() - len >= LANES {
+        let run = ident_cont_run(&bytes[len..]);
+        len += run;
+        if run < LANES {
+            return len;
+        }
+    }
+    len + last_ident_cont_len(&bytes[len..])
+}
+
+// The same, byte by byte, for the last bytes of a text.
+fn last_ident_cont_len(bytes: &[u8]) -> usize
+    ensures { result ≡ prefix_len is_ident_cont bytes.now }
+{
     let table = ident_cont_table();
     let mut len = 0;
     while len < bytes.len() && table[bytes[len] as usize] != b',' {
@@ -72,30 +88,40 @@ fn class_len(class: Class, bytes: &[u8]) -> usize
     len
 }
 
-// A call of `memchr` costs about as much as testing this many bytes one by one. So the first bytes
-// are tested in a loop, and `memchr` is called only if none of them ends the run.
-const BYTES_BEFORE_MEMCHR: usize = 8;
-
 // The number of bytes before the first `a` or `b`, or of all bytes if there is none.
 pub(crate) fn len_until2(a: u8, b: u8, bytes: &[u8]) -> usize
     ensures { result ≡ prefix_len (is_neither a b) bytes.now }
 {
-    let len = short_len_until2(a, b, bytes);
-    if len < BYTES_BEFORE_MEMCHR {
+    let len = near_len_until2(a, b, bytes);
+    if len < LANES {
         return len;
     }
     len + memchr_len_until2(a, b, &bytes[len..])
 }
 
-// The same within the first `BYTES_BEFORE_MEMCHR` bytes.
+// The same within the first `LANES` bytes. An empty run is found without a vector, since texts of
+// many quotes have one at every step.
+fn near_len_until2(a: u8, b: u8, bytes: &[u8]) -> usize
+    ensures within { result ≤ length bytes.now }
+    ensures prefix { result + prefix_len (is_neither a b) (drop result bytes.now)
+        ≡ prefix_len (is_neither a b) bytes.now }
+    ensures whole { result < LANES → result ≡ prefix_len (is_neither a b) bytes.now }
+{
+    if bytes.len() < LANES || bytes[0] == a || bytes[0] == b {
+        return short_len_until2(a, b, bytes);
+    }
+    run_until2(a, b, bytes)
+}
+
+// The same, byte by byte.
 fn short_len_until2(a: u8, b: u8, bytes: &[u8]) -> usize
     ensures within { result ≤ length bytes.now }
     ensures prefix { result + prefix_len (is_neither a b) (drop result bytes.now)
         ≡ prefix_len (is_neither a b) bytes.now }
-    ensures whole { result < BYTES_BEFORE_MEMCHR → result ≡ prefix_len (is_neither a b) bytes.now }
+    ensures whole { result < LANES → result ≡ prefix_len (is_neither a b) bytes.now }
 {
     let mut len = 0;
-    while len < bytes.len() && len < BYTES_BEFORE_MEMCHR && bytes[len] != a && bytes[len] != b {
+    while len < bytes.len() && len < LANES && bytes[len] != a && bytes[len] != b {
         len += 1;
     }
     len
@@ -114,6 +140,10 @@ fn memchr_len_until2(a: u8, b: u8, bytes: &[u8]) -> usize
     };
     first.unwrap_or(bytes.len())
 }
+
+// A call of `memchr` costs about as much as testing this many bytes one by one. So the first bytes
+// are tested in a loop, and `memchr` is called only if none of them ends the run.
+const BYTES_BEFORE_MEMCHR: usize = 8;
 
 // The number of bytes before the first `a`, `b`, LF or CR, or of all bytes if there is none.
 pub(crate) fn len_until2_on_line(a: u8, b: u8, bytes: &[u8]) -> usize

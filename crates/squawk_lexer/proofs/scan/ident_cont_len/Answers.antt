@@ -1,0 +1,20 @@
+use Rattle.std.proofs.Common.{◌≡◌, ◌-◌, length, take, drop, length-drop, arith}
+use Rattle.std.proofs.lemmas.List.{length-take-le}
+use Rattle.std.proofs.lemmas.List.Sums.{prefix_len-le-length}
+use Rattle.squawk_lexer.specs.Classes.{is_ident_cont}
+use Rattle.squawk_lexer.proofs.scan.ident_cont_len.Goals as goal
+
+pub overflow_add-result : goal.overflow_add-result
+overflow_add-result c =
+    let bytes = c.args.bytes.now in
+    let len = c.loop-len.len in
+    let rest = take (length bytes - len) (drop len bytes) in
+    let size : length rest ≡ length bytes - len =
+    length-take-le (length bytes - len) (drop len bytes) (omega (arith, length-drop len bytes)) in
+    omega (
+      arith,
+      size,
+      c.loop-len.invariant.within,
+      c.last_ident_cont_len.ensures,
+      prefix_len-le-length is_ident_cont rest,
+    )
