@@ -4,6 +4,7 @@ use Rattle.std.specs.Prelude.{decimal}
 use Rattle.std.proofs.Math.Seq.{take-add}
 use Rattle.std.proofs.lemmas.List.{take_at, drop_at, take-take, take-append-le, take_rest}
 use Rattle.squawk_show.proofs.DigitLemmas.{decimal_one}
+use Rattle.squawk_show.specs.Report.{line_feed, line_with_text, range_text, space}
 
 -- after the first four bytes of a line were written over: they, and the printed text after them
 pub take_start : (depth letter len : ℕ) (text old : List ℕ) → depth < 10
@@ -29,22 +30,22 @@ join_pieces start a b c d e f from to is_a is_b is_c is_d is_e is_f =
     ∙ append_assoc a (from ++ 46 ∷ 46 ∷ []) to in
     is_f ∙ ap (λ xs. xs ++ 10 ∷ []) (both ∙ ap (λ xs. xs ++ (from ++ (46 ∷ 46 ∷ []) ++ to)) is_a)
 
--- A window was appended to `out`, overwritten by `text`, and cut off after `count` bytes of it.
--- These bytes are `shape` of the window as it was.
+-- A window of `size` bytes was appended to `out`, overwritten by `text`, and cut off after `count`
+-- bytes of it. These bytes are `shape` of the window as it was.
 pub window_overwritten : (shape : List ℕ → List ℕ)
-    (out window seen text post rest now : List ℕ) (old count total : ℕ)
+    (out window seen text post rest now : List ℕ) (old count total size : ℕ)
     → now ≡ take (old + count) (take total ((take old seen ++ (text ++ post)) ++ rest))
-    → seen ≡ out ++ window → old ≡ length out → total ≡ old + 64 → length window ≡ 64
-    → length text ≡ length (take (length seen - old) (drop old seen)) → count ≤ 64
+    → seen ≡ out ++ window → old ≡ length out → total ≡ old + size → length window ≡ size
+    → length text ≡ length (take (length seen - old) (drop old seen)) → count ≤ size
     → take count text ≡ shape (take (length seen - old) (drop old seen))
     → now ≡ out ++ shape window
-window_overwritten shape out window seen text post rest now old count total is_now is_seen is_old
+window_overwritten shape out window seen text post rest now old count total size is_now is_seen is_old
     is_total window_size text_size short written =
     let before : take old seen ≡ out =
     ap (take old) is_seen ∙ take_at out window old (sym is_old) in
     let rest_is : take (length seen - old) (drop old seen) ≡ window = take_rest seen old
     ∙ ap (drop old) is_seen ∙ drop_at out window old (sym is_old) in
-    let size : length text ≡ 64 = text_size ∙ ap length rest_is ∙ window_size in
+    let same_size : length text ≡ size = text_size ∙ ap length rest_is ∙ window_size in
     let line : take count text ≡ shape window = written ∙ ap shape rest_is in
     let all : (take old seen ++ (text ++ post)) ++ rest ≡ out ++ (text ++ (post ++ rest)) =
     ap (λ xs. (xs ++ (text ++ post)) ++ rest) before ∙ append_assoc out (text ++ post) rest
@@ -56,5 +57,36 @@ window_overwritten shape out window seen text post rest now old count total is_n
     ∙ ap (λ xs. xs ++ take count (drop old (out ++ (text ++ (post ++ rest)))))
     (take_at out (text ++ (post ++ rest)) old (sym is_old))
     ∙ ap (λ xs. out ++ take count xs) (drop_at out (text ++ (post ++ rest)) old (sym is_old))
-    ∙ ap (λ xs. out ++ xs) (take-append-le count text (post ++ rest) (omega (arith, size, short))
+    ∙ ap (λ xs. out ++ xs) (take-append-le count text (post ++ rest) (omega (arith, same_size, short))
     ∙ line)
+
+-- a line is the digits of its depth, and what does not depend on the depth
+line_after_depth : (depth letter : ℕ) (text : List ℕ) (range : ℕ × ℕ)
+    → line_with_text depth letter text range ≡ decimal depth
+    ++ ((space ∷ letter ∷ space ∷ []) ++ text ++ (space ∷ []) ++ range_text range
+    ++ (line_feed ∷ []))
+line_after_depth depth letter text range =
+    let ds = decimal depth in
+    let a = space ∷ letter ∷ space ∷ [] in
+    let b = a ++ text in
+    let c = b ++ space ∷ [] in
+    let d = c ++ range_text range in
+    let to_b : (ds ++ a) ++ text ≡ ds ++ b = append_assoc ds a text in
+    let to_c : ((ds ++ a) ++ text) ++ space ∷ [] ≡ ds ++ c =
+    ap (λ xs. xs ++ space ∷ []) to_b ∙ append_assoc ds b (space ∷ []) in
+    let to_d : (((ds ++ a) ++ text) ++ space ∷ []) ++ range_text range ≡ ds ++ d =
+    ap (λ xs. xs ++ range_text range) to_c ∙ append_assoc ds c (range_text range) in
+    ap (λ xs. xs ++ line_feed ∷ []) to_d ∙ append_assoc ds d (line_feed ∷ [])
+
+-- a line that was appended with the last digit of its depth, after the other digits
+pub depth_completed : (depth digit letter : ℕ) (text : List ℕ) (range : ℕ × ℕ)
+    (out upper now : List ℕ) → upper ++ decimal digit ≡ out ++ decimal depth
+    → now ≡ upper ++ line_with_text digit letter text range
+    → now ≡ out ++ line_with_text depth letter text range
+depth_completed depth digit letter text range out upper now digits appended =
+    let rest = (space ∷ letter ∷ space ∷ []) ++ text ++ (space ∷ []) ++ range_text range
+    ++ (line_feed ∷ []) in
+    appended ∙ ap (λ xs. upper ++ xs) (line_after_depth digit letter text range)
+    ∙ sym (append_assoc upper (decimal digit) rest)
+    ∙ ap (λ xs. xs ++ rest) digits ∙ append_assoc out (decimal depth) rest
+    ∙ sym (ap (λ xs. out ++ xs) (line_after_depth depth letter text range))

@@ -32,18 +32,20 @@ IsLeadingTable bound entries = IsTable StartsWithDigits bound entries
 abbrev pub IsTrailingTable : ℕ → List ℕ → Type 0
 IsTrailingTable bound entries = IsTable IsLastFourDigits bound entries
 
--- the digits of a number in two packed groups: `width` bytes of the first, and then bytes of the
--- second up to `len` bytes in all
+-- the digits of a number in three packed groups: `width` bytes of the first, and then bytes of the
+-- others up to `len` bytes in all
 pub record DigitGroups : Type 0 where
   pub leading : ℕ
+  pub middle : ℕ
   pub trailing : ℕ
   pub width : ℕ
   pub len : ℕ
 
--- the groups spell a number
+-- the groups spell a number of at most ten digits
 pub record SpellsNumber (number : ℕ) (groups : DigitGroups) : Type 0 where
   pub narrow : groups.width ≤ 4
   pub ordered : groups.width ≤ groups.len
-  pub short : groups.len ≤ groups.width + 4
-  pub written : take groups.width (u32_bytes groups.leading)
-      ++ take (groups.len - groups.width) (u32_bytes groups.trailing) ≡ decimal number
+  pub short : groups.len ≤ groups.width + 8
+  pub within : groups.len ≤ 10
+  pub written : take groups.width (u32_bytes groups.leading) ++ take (groups.len - groups.width)
+      (u32_bytes groups.middle ++ u32_bytes groups.trailing) ≡ decimal number

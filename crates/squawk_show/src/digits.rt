@@ -4,6 +4,9 @@ ghost use Rattle.squawk_show.specs.Digits as spec;
 
 use std::alloc::{AllocError, Global};
 
+// The numbers of at most four digits are those below.
+const GROUP: u32 = 10_000;
+
 // The ASCII code of a digit.
 fn digit(n: u32) -> u8
     requires { n < 10 }
@@ -101,16 +104,18 @@ pub(crate) struct DigitTables {
 }
 
 // A number with its digits in packed bytes: `width` digits from `leading`, and then digits from
-// `trailing` up to `len` digits in all.
+// `middle` and `trailing` up to `len` digits in all.
 #[derive(Clone, Copy)]
 pub(crate) struct Number {
     pub(crate) value: u32,
     leading: u32,
+    middle: u32,
     trailing: u32,
     width: usize,
     len: usize,
     ghost digits: { spec.SpellsNumber value (record {
       leading = leading;
+      middle = middle;
       trailing = trailing;
       width = width;
       len = len;
@@ -124,6 +129,7 @@ impl Number {
         Number {
             value: 0,
             leading: 48,
+            middle: 0,
             trailing: 0,
             width: 1,
             len: 1,
@@ -138,40 +144,82 @@ impl DigitTables {
         Ok(DigitTables { leading, trailing })
     }
 
-    // A number of at most eight digits, with its digits.
+    // A number of at most four digits.
     #[inline(always)]
-    pub(crate) fn number(&self, value: u32) -> Number
-        requires { value < 100000000 }
+    fn one_group(&self, value: u32) -> Number
+        requires { value < 10000 }
         ensures { result.value ≡ value }
     {
-        if value < 10000 {
-            let width = digit_count(value);
-            let leading = self.leading[value as usize];
-            return Number {
-                value,
-                leading,
-                trailing: 0,
-                width,
-                len: width,
-            };
-        }
-        let high = value / 10000;
-        let width = digit_count(high);
-        let leading = self.leading[high as usize];
-        let trailing = self.trailing[(value % 10000) as usize];
+        let width = digit_count(value);
+        let leading = self.leading[value as usize];
         Number {
             value,
             leading,
-            trailing,
+            middle: 0,
+            trailing: 0,
+            width,
+            len: width,
+        }
+    }
+
+    // A number of five to eight digits.
+    #[inline(always)]
+    fn two_groups(&self, value: u32) -> Number
+        requires { (10000 ≤ value) × (value < 100000000) }
+        ensures { result.value ≡ value }
+    {
+        let high = value / GROUP;
+        let width = digit_count(high);
+        let leading = self.leading[high as usize];
+        let middle = self.trailing[(value % GROUP) as usize];
+        Number {
+            value,
+            leading,
+            middle,
+            trailing: 0,
             width,
             len: width + 4,
+        }
+    }
+
+    // A number of nine or ten digits.
+    fn three_groups(&self, value: u32) -> Number
+        requires { 100000000 ≤ value }
+        ensures { result.value ≡ value }
+    {
+        let upper = value / GROUP;
+        let high = upper / GROUP;
+        let width = digit_count(high);
+        let leading = self.leading[high as usize];
+        let middle = self.trailing[(upper % GROUP) as usize];
+        let trailing = self.trailing[(value % GROUP) as usize];
+        Number {
+            value,
+            leading,
+            middle,
+            trailing,
+            width,
+            len: width + 8,
+        }
+    }
+
+    // A number with its digits.
+    #[inline(always)]
+    pub(crate) fn number(&self, value: u32) -> Number
+        ensures { result.value ≡ value }
+    {
+        if value < 10_000 {
+            self.one_group(value)
+        } else if value < 100_000_000 {
+            self.two_groups(value)
+        } else {
+            self.three_groups(value)
         }
     }
 
     // As `number`, but reuses the digits of `last` if that is the same number.
     #[inline(always)]
     pub(crate) fn number_after(&self, last: Number, value: u32) -> Number
-        requires { value < 100000000 }
         ensures { result.value ≡ value }
     {
         if last.value == value {
@@ -193,16 +241,17 @@ fn put_u32(text: &mut [u8], at: usize, packed: u32)
     text[at..at + 4].copy_from_slice(&packed.to_le_bytes());
 }
 
-// Writes the digits of a number at an offset, and returns the offset after them. It writes eight
-// bytes whatever the number, since two copies of a fixed size are faster than one of any size.
+// Writes the digits of a number at an offset, and returns the offset after them. It writes twelve
+// bytes whatever the number, since copies of a fixed size are faster than one of any size.
 #[inline(always)]
 pub(crate) fn put_number(text: &mut [u8], at: usize, number: Number) -> usize
-    requires { at + 8 ≤ length text.old }
-    ensures near { (at ≤ result) × (result ≤ at + 8) }
+    requires { at + 12 ≤ length text.old }
+    ensures near { (at ≤ result) × (result ≤ at + 10) }
     ensures written { take result text.new ≡ take at text.old ++ decimal number.value }
     ensures same_length { length text.new ≡ length text.old }
 {
     put_u32(text, at, number.leading);
-    put_u32(text, at + number.width, number.trailing);
+    put_u32(text, at + number.width, number.middle);
+    put_u32(text, at + number.width + 4, number.trailing);
     at + number.len
 }

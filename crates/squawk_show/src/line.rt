@@ -1,8 +1,8 @@
 //! The lines of a report.
 //!
-//! Most lines of nodes and leaves have a short depth and short numbers. They are written in place
-//! at the end of the report, by copies of fixed sizes. The others are built in a `LineBuffer`.
-ghost use Rattle.std.specs.Prelude.{◌≡◌, ◌≤◌, ◌+◌, ◌++◌, ◌∷◌, [], ◌<◌, length, take, drop, decimal, OnOk};
+//! Most lines of nodes and leaves have a short text. They are written in place at the end of the
+//! report, by copies of fixed sizes. The others are built in a `LineBuffer`.
+ghost use Rattle.std.specs.Prelude.{◌≡◌, ◌≤◌, ◌+◌, ◌%◌, ◌++◌, ◌∷◌, [], ◌<◌, length, take, drop, decimal, OnOk};
 ghost use Rattle.squawk_show.specs.Report as spec;
 
 use crate::digits::{DigitTables, Number, put_number};
@@ -11,6 +11,12 @@ use squawk_events::{ParseError, message};
 use squawk_kinds::SyntaxKind;
 use squawk_names::name_window;
 use std::alloc::AllocError;
+
+// The most bytes of a printed text whose line fits into its window with any range.
+const MAX_SHORT_TEXT: usize = 35;
+
+// From this depth on a line is built in a `LineBuffer`. No tree of a text is so deep.
+const MAX_SHORT_DEPTH: usize = 10_000_000_000;
 
 // Appends the line of a node or a leaf, whatever its depth and its range.
 fn push_any_line(
@@ -70,7 +76,7 @@ fn put_line(
     start: Number,
     end: Number,
 ) -> usize
-    requires { (length text.old ≡ 64) × ((len ≤ 39) × (depth < 10)) }
+    requires { (length text.old ≡ 64) × ((len ≤ 35) × (depth < 10)) }
     ensures within { result ≤ 64 }
     ensures written { take result text.new ≡ spec.line_with_text depth letter
         (take len (drop 4 text.old)) (start.value, end.value) }
@@ -97,7 +103,7 @@ fn push_short_line(
     start: Number,
     end: Number,
 ) -> Result<(), AllocError>
-    requires { (length window.now ≡ 64) × ((len ≤ 39) × (depth < 10)) }
+    requires { (length window.now ≡ 64) × ((len ≤ 35) × (depth < 10)) }
     ensures { OnOk result (out.new.items ≡ out.old.items ++ spec.line_with_text depth letter
         (take len (drop 4 window.now)) (start.value, end.value)) }
 {
@@ -112,6 +118,36 @@ fn push_short_line(
         end,
     );
     out.truncate(old + count);
+    Ok(())
+}
+
+// Appends the digits of a number.
+#[inline(always)]
+fn push_number(out: &mut Vec<u8>, number: Number) -> Result<(), AllocError>
+    ensures { OnOk result (out.new.items ≡ out.old.items ++ decimal number.value) }
+{
+    let old = out.len();
+    out.extend_from_slice(&[b'0'; 12])?;
+    let count = put_number(&mut out.as_mut_slice()[old..], 0, number);
+    out.truncate(old + count);
+    Ok(())
+}
+
+// Appends all digits of a depth but the last, where there are more.
+#[inline(always)]
+fn push_upper_digits(
+    out: &mut Vec<u8>,
+    tables: &DigitTables,
+    depth: usize,
+) -> Result<(), AllocError>
+    requires { depth < 10000000000 }
+    ensures { OnOk result (out.new.items ++ decimal (depth % 10)
+        ≡ out.old.items ++ decimal depth) }
+{
+    if depth < 10 {
+        return Ok(());
+    }
+    push_number(out, tables.number((depth / 10) as u32))?;
     Ok(())
 }
 
@@ -130,14 +166,13 @@ pub(crate) fn push_line(
     ensures { OnOk result (out.new.items
         ≡ out.old.items ++ spec.report_line depth letter kind range) }
 {
-    if let Some(tables) = tables {
-        if depth < 10 && range.0 < 100_000_000 && range.1 < 100_000_000 {
-            if let Some((window, len)) = name_window(kind.to_raw()) {
-                let start = tables.number_after(last, range.0);
-                let end = tables.number(range.1);
-                push_short_line(out, window, depth, letter, len, start, end)?;
-                return Ok(end);
-            }
+    if let (Some(tables), Some((window, len))) = (tables, name_window(kind.to_raw())) {
+        if len <= MAX_SHORT_TEXT && depth < MAX_SHORT_DEPTH {
+            let start = tables.number_after(last, range.0);
+            let end = tables.number(range.1);
+            push_upper_digits(out, tables, depth)?;
+            push_short_line(out, window, depth % 10, letter, len, start, end)?;
+            return Ok(end);
         }
     }
     push_any_line(out, depth, letter, kind, range)?;

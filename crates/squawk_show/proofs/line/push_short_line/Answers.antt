@@ -12,7 +12,7 @@ returns c =
     omega (arith, c.in_ok-extend_from_slice.ensures.len, c.len-old.ensures, c.requires.0) in
     window_overwritten (λ xs. line_with_text c.args.depth c.args.letter
     (take c.args.len (drop 4 xs)) (c.args.start.value, c.args.end.value))
-    out.items c.args.window.now _ _ _ _ _ _ _ _ c.truncate.ensures.items
+    out.items c.args.window.now _ _ _ _ _ _ _ _ 64 c.truncate.ensures.items
     (c.as_mut_slice.ensures.value ∙ grown) old total c.requires.0
     c.put_line-count.ensures.same_length c.put_line-count.ensures.within
     c.put_line-count.ensures.written

@@ -8,7 +8,8 @@ invariant_of-result c =
       digits = record {
         narrow = let h : 1 ≤ 4 = omega arith in h;
         ordered = let h : 1 ≤ 1 = omega arith in h;
-        short = let h : 1 ≤ 1 + 4 = omega arith in h;
+        short = let h : 1 ≤ 1 + 8 = omega arith in h;
+        within = let h : 1 ≤ 10 = omega arith in h;
         written = sym (decimal_one 0 (omega arith));
       };
     }
