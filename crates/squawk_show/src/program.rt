@@ -52,6 +52,9 @@ fn prepare_report<S: Source>(alloc: Global, source: &mut S) -> Result<(Parse, Ve
 {
     let bytes = read_all(alloc, source, LIMIT)?;
     let parse = parse_bytes(alloc, &bytes)?;
+
+    // The tree does not borrow from the bytes: without them the report needs less memory.
+    drop(bytes);
     let report = make_report(alloc, &parse)?;
     Ok((parse, report))
 }
@@ -64,6 +67,7 @@ fn prepare_summary(alloc: Global, pieces: u32) -> Result<(Parse, Vec<u8>), RunEr
 {
     let text = make_text(alloc, pieces)?;
     let parse = parse_source(alloc, text.as_str())?;
+    drop(text);
     let summary = make_summary(alloc, &parse)?;
     Ok((parse, summary))
 }
