@@ -4,7 +4,8 @@ use Rattle.std.specs.Prelude.{decimal}
 use Rattle.std.proofs.Math.Seq.{take-add}
 use Rattle.std.proofs.lemmas.List.{take_at, drop_at, take-take, take-append-le, take_rest}
 use Rattle.squawk_show.proofs.DigitLemmas.{decimal_one}
-use Rattle.squawk_show.specs.Report.{line_feed, line_with_text, range_text, space}
+use Rattle.squawk_lexer.specs.Classes.{line_feed, space}
+use Rattle.squawk_show.specs.Report.{line_with_text, range_text}
 
 -- after the first four bytes of a line were written over: they, and the printed text after them
 pub take_start : (depth letter len : ℕ) (text old : List ℕ) → depth < 10
@@ -39,8 +40,8 @@ pub window_overwritten : (shape : List ℕ → List ℕ)
     → length text ≡ length (take (length seen - old) (drop old seen)) → count ≤ size
     → take count text ≡ shape (take (length seen - old) (drop old seen))
     → now ≡ out ++ shape window
-window_overwritten shape out window seen text post rest now old count total size is_now is_seen is_old
-    is_total window_size text_size short written =
+window_overwritten shape out window seen text post rest now old count total size is_now is_seen
+    is_old is_total window_size text_size short written =
     let before : take old seen ≡ out =
     ap (take old) is_seen ∙ take_at out window old (sym is_old) in
     let rest_is : take (length seen - old) (drop old seen) ≡ window = take_rest seen old
@@ -57,8 +58,8 @@ window_overwritten shape out window seen text post rest now old count total size
     ∙ ap (λ xs. xs ++ take count (drop old (out ++ (text ++ (post ++ rest)))))
     (take_at out (text ++ (post ++ rest)) old (sym is_old))
     ∙ ap (λ xs. out ++ take count xs) (drop_at out (text ++ (post ++ rest)) old (sym is_old))
-    ∙ ap (λ xs. out ++ xs) (take-append-le count text (post ++ rest) (omega (arith, same_size, short))
-    ∙ line)
+    ∙ ap (λ xs. out ++ xs)
+    (take-append-le count text (post ++ rest) (omega (arith, same_size, short)) ∙ line)
 
 -- a line is the digits of its depth, and what does not depend on the depth
 line_after_depth : (depth letter : ℕ) (text : List ℕ) (range : ℕ × ℕ)

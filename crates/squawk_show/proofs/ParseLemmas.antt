@@ -14,8 +14,8 @@ unfolding tree_of LeavesAreTokens ChildrenAreStatements
 parsed bytes tree valid parses = record {
   text = valid;
   parsed = parses.tree;
-  leaves_of = parses.leaves;
-  children_of = parses.children;
+  leaves = parses.leaves;
+  children = parses.children;
 }
 
 -- the tree that `parse_source` returned for a text of these bytes

@@ -4,19 +4,17 @@ use Rattle.std.specs.Str.{all_ascii_digits, bytes_eq}
 use Rattle.std.specs.Str.Parse.{digits_value}
 use Rattle.std.specs.String.{string_bytes}
 use Rattle.std.specs.declared.alloc.Global.{Global}
+use Rattle.squawk_lexer.specs.Classes.{digit_0}
 use Rattle.squawk_show.specs.Made.{most_pieces}
 use Rattle.squawk_show.specs.declared.command.Command.{Command}
 use Rattle.squawk_show.specs.declared.command.Command.TheVariants.{Report, Make}
 use Rattle.squawk_show.specs.declared.error.RunError.{RunError}
 use Rattle.squawk_show.specs.declared.error.RunError.TheVariants.{BadWords}
 
-abbrev pub digit_zero : ℕ
-digit_zero = 48
-
 -- a number of pieces in decimal digits: the first is not 0, and the number is at most `most_pieces`
 abbrev pub is_piece_count : List ℕ → Bool
 is_piece_count [] = false
-is_piece_count (c ∷ cs) = nat_lt digit_zero c && (all_ascii_digits (c ∷ cs)
+is_piece_count (c ∷ cs) = nat_lt digit_0 c && (all_ascii_digits (c ∷ cs)
     && nat_le (digits_value 10 (c ∷ cs)) most_pieces)
 
 -- the command `make` with this word after it

@@ -1,6 +1,7 @@
 -- The decimal digits of numbers as bytes, in groups of four, each group packed in a `u32`.
 use Rattle.std.specs.Prelude.{ℕ, ◌≡◌, ◌+◌, ◌-◌, ◌<◌, ◌≤◌, ◌/◌, ◌%◌, List, [], ◌∷◌, ◌++◌, length, take, decimal, slice_index}
 use Rattle.std.specs.Int.{w32, to_le_bytes}
+use Rattle.squawk_lexer.specs.Classes.{digit_0}
 
 -- the four bytes of a `u32`, the lowest first
 abbrev pub u32_bytes : ℕ → List ℕ
@@ -9,7 +10,8 @@ u32_bytes packed = to_le_bytes w32 packed
 -- the last four digits of a number, with leading zeros
 abbrev pub last_four_digits : ℕ → List ℕ
 last_four_digits n =
-    (48 + n / 1000 % 10) ∷ (48 + n / 100 % 10) ∷ (48 + n / 10 % 10) ∷ (48 + n % 10) ∷ []
+    (digit_0 + n / 1000 % 10) ∷ (digit_0 + n / 100 % 10) ∷ (digit_0 + n / 10 % 10)
+    ∷ (digit_0 + n % 10) ∷ []
 
 -- the packed bytes start with all digits of a number
 abbrev pub StartsWithDigits : ℕ → ℕ → Type 0

@@ -1,6 +1,6 @@
 -- The text that the command `make` parses: numbered pieces of SQL and psql.
 use Rattle.std.specs.Prelude.{ℕ, zero, suc, ◌%◌, ◌==◌, List, [], ◌∷◌, ◌++◌, codes, decimal, if◌then◌else◌}
-use Rattle.squawk_show.specs.Report.{line_feed}
+use Rattle.squawk_lexer.specs.Classes.{line_feed}
 
 -- the most pieces of a made text
 abbrev pub most_pieces : ℕ

@@ -1,7 +1,7 @@
 -- The status of each error, and its line on standard error.
 use Rattle.std.specs.Prelude.{ℕ, List, [], ◌∷◌, ◌++◌, codes, decimal}
 use Rattle.squawk_events.specs.declared.error.FrontError.TheVariants.{TooLong, OutOfMemory, BadRange}
-use Rattle.squawk_show.specs.Report.{line_feed}
+use Rattle.squawk_lexer.specs.Classes.{line_feed}
 use Rattle.squawk_show.specs.declared.error.RunError.{RunError}
 use Rattle.squawk_show.specs.declared.error.RunError.TheVariants.{BadWords, ReadFault, NotUtf8, Front, BadScript, WriteFault}
 

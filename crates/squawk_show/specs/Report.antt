@@ -4,15 +4,10 @@ use Rattle.squawk_events.specs.Message.{message_of}
 use Rattle.squawk_events.specs.declared.steps.ParseError.{ParseError}
 use Rattle.squawk_events.specs.declared.steps.StrStep.{StrStep}
 use Rattle.squawk_events.specs.declared.steps.StrStep.TheVariants.{Enter, Token, Exit, Error}
+use Rattle.squawk_lexer.specs.Classes.{line_feed, space}
 use Rattle.squawk_names.specs.Texts.{texts}
 use Rattle.squawk_tree.specs.Ranges.{ranges}
 use Rattle.squawk_tree.specs.Tree.{Tree}
-
-abbrev pub space : ℕ
-space = 32
-
-abbrev pub line_feed : ℕ
-line_feed = 10
 
 -- the letter of a line of a node: N
 abbrev pub node_letter : ℕ

@@ -55,8 +55,8 @@ ChildrenAreStatements text tree = root_children tree.steps
 pub record IsParsed (bytes : List ℕ) (tree : Tree) : Type 0 where
   pub text : IsText bytes
   pub parsed : tree ≡ tree_of bytes
-  pub leaves_of : LeavesAreTokens bytes tree
-  pub children_of : ChildrenAreStatements bytes tree
+  pub leaves : LeavesAreTokens bytes tree
+  pub children : ChildrenAreStatements bytes tree
 
 -- Commands: each definition by cases on what the words name
 
@@ -93,8 +93,8 @@ Reads P (Ok Report) source = IsSomeAnd source.left P
 Reads P (Ok (Make pieces)) source = ⊥
 Reads P (Err e) source = ⊥
 
--- what a command parses is UTF-8 within the limit: the bytes that it reads, if these are observable,
--- or a made text
+-- what a command parses is UTF-8 within the limit: the bytes that it reads, if these are
+-- observable, or a made text
 abbrev pub HasText : Result Command RunError → SourceView → Type 0
 HasText (Ok Report) source = IsSomeAnd source.left IsText
 HasText (Ok (Make pieces)) source = ⊤
@@ -210,8 +210,8 @@ IsPrepareRefusal command old new (Front BadRange) = ⊥
 IsPrepareRefusal command old new (BadScript at) = ⊥
 IsPrepareRefusal command old new WriteFault = ⊥
 
--- a command read what it reads of a source, and this is the tree of the text that it parses, and its
--- whole output
+-- a command read what it reads of a source, and this is the tree of the text that it parses, and
+-- its whole output
 pub record IsPrepared (command : Command) (old new : SourceView) (tree : Tree) (output : List ℕ)
     : Type 0 where
   pub tree_of : IsTreeOf (Ok command) old tree

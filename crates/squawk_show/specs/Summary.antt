@@ -2,7 +2,7 @@
 use Rattle.std.specs.Prelude.{ℕ, suc, Bool, true, false, List, [], ◌∷◌, ◌++◌, length, codes, decimal, is_some}
 use Rattle.squawk_events.specs.declared.steps.StrStep.{StrStep}
 use Rattle.squawk_events.specs.declared.steps.StrStep.TheVariants.{Enter, Token, Exit, Error}
-use Rattle.squawk_show.specs.Report.{line_feed}
+use Rattle.squawk_lexer.specs.Classes.{line_feed}
 use Rattle.squawk_tree.specs.Steps.{RootChild, Leaf, Node, leaves, root_children}
 use Rattle.squawk_tree.specs.Tree.{Tree}
 use Rattle.squawk_tree.specs.declared.children.ChildSpan.{ChildSpan}

@@ -3,6 +3,7 @@
 //! Most lines of nodes and leaves have a short text. They are written in place at the end of the
 //! report, by copies of fixed sizes. The others are built in a `LineBuffer`.
 ghost use Rattle.std.specs.Prelude.{◌≡◌, ◌≤◌, ◌+◌, ◌%◌, ◌++◌, ◌∷◌, [], ◌<◌, length, take, drop, decimal, OnOk};
+ghost use Rattle.squawk_lexer.specs.Classes.{space};
 ghost use Rattle.squawk_show.specs.Report as spec;
 
 use crate::digits::{DigitTables, Number, put_number};
@@ -59,7 +60,7 @@ fn put_byte(text: &mut [u8], at: usize, byte: u8) -> usize
 fn put_start(text: &mut [u8], depth: usize, letter: u8)
     requires { (depth < 10) × (4 ≤ length text.old) }
     ensures written { text.new
-        ≡ decimal depth ++ (spec.space ∷ letter ∷ spec.space ∷ []) ++ drop 4 text.old }
+        ≡ decimal depth ++ (space ∷ letter ∷ space ∷ []) ++ drop 4 text.old }
     ensures same_length { length text.new ≡ length text.old }
 {
     text[0..4].copy_from_slice(&[b'0' + depth as u8, b' ', letter, b' ']);

@@ -126,9 +126,9 @@ fn run_command<S: Source, K: Sink>(
 ///
 /// `words` are those of the command line without the program's name. Without words the text is what
 /// `source` has left, and the output is the report of its tree. With `make` and a number from 1 to
-/// 100000 the text is made, the output is a summary, and the source is not read. The whole output is made before
-/// its first byte is written to `out`, and writing allocates nothing. After an error its line is
-/// written to `err`, whose faults change nothing.
+/// 100000 the text is made, the output is a summary, and the source is not read. The whole output
+/// is made before its first byte is written to `out`, and writing allocates nothing. After an error
+/// its line is written to `err`, whose faults change nothing.
 pub fn run<S: Source, K: Sink, E: Sink>(
     alloc: Global,
     words: &[String],

@@ -77,8 +77,8 @@ fn make_step_lines(alloc: Global, parse: &Parse) -> Result<Vec<u8>, AllocError>
     Ok(out)
 }
 
-/// Returns the report of a tree as UTF-8 (`docs/PROGRAM.md`, "The report"): a line for each node and
-/// leaf, in order, and then a line for each error. Fails only if memory runs out.
+/// Returns the report of a tree as UTF-8 (`docs/PROGRAM.md`, "The report"): a line for each node
+/// and leaf, in order, and then a line for each error. Fails only if memory runs out.
 pub fn make_report(alloc: Global, parse: &Parse) -> Result<Vec<u8>, AllocError>
     ensures { IfOk result (λ text. text.items ≡ report_of parse.now) }
 {

@@ -42,10 +42,10 @@ impl Model for MemorySink {
 }
 
 impl MemorySink {
-    /// An empty sink with room for `room` bytes in all. A write takes at most `largest` bytes, which
-    /// must not be 0, and fails if it finds no room left; the calls with the numbers in `failing`
-    /// also fail, and the first call has the number 1. All room is allocated here, so writing
-    /// allocates nothing. The only error is `OutOfMemory`.
+    /// An empty sink with room for `room` bytes in all. A write takes at most `largest` bytes,
+    /// which must not be 0, and fails if it finds no room left; the calls with the numbers in
+    /// `failing` also fail, and the first call has the number 1. All room is allocated here, so
+    /// writing allocates nothing. The only error is `OutOfMemory`.
     pub fn new(
         alloc: Global,
         room: usize,

@@ -40,9 +40,9 @@ impl Model for MemorySource {
 }
 
 impl MemorySource {
-    /// A source of these bytes. A read returns at most `largest` of them, which must not be 0, and the
-    /// calls with the numbers in `failing` fail; the first call has the number 1. The only error is
-    /// `OutOfMemory`.
+    /// A source of these bytes. A read returns at most `largest` of them, which must not be 0, and
+    /// the calls with the numbers in `failing` fail; the first call has the number 1. The only
+    /// error is `OutOfMemory`.
     pub fn new(
         alloc: Global,
         bytes: &[u8],

@@ -7,12 +7,12 @@ use Rattle.squawk_show.proofs.program.run.Goals as goal
 pub returns-in-Ok-clause-leaves : goal.returns-in-Ok-clause-leaves
 returns-in-Ok-clause-leaves g c = let t = c.in-Ok.ensures.ends.tree in
     on_input (λ text. LeavesAreTokens text c.in-Ok.parse) (command_of c.args.words.now)
-    (g.S.Source.view c.args.source.now) t.0 t.1 t.2.leaves_of
+    (g.S.Source.view c.args.source.now) t.0 t.1 t.2.leaves
 
 pub returns-in-Ok-clause-children : goal.returns-in-Ok-clause-children
 returns-in-Ok-clause-children g c = let t = c.in-Ok.ensures.ends.tree in
     on_input (λ text. ChildrenAreStatements text c.in-Ok.parse) (command_of c.args.words.now)
-    (g.S.Source.view c.args.source.now) t.0 t.1 t.2.children_of
+    (g.S.Source.view c.args.source.now) t.0 t.1 t.2.children
 
 pub returns-in-Ok-clause-invalid : goal.returns-in-Ok-clause-invalid
 returns-in-Ok-clause-invalid g c = λ input no_read_fault.
