@@ -7,61 +7,52 @@ use Rattle.squawk_events.specs.declared.steps.Step.{Step}
 use Rattle.squawk_events.specs.declared.steps.Step.TheVariants.{Enter, Token, Exit, Error}
 use Rattle.squawk_events.specs.declared.steps.StrStep.{StrStep}
 use Rattle.squawk_events.specs.declared.steps.StrStep.TheVariants as out
-use Rattle.squawk_lexed.specs.Weave.{kinds_without_trivia, leading_trivia, leading_trivia_end, after_leading_trivia, next_len, is_empty, weave_from, weave}
+use Rattle.squawk_lexed.specs.Weave.{kinds_without_trivia, leading_trivia, leading_trivia_end, after_leading_trivia, next_len, weave_from, weave}
 use Rattle.squawk_lexed.specs.LexedText.{are_sound}
 use Rattle.squawk_lexed.specs.Faults.{faults_within}
 use Rattle.squawk_lexed.specs.LexedToken.{LexedToken}
 use Rattle.squawk_tree.specs.Errors.{error, numbers_at, errors_by_token, errors}
-use Rattle.squawk_tree.specs.Walk.{errors_by_step}
+use Rattle.squawk_tree.specs.Walk.{covers, errors_by_step}
 use Rattle.squawk_lexed.specs.Stored.{errors_at}
 use Rattle.squawk_tree.proofs.LeavesLemmas.{next_of, none_after_trivia, kinds_after_trivia, never_closed}
 
--- whether steps contain all of the tokens from an offset, each `Error` at the start of the next one
-abbrev pub runs : ℕ → List LexedToken → List StrStep → Bool
-runs at ts [] = is_empty ts
-runs at ts (out.Enter kind ∷ xs) = runs at ts xs
-runs at ts (out.Exit ∷ xs) = runs at ts xs
-runs at ts (out.Error number offset ∷ xs) = offset == at && runs at ts xs
-runs at [] (out.Token kind start end ∷ xs) = false
-runs at (t ∷ ts) (out.Token kind start end ∷ xs) = runs (at + t.len) ts xs
-
 -- reading leading trivia, before other steps and before one more step that is woven with it
-runs_leading_trivia : (at : ℕ) (ts : List LexedToken) (ys : List StrStep)
-    → runs at ts (leading_trivia at ts ++ ys)
-    ≡ runs (leading_trivia_end at ts) (after_leading_trivia ts) ys
-runs_leading_trivia at [] ys = refl
-runs_leading_trivia at (t ∷ ts) ys =
-    by (is_trivia_kind t.kind) (runs_leading_trivia (at + t.len) ts ys)
+covers_leading_trivia : (at : ℕ) (ts : List LexedToken) (ys : List StrStep)
+    → covers at ts (leading_trivia at ts ++ ys)
+    ≡ covers (leading_trivia_end at ts) (after_leading_trivia ts) ys
+covers_leading_trivia at [] ys = refl
+covers_leading_trivia at (t ∷ ts) ys =
+    by (is_trivia_kind t.kind) (covers_leading_trivia (at + t.len) ts ys)
   where
-    by : (b : Bool) → runs (at + t.len) ts (leading_trivia (at + t.len) ts ++ ys)
-        ≡ runs (leading_trivia_end (at + t.len) ts) (after_leading_trivia ts) ys
-        → runs at (t ∷ ts) (cond b (out.Token t.kind at (at + t.len)
+    by : (b : Bool) → covers (at + t.len) ts (leading_trivia (at + t.len) ts ++ ys)
+        ≡ covers (leading_trivia_end (at + t.len) ts) (after_leading_trivia ts) ys
+        → covers at (t ∷ ts) (cond b (out.Token t.kind at (at + t.len)
         ∷ leading_trivia (at + t.len) ts) [] ++ ys)
-        ≡ runs (cond b (leading_trivia_end (at + t.len) ts) at)
+        ≡ covers (cond b (leading_trivia_end (at + t.len) ts) at)
         (cond b (after_leading_trivia ts) (t ∷ ts)) ys
     by true rest = rest
     by false rest = refl
 
-runs_trivia_step : (at : ℕ) (ts : List LexedToken) (y : StrStep) (ys : List StrStep)
-    → runs at ts ((leading_trivia at ts ++ y ∷ []) ++ ys)
-    ≡ runs (leading_trivia_end at ts) (after_leading_trivia ts) (y ∷ ys)
-runs_trivia_step at ts y ys = ap (runs at ts) (append_assoc (leading_trivia at ts) (y ∷ []) ys)
-    ∙ runs_leading_trivia at ts (y ∷ ys)
+covers_trivia_step : (at : ℕ) (ts : List LexedToken) (y : StrStep) (ys : List StrStep)
+    → covers at ts ((leading_trivia at ts ++ y ∷ []) ++ ys)
+    ≡ covers (leading_trivia_end at ts) (after_leading_trivia ts) (y ∷ ys)
+covers_trivia_step at ts y ys = ap (covers at ts) (append_assoc (leading_trivia at ts) (y ∷ []) ys)
+    ∙ covers_leading_trivia at ts (y ∷ ys)
 
 -- an offset is equal to itself
 pub same_offset : (at : ℕ) (b : Bool) → (at == at && b) ≡ b
 same_offset at b = grind (arith, nat_tests)
 
 -- woven steps of a balanced output contain all of the tokens
-runs_woven : (d at : ℕ) (ts : List LexedToken) (xs : List Step) → closes (suc d) xs ≡ true
-    → kinds_without_trivia ts ≡ token_kinds xs → runs at ts (weave_from at ts xs) ≡ true
-runs_woven d at ts [] h e = never_closed d h
-runs_woven d at ts (Enter kind ∷ xs) h e =
-    runs_trivia_step at ts (out.Enter kind) (weave_from (leading_trivia_end at ts)
+covers_woven : (d at : ℕ) (ts : List LexedToken) (xs : List Step) → closes (suc d) xs ≡ true
+    → kinds_without_trivia ts ≡ token_kinds xs → covers at ts (weave_from at ts xs) ≡ true
+covers_woven d at ts [] h e = never_closed d h
+covers_woven d at ts (Enter kind ∷ xs) h e =
+    covers_trivia_step at ts (out.Enter kind) (weave_from (leading_trivia_end at ts)
     (after_leading_trivia ts) xs)
-    ∙ runs_woven (suc d) (leading_trivia_end at ts) (after_leading_trivia ts) xs h
+    ∙ covers_woven (suc d) (leading_trivia_end at ts) (after_leading_trivia ts) xs h
     (kinds_after_trivia ts ∙ e)
-runs_woven d at ts (Token kind ∷ xs) h e =
+covers_woven d at ts (Token kind ∷ xs) h e =
     let next = next_of ts kind (token_kinds xs) e in
     let kinds : kinds_without_trivia (drop 1 (after_leading_trivia ts)) ≡ token_kinds xs =
     rw next.is next.kinds_are in
@@ -69,28 +60,28 @@ runs_woven d at ts (Token kind ∷ xs) h e =
     let rest : List StrStep =
     weave_from (leading_trivia_end at ts + next_len (after_leading_trivia ts))
     (drop 1 (after_leading_trivia ts)) xs in
-    let more = runs_woven d (leading_trivia_end at ts + next_len (after_leading_trivia ts))
+    let more = covers_woven d (leading_trivia_end at ts + next_len (after_leading_trivia ts))
     (drop 1 (after_leading_trivia ts)) xs h kinds in
-    let here : runs (leading_trivia_end at ts) (after_leading_trivia ts)
+    let here : covers (leading_trivia_end at ts) (after_leading_trivia ts)
     (out.Token kind (leading_trivia_end at ts) end ∷ rest)
-    ≡ runs end (drop 1 (after_leading_trivia ts)) rest =
+    ≡ covers end (drop 1 (after_leading_trivia ts)) rest =
     first_token (leading_trivia_end at ts) (after_leading_trivia ts) next.token next.rest kind
     (leading_trivia_end at ts) end rest next.is in
-    runs_trivia_step at ts (out.Token kind (leading_trivia_end at ts) end) rest ∙ here ∙ more
+    covers_trivia_step at ts (out.Token kind (leading_trivia_end at ts) end) rest ∙ here ∙ more
   where
     first_token : (at : ℕ) (us : List LexedToken) (t : LexedToken) (vs : List LexedToken)
         (kind start end : ℕ) (ys : List StrStep) → us ≡ t ∷ vs
-        → runs at us (out.Token kind start end ∷ ys) ≡ runs (at + next_len us) (drop 1 us) ys
+        → covers at us (out.Token kind start end ∷ ys) ≡ covers (at + next_len us) (drop 1 us) ys
     first_token at [] t vs kind start end ys e = absurd (cc)
     first_token at (u ∷ us) t vs kind start end ys e = refl
-runs_woven d at ts (Exit ∷ []) h e =
+covers_woven d at ts (Exit ∷ []) h e =
     let none = none_after_trivia ts e in
-    runs_trivia_step at ts out.Exit []
-    ∙ ap (λ u. runs (leading_trivia_end at ts) u (out.Exit ∷ [])) none
-runs_woven zero at ts (Exit ∷ x ∷ xs) h e = absurd (cc)
-runs_woven (suc d) at ts (Exit ∷ x ∷ xs) h e = runs_woven d at ts (x ∷ xs) h e
-runs_woven d at ts (Error number ∷ xs) h e = same_offset at (runs at ts (weave_from at ts xs))
-    ∙ runs_woven d at ts xs h e
+    covers_trivia_step at ts out.Exit []
+    ∙ ap (λ u. covers (leading_trivia_end at ts) u (out.Exit ∷ [])) none
+covers_woven zero at ts (Exit ∷ x ∷ xs) h e = absurd (cc)
+covers_woven (suc d) at ts (Exit ∷ x ∷ xs) h e = covers_woven d at ts (x ∷ xs) h e
+covers_woven d at ts (Error number ∷ xs) h e = same_offset at (covers at ts (weave_from at ts xs))
+    ∙ covers_woven d at ts xs h e
 
 -- the parts of a conjunction
 pub split : (a b : Bool) → (a && b) ≡ true → (a ≡ true) × (b ≡ true)
@@ -112,13 +103,13 @@ some_len : (n : ℕ) → nat_lt 0 n ≡ true → 0 < n
 some_len n h = grind (arith, nat_tests)
 
 -- no `Error` step is before the offset at which the steps begin
-none_before : (q at : ℕ) (ts : List LexedToken) (xs : List StrStep) → q < at → runs at ts xs ≡ true
+none_before : (q at : ℕ) (ts : List LexedToken) (xs : List StrStep) → q < at → covers at ts xs ≡ true
     → numbers_at q xs ≡ []
 none_before q at ts [] h r = refl
 none_before q at ts (out.Enter kind ∷ xs) h r = none_before q at ts xs h r
 none_before q at ts (out.Exit ∷ xs) h r = none_before q at ts xs h r
 none_before q at ts (out.Error number offset ∷ xs) h r =
-    let s = split (offset == at) (runs at ts xs) r in
+    let s = split (offset == at) (covers at ts xs) r in
     let is = is_offset offset at s.0 in
     rw (not_offset_after offset q (omega arith)) (none_before q at ts xs h s.1)
 none_before q at [] (out.Token kind start end ∷ xs) h r = absurd (cc)
@@ -137,7 +128,7 @@ same_errors p (t ∷ ts) xs ys h =
     ++ es) (same_errors (p + t.len) ts xs ys (λ q le. h q (omega arith)))
 
 -- the errors by token are those by step
-pub by_token_is_by_step : (at : ℕ) (ts : List LexedToken) (xs : List StrStep) → runs at ts xs ≡ true
+pub by_token_is_by_step : (at : ℕ) (ts : List LexedToken) (xs : List StrStep) → covers at ts xs ≡ true
     → are_sound ts ≡ true → errors_by_token at ts xs ≡ errors_by_step at ts xs
 by_token_is_by_step at [] [] r s = refl
 by_token_is_by_step at (t ∷ ts) [] r s = absurd (cc)
@@ -146,12 +137,12 @@ by_token_is_by_step at ts (out.Enter kind ∷ xs) r s =
 by_token_is_by_step at ts (out.Exit ∷ xs) r s = same_errors at ts (out.Exit ∷ xs) xs (λ q le. refl)
     ∙ by_token_is_by_step at ts xs r s
 by_token_is_by_step at [] (out.Error number offset ∷ xs) r s =
-    let p = split (offset == at) (runs at [] xs) r in
+    let p = split (offset == at) (covers at [] xs) r in
     let end : at ≡ at + 0 = omega arith in
     rw p.0 (ap (λ m. error at m number ∷ map (error at at) (numbers_at at xs)) end
     ∙ ap (λ es. error at (at + 0) number ∷ es) (by_token_is_by_step at [] xs p.1 s))
 by_token_is_by_step at (t ∷ ts) (out.Error number offset ∷ xs) r s =
-    let p = split (offset == at) (runs at (t ∷ ts) xs) r in
+    let p = split (offset == at) (covers at (t ∷ ts) xs) r in
     let is = is_offset offset at p.0 in
     let some = some_len t.len (split (nat_lt 0 t.len) (faults_within t.len t.faults
     && are_sound ts) s).0 in
@@ -169,13 +160,17 @@ by_token_is_by_step at (t ∷ ts) (out.Token kind start end ∷ xs) r s =
     rw (none, rest) (ap (λ es. errors_at at t.faults
     ++ es) (by_token_is_by_step (at + t.len) ts xs r s2.1))
 
--- the same for the woven steps of a balanced output
+-- the woven steps of a balanced output contain all of the tokens, from the root on
+pub covers_whole : (ts : List LexedToken) (xs : List Step) → is_balanced xs ≡ true
+    → token_kinds xs ≡ kinds_without_trivia ts → covers 0 ts (weave ts xs) ≡ true
+covers_whole ts [] h e = absurd (cc)
+covers_whole ts (Enter kind ∷ xs) h e = covers_woven 0 0 ts xs h (sym e)
+covers_whole ts (Token kind ∷ xs) h e = absurd (cc)
+covers_whole ts (Exit ∷ xs) h e = absurd (cc)
+covers_whole ts (Error number ∷ xs) h e = absurd (cc)
+
+-- so their errors by token are those by step
 pub errors_whole : (ts : List LexedToken) (xs : List Step) → is_balanced xs ≡ true
     → token_kinds xs ≡ kinds_without_trivia ts → are_sound ts ≡ true
     → errors ts (weave ts xs) ≡ errors_by_step 0 ts (weave ts xs)
-errors_whole ts [] h e s = absurd (cc)
-errors_whole ts (Enter kind ∷ xs) h e s =
-    by_token_is_by_step 0 ts (weave ts (Enter kind ∷ xs)) (runs_woven 0 0 ts xs h (sym e)) s
-errors_whole ts (Token kind ∷ xs) h e s = absurd (cc)
-errors_whole ts (Exit ∷ xs) h e s = absurd (cc)
-errors_whole ts (Error number ∷ xs) h e s = absurd (cc)
+errors_whole ts xs h e s = by_token_is_by_step 0 ts (weave ts xs) (covers_whole ts xs h e) s

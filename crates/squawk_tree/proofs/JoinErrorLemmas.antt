@@ -19,7 +19,7 @@ use Rattle.squawk_tree.proofs.FirstPart.{more, more_of, first_part}
 use Rattle.squawk_statements.specs.Plain.{child_steps}
 use Rattle.squawk_statements.specs.declared.division.Division.{Division}
 use Rattle.squawk_tree.specs.Errors.{error}
-use Rattle.squawk_tree.specs.Walk.{errors_by_step}
+use Rattle.squawk_tree.specs.Walk.{covers, errors_by_step}
 use Rattle.squawk_lexed.specs.Stored.{errors_at}
 use Rattle.squawk_tree.specs.Join.{woven_child, shifted_step, shifted_error}
 use Rattle.squawk_tree.specs.ParseOf.{lexed_role}
@@ -27,7 +27,7 @@ use Rattle.squawk_tree.proofs.CutLemmas.{trivia_role, first_cut}
 use Rattle.squawk_tree.specs.Errors.{errors}
 use Rattle.squawk_tree.proofs.JoinLemmas.{joined_errors}
 use Rattle.squawk_statements.specs.Plain.{plain}
-use Rattle.squawk_tree.proofs.ErrorLemmas.{runs, split, same_offset, by_token_is_by_step}
+use Rattle.squawk_tree.proofs.ErrorLemmas.{split, same_offset, by_token_is_by_step}
 use Rattle.squawk_tree.proofs.JoinLemmas.{placed as placed_law, fits, both, placed_from, fits_child, leaf_woven, node_woven, shift_child, further}
 
 -- whether steps contain all of the tokens, each `Error` at the start of one of them
@@ -243,17 +243,17 @@ shifted_part d n p = let e : n ≡ 0 + n = omega arith in ap (errors_by_step n p
     ∙ shifted_by_step n 0 p (woven_child d 0 p)
 
 -- steps whose errors are each at the start of a token have each at the start of the next token
-inner_runs : (at : ℕ) (ts : List LexedToken) (xs : List StrStep) → inner at ts xs ≡ true
-    → runs at ts xs ≡ true
-inner_runs at ts [] h = h
-inner_runs at ts (out.Enter kind ∷ xs) h = inner_runs at ts xs h
-inner_runs at ts (out.Exit ∷ xs) h = inner_runs at ts xs h
-inner_runs at [] (out.Error number offset ∷ xs) h = absurd (cc)
-inner_runs at (t ∷ ts) (out.Error number offset ∷ xs) h =
+inner_covers : (at : ℕ) (ts : List LexedToken) (xs : List StrStep) → inner at ts xs ≡ true
+    → covers at ts xs ≡ true
+inner_covers at ts [] h = h
+inner_covers at ts (out.Enter kind ∷ xs) h = inner_covers at ts xs h
+inner_covers at ts (out.Exit ∷ xs) h = inner_covers at ts xs h
+inner_covers at [] (out.Error number offset ∷ xs) h = absurd (cc)
+inner_covers at (t ∷ ts) (out.Error number offset ∷ xs) h =
     let hs = split (offset == at) (inner at (t ∷ ts) xs) h in
-    rw hs.0 (inner_runs at (t ∷ ts) xs hs.1)
-inner_runs at [] (out.Token kind start end ∷ xs) h = absurd (cc)
-inner_runs at (t ∷ ts) (out.Token kind start end ∷ xs) h = inner_runs (at + t.len) ts xs h
+    rw hs.0 (inner_covers at (t ∷ ts) xs hs.1)
+inner_covers at [] (out.Token kind start end ∷ xs) h = absurd (cc)
+inner_covers at (t ∷ ts) (out.Token kind start end ∷ xs) h = inner_covers (at + t.len) ts xs h
 
 -- parts of sound tokens are sound
 tail_sound : (t : LexedToken) (ts : List LexedToken) → are_sound (t ∷ ts) ≡ true
@@ -301,7 +301,7 @@ own_errors : (d : Division) (at : ℕ) (p : List LexedToken) → inner 0 p (wove
     ≡ map (shifted_error at) (errors p (woven_child d 0 p))
 own_errors d at p h s = shifted_part d at p
     ∙ ap (map (shifted_error at)) (sym (by_token_is_by_step 0 p (woven_child d 0 p)
-    (inner_runs 0 p (woven_child d 0 p) h) s))
+    (inner_covers 0 p (woven_child d 0 p) h) s))
 
 parts_errors : (n : ℕ) (d : Division) (at : ℕ) (ts : List LexedToken) → length ts ≤ n
     → are_sound ts ≡ true → errors_of_parts d at (parts lexed_role d ts)

@@ -1,11 +1,11 @@
 -- The steps and errors that a sink has received make a tree.
-use Rattle.std.proofs.Common.{◌≡◌, ℕ, true, List, [], ◌∷◌, ap, refl, ◌∙◌}
+use Rattle.std.proofs.Common.{◌≡◌, ℕ, Bool, true, false, ◌&&◌, List, [], ◌∷◌, ◌++◌, ap, sym, refl, ◌∙◌}
 use Rattle.std.specs.Prelude.{All}
 use Rattle.squawk_events.specs.declared.steps.ParseError.{ParseError}
 use Rattle.squawk_events.specs.declared.steps.StrStep.{StrStep}
 use Rattle.squawk_events.specs.declared.steps.StrStep.TheVariants.{Enter, Token, Exit, Error}
-use Rattle.squawk_tree.specs.Steps.{is_balanced, without_errors, leaves, tiles}
-use Rattle.squawk_tree.specs.Taken.{Taken, IsError, EndsBy, tokens_end}
+use Rattle.squawk_tree.specs.Steps.{has_no_errors, is_balanced, without_errors, leaves, tiles}
+use Rattle.squawk_tree.specs.Taken.{Taken, IsError, IsHeld, EndsBy, tokens_end}
 use Rattle.squawk_tree.specs.Tree.{IsTree}
 use Rattle.squawk_tree.proofs.Balanced.{without_errors_has_none}
 use Rattle.squawk_tree.proofs.TreeLaws.{kept_tree}
@@ -18,6 +18,53 @@ leaves_without_errors (Token kind start end ∷ xs) =
     ap (λ rs. (start, end) ∷ rs) (leaves_without_errors xs)
 leaves_without_errors (Exit ∷ xs) = leaves_without_errors xs
 leaves_without_errors (Error number at ∷ xs) = leaves_without_errors xs
+
+-- where no step is an `Error`, all are left
+pub without_none : (xs : List StrStep) → has_no_errors xs ≡ true → without_errors xs ≡ xs
+without_none [] h = refl
+without_none (Enter kind ∷ xs) h = ap (λ ys. Enter kind ∷ ys) (without_none xs h)
+without_none (Token kind start end ∷ xs) h =
+    ap (λ ys. Token kind start end ∷ ys) (without_none xs h)
+without_none (Exit ∷ xs) h = ap (λ ys. Exit ∷ ys) (without_none xs h)
+without_none (Error number at ∷ xs) h = absurd (cc)
+
+-- a conjunction with a known second part
+and_true : (b : Bool) → (b && true) ≡ b
+and_true true = refl
+and_true false = refl
+
+and_false : (b : Bool) → (b && false) ≡ false
+and_false true = refl
+and_false false = refl
+
+-- whether no step is an `Error`, with one more step
+none_push : (xs : List StrStep) (x : StrStep)
+    → has_no_errors (xs ++ x ∷ []) ≡ (has_no_errors xs && has_no_errors (x ∷ []))
+none_push [] x = refl
+none_push (Enter kind ∷ xs) x = none_push xs x
+none_push (Token kind start end ∷ xs) x = none_push xs x
+none_push (Exit ∷ xs) x = none_push xs x
+none_push (Error number at ∷ xs) x = refl
+
+-- a sink after a step: one that stays in the tree, and one that does not
+pub held_kept : (xs : List StrStep) (x : StrStep) (flag : Bool) (own : List ParseError)
+    (xs' : List StrStep) → IsHeld xs flag own → has_no_errors (x ∷ []) ≡ true
+    → xs' ≡ xs ++ x ∷ [] → IsHeld xs' flag own
+held_kept xs x flag own xs' held kept is = record {
+  flag = held.flag ∙ sym (and_true (has_no_errors xs))
+      ∙ ap (λ b. has_no_errors xs && b) (sym kept) ∙ sym (none_push xs x)
+      ∙ ap has_no_errors (sym is);
+  errors_are = held.errors_are;
+}
+
+pub held_error : (xs : List StrStep) (x : StrStep) (flag : Bool) (own : List ParseError)
+    (xs' : List StrStep) → IsHeld xs flag own → has_no_errors (x ∷ []) ≡ false
+    → xs' ≡ xs ++ x ∷ [] → IsHeld xs' false own
+held_error xs x flag own xs' held lost is = record {
+  flag = sym (and_false (has_no_errors xs)) ∙ ap (λ b. has_no_errors xs && b) (sym lost)
+      ∙ sym (none_push xs x) ∙ ap has_no_errors (sym is);
+  errors_are = held.errors_are;
+}
 
 -- what `finish` makes is a tree: by its steps and errors, and by the value of the sink
 pub finished : (steps : List StrStep) (own : List ParseError) (len : ℕ)

@@ -182,12 +182,12 @@ abbrev pub kept_tree : List StrStep → List ParseError → ℕ → Tree
 kept_tree steps own len = record { steps = without_errors steps; errors = own; len = len }
 
 -- the tree of the woven steps of a lawful output and of their errors
-pub parts_are : (ts : List LexedToken) (xs : List Step) (steps : List StrStep)
+pub parts_are : (ts : List LexedToken) (xs : List Step) (woven steps : List StrStep)
     (own : List ParseError) (len : ℕ) → are_sound ts ≡ true
-    → IsLawful (kinds_without_trivia ts) xs → steps ≡ weave ts xs
-    → own ≡ errors_by_step 0 ts steps → len ≡ total_len ts
-    → kept_tree steps own len ≡ tree_of ts (weave ts xs)
-parts_are ts xs steps own len sound lawful steps_are own_are len_is =
-    let errors_are = own_are ∙ ap (errors_by_step 0 ts) steps_are
+    → IsLawful (kinds_without_trivia ts) xs → woven ≡ weave ts xs
+    → steps ≡ without_errors woven → own ≡ errors_by_step 0 ts woven → len ≡ total_len ts
+    → record { steps = steps; errors = own; len = len } ≡ tree_of ts (weave ts xs)
+parts_are ts xs woven steps own len sound lawful woven_is steps_are own_are len_is =
+    let errors_are = own_are ∙ ap (errors_by_step 0 ts) woven_is
     ∙ sym (errors_whole ts xs lawful.balanced lawful.tokens sound) in
-    rw (errors_are, steps_are, len_is) refl
+    rw (errors_are, steps_are, woven_is, len_is) refl

@@ -1,11 +1,14 @@
--- The lexical errors that a walk over the steps reads at a token are the faults of that token.
-use Rattle.std.proofs.Common.{◌≡◌, ℕ, zero, suc, ◌+◌, ◌<◌, ◌≤◌, true, false, ◌&&◌, nat_lt, nat_le, List, [], ◌∷◌, ◌++◌, length, take, drop, refl, ap, sym, ◌∙◌, arith}
+-- The errors that a walk over the steps merges are the errors by step.
+use Rattle.std.proofs.Common.{◌≡◌, ℕ, zero, suc, ◌+◌, ◌==◌, ◌<◌, ◌≤◌, Bool, true, false, ◌&&◌, nat_lt, nat_le, List, [], ◌∷◌, ◌++◌, length, take, drop, append_assoc, refl, ap, sym, ◌∙◌, arith}
+use mathlib.Core.Logic.{◌⊎◌, inl, inr}
 use Rattle.std.proofs.lemmas.Bool.{and_parts, leb-true, ltb-true}
 use Rattle.std.proofs.lemmas.Bool.Decides.{nat_tests}
+use Rattle.std.proofs.lemmas.List.{append-nil, drop-drop, length-drop, take_all}
 use Rattle.std.proofs.lemmas.List.Elements.{All-nil, All-cons, All-append}
 use Rattle.std.specs.Prelude.{All}
 use Rattle.squawk_events.specs.declared.steps.ParseError.{ParseError}
-use Rattle.squawk_events.specs.declared.steps.StrStep.TheVariants.{Token}
+use Rattle.squawk_events.specs.declared.steps.StrStep.{StrStep}
+use Rattle.squawk_events.specs.declared.steps.StrStep.TheVariants.{Enter, Token, Exit, Error}
 use Rattle.squawk_lexed.specs.Faults.{fault_within, faults_within}
 use Rattle.squawk_lexed.specs.LexedText.{are_sound, total_len}
 use Rattle.squawk_lexed.specs.LexedToken.{LexedToken}
@@ -13,7 +16,8 @@ use Rattle.squawk_lexed.specs.Stored.{errors_at, errors_of}
 use Rattle.squawk_lexed.specs.Weave.{next_len}
 use Rattle.squawk_lexed.specs.declared.fault.Fault.{Fault}
 use Rattle.squawk_tree.specs.Errors.{error}
-use Rattle.squawk_tree.specs.Walk.{step_errors, errors_before, errors_not_before, EndsBelow, IsWalk, IsWalkAfter}
+use Rattle.squawk_tree.specs.Steps.{has_no_errors}
+use Rattle.squawk_tree.specs.Walk.{step_error, errors_before, errors_not_before, merged_errors, errors_by_step, covers, EndsBelow}
 
 -- a fault of a sound token begins before the end of the token and ends by it
 pub record InToken (len : ℕ) (f : Fault) : Type 0 where
@@ -74,68 +78,127 @@ all_from end at (t ∷ ts) le = by t.faults (all_from end (at + t.len) ts (omega
     by [] rest = rest
     by (f ∷ fs) rest = let e = starts_after (at + f.start) end (omega arith) in rw e refl
 
--- the errors of a token are those that begin before its end
-faults_before : (at len : ℕ) (fs : List Fault) (ts : List LexedToken)
-    → faults_within len fs ≡ true
-    → errors_before (at + len) (errors_at at fs ++ errors_of (at + len) ts) ≡ errors_at at fs
-faults_before at len [] ts h = none_before (at + len) (at + len) ts (omega arith)
-faults_before at len (f ∷ fs) ts h =
-    let parts = and_parts (fault_within len f) (faults_within len fs) h in
-    let within = in_token len f parts.0 in
-    let starts = within.starts in
-    let e = starts_before (at + f.start) (at + len) (omega arith) in
-    rw e (ap (λ es. error (at + f.start) (at + f.end) f.number ∷ es)
-    (faults_before at len fs ts parts.1))
+-- whether all of these errors begin before an offset
+abbrev all_before : ℕ → List ParseError → Bool
+all_before n [] = true
+all_before n (e ∷ es) = nat_lt e.start n && all_before n es
 
--- the errors of the tokens after it are the others
-faults_from : (at len : ℕ) (fs : List Fault) (ts : List LexedToken) → faults_within len fs ≡ true
-    → errors_not_before (at + len) (errors_at at fs ++ errors_of (at + len) ts)
-    ≡ errors_of (at + len) ts
-faults_from at len [] ts h = all_from (at + len) (at + len) ts (omega arith)
-faults_from at len (f ∷ fs) ts h =
+-- they then begin before any later offset
+all_before_le : (m n : ℕ) (es : List ParseError) → m ≤ n → all_before m es ≡ true
+    → all_before n es ≡ true
+all_before_le m n [] le h = refl
+all_before_le m n (e ∷ es) le h =
+    let parts = and_parts (nat_lt e.start m) (all_before m es) h in
+    let first = ltb-true e.start m parts.0 in
+    rw (starts_before e.start n (omega (arith, first, le))) (all_before_le m n es le parts.1)
+
+-- the same of two lists together, and of the errors from an index on
+all_before_append : (n : ℕ) (xs ys : List ParseError) → all_before n xs ≡ true
+    → all_before n ys ≡ true → all_before n (xs ++ ys) ≡ true
+all_before_append n [] ys first second = second
+all_before_append n (e ∷ es) ys first second =
+    let parts = and_parts (nat_lt e.start n) (all_before n es) first in
+    rw parts.0 (all_before_append n es ys parts.1 second)
+
+all_before_drop : (n i : ℕ) (es : List ParseError) → all_before n es ≡ true
+    → all_before n (drop i es) ≡ true
+all_before_drop n zero es h = h
+all_before_drop n (suc i) [] h = h
+all_before_drop n (suc i) (e ∷ es) h =
+    all_before_drop n i es (and_parts (nat_lt e.start n) (all_before n es) h).1
+
+-- errors that begin before an offset go before it, with those of the others that do
+errors_before_append : (n : ℕ) (xs ys : List ParseError) → all_before n xs ≡ true
+    → errors_before n (xs ++ ys) ≡ xs ++ errors_before n ys
+errors_before_append n [] ys h = refl
+errors_before_append n (e ∷ es) ys h =
+    let parts = and_parts (nat_lt e.start n) (all_before n es) h in
+    rw parts.0 (ap (λ zs. e ∷ zs) (errors_before_append n es ys parts.1))
+
+errors_not_before_append : (n : ℕ) (xs ys : List ParseError) → all_before n xs ≡ true
+    → errors_not_before n (xs ++ ys) ≡ errors_not_before n ys
+errors_not_before_append n [] ys h = refl
+errors_not_before_append n (e ∷ es) ys h =
+    let parts = and_parts (nat_lt e.start n) (all_before n es) h in
+    rw parts.0 (errors_not_before_append n es ys parts.1)
+
+-- the faults of a sound token begin before its end
+faults_all_before : (at len : ℕ) (fs : List Fault) → faults_within len fs ≡ true
+    → all_before (at + len) (errors_at at fs) ≡ true
+faults_all_before at len [] h = refl
+faults_all_before at len (f ∷ fs) h =
     let parts = and_parts (fault_within len f) (faults_within len fs) h in
     let within = in_token len f parts.0 in
     let starts = within.starts in
-    let e = starts_before (at + f.start) (at + len) (omega arith) in
-    rw e (faults_from at len fs ts parts.1)
+    rw (starts_before (at + f.start) (at + len) (omega arith)) (faults_all_before at len fs parts.1)
+
+-- the errors of sound tokens begin before the end of the tokens
+errors_all_before : (n at : ℕ) (ts : List LexedToken) → at + total_len ts ≤ n
+    → are_sound ts ≡ true → all_before n (errors_of at ts) ≡ true
+errors_all_before n at [] le s = refl
+errors_all_before n at (t ∷ ts) le s =
+    let parts = sound_parts t ts s in
+    all_before_append n (errors_at at t.faults) (errors_of (at + t.len) ts)
+    (all_before_le (at + t.len) n (errors_at at t.faults) (omega (arith, le))
+    (faults_all_before at t.len t.faults parts.faults))
+    (errors_all_before n (at + t.len) ts (omega (arith, le)) parts.rest)
+
+-- so those that remain are all before that end
+pub rest_before : (n i : ℕ) (ts : List LexedToken) → total_len ts ≤ n → are_sound ts ≡ true
+    → errors_before n (drop i (errors_of 0 ts)) ≡ drop i (errors_of 0 ts)
+rest_before n i ts le s =
+    let all = all_before_drop n i (errors_of 0 ts) (errors_all_before n 0 ts (omega (arith, le)) s) in
+    let rest = drop i (errors_of 0 ts) in
+    ap (errors_before n) (sym (append-nil rest)) ∙ errors_before_append n rest [] all
+    ∙ append-nil rest
+
+-- the merged errors of steps that contain all of the tokens are the lexical errors that were not
+-- appended before, and then the errors by step
+merged_from : (pending : List ParseError) (at : ℕ) (ts : List LexedToken) (xs : List StrStep)
+    → all_before at pending ≡ true → covers at ts xs ≡ true → are_sound ts ≡ true
+    → merged_errors at ts (pending ++ errors_of at ts) xs ≡ pending ++ errors_by_step at ts xs
+merged_from pending at [] [] before h s = refl
+merged_from pending at (t ∷ ts) [] before h s = absurd (cc)
+merged_from pending at ts (Enter kind ∷ xs) before h s = merged_from pending at ts xs before h s
+merged_from pending at ts (Exit ∷ xs) before h s = merged_from pending at ts xs before h s
+merged_from pending at [] (Token kind start end ∷ xs) before h s = absurd (cc)
+merged_from pending at (t ∷ ts) (Token kind start end ∷ xs) before h s =
+    let parts = sound_parts t ts s in
+    let own = errors_at at t.faults in
+    let all = all_before_append (at + t.len) pending own
+    (all_before_le at (at + t.len) pending (omega arith) before)
+    (faults_all_before at t.len t.faults parts.faults) in
+    ap (λ es. merged_errors (at + t.len) ts es xs)
+    (sym (append_assoc pending own (errors_of (at + t.len) ts)))
+    ∙ merged_from (pending ++ own) (at + t.len) ts xs all h parts.rest
+    ∙ append_assoc pending own (errors_by_step (at + t.len) ts xs)
+merged_from pending at ts (Error number offset ∷ xs) before h s =
+    let rest = (and_parts (offset == at) (covers at ts xs) h).1 in
+    let appended : errors_before at (pending ++ errors_of at ts) ≡ pending =
+    errors_before_append at pending (errors_of at ts) before
+    ∙ ap (λ es. pending ++ es) (none_before at at ts (omega arith)) ∙ append-nil pending in
+    let left : errors_not_before at (pending ++ errors_of at ts) ≡ errors_of at ts =
+    errors_not_before_append at pending (errors_of at ts) before ∙ all_from at at ts (omega arith) in
+    rw (appended, left) (ap (λ es. pending ++ (step_error at ts number ++ es))
+    (merged_from [] at ts xs refl rest s))
+
+pub merged_is : (ts : List LexedToken) (xs : List StrStep) → covers 0 ts xs ≡ true
+    → are_sound ts ≡ true → merged_errors 0 ts (errors_of 0 ts) xs ≡ errors_by_step 0 ts xs
+merged_is ts xs h s = merged_from [] 0 ts xs refl h s
+
+-- the merged errors of steps without an `Error` are the lexical errors
+pub merged_lexical : (at : ℕ) (ts : List LexedToken) (es : List ParseError) (xs : List StrStep)
+    → has_no_errors xs ≡ true → merged_errors at ts es xs ≡ es
+merged_lexical at ts es [] none = refl
+merged_lexical at ts es (Enter kind ∷ xs) none = merged_lexical at ts es xs none
+merged_lexical at ts es (Token kind start end ∷ xs) none =
+    merged_lexical (at + next_len ts) (drop 1 ts) es xs none
+merged_lexical at ts es (Exit ∷ xs) none = merged_lexical at ts es xs none
+merged_lexical at ts es (Error number offset ∷ xs) none = absurd (cc)
 
 -- the next index
 next : (i : ℕ) → suc i ≡ i + 1
 next i = omega arith
-
--- the token at an index
-pub record TokenAt (ts : List LexedToken) (i : ℕ) : Type 0 where
-  pub token : LexedToken
-  pub is : drop i ts ≡ token ∷ drop (i + 1) ts
-  pub end : total_len (take (i + 1) ts) ≡ total_len (take i ts) + token.len
-  pub faults : faults_within token.len token.faults ≡ true
-
--- the same with the next index as a successor
-record TokenBefore (ts : List LexedToken) (i after : ℕ) : Type 0 where
-  token : LexedToken
-  is : drop i ts ≡ token ∷ drop after ts
-  end : total_len (take after ts) ≡ total_len (take i ts) + token.len
-  faults : faults_within token.len token.faults ≡ true
-
-token_before : (ts : List LexedToken) (i : ℕ) → i < length ts → are_sound ts ≡ true
-    → TokenBefore ts i (suc i)
-token_before [] i h s = absurd (omega arith)
-token_before (t ∷ ts) zero h s = record {
-  token = t;
-  is = refl;
-  end = omega arith;
-  faults = (sound_parts t ts s).faults;
-}
-token_before (t ∷ ts) (suc i) h s =
-    let rest = token_before ts i (omega arith) (sound_parts t ts s).rest in
-    let end = rest.end in
-    record { token = rest.token; is = rest.is; end = omega arith; faults = rest.faults }
-
-pub token_at : (ts : List LexedToken) (i : ℕ) → i < length ts → are_sound ts ≡ true
-    → TokenAt ts i
-token_at ts i h s =
-    let found = rw (next i) at (token_before ts i h s) in
-    record { token = found.token; is = found.is; end = found.end; faults = found.faults }
 
 -- the end of the token at an index, or the end of the text
 end_before : (ts : List LexedToken) (i : ℕ)
@@ -181,52 +244,136 @@ take_within zero ts = omega arith
 take_within (suc i) [] = omega arith
 take_within (suc i) (t ∷ ts) = let rest = take_within i ts in omega arith
 
--- a walk that reads the `Token` step of the token at an index
-module _ (ts : List LexedToken) (i j end : ℕ) (lexical : List ParseError)
-    (kind start stop : ℕ) (walk : IsWalk ts i j) (lexical_is : lexical ≡ errors_of 0 ts)
-    (some : i < length ts) (sound : are_sound ts ≡ true)
-    (end_is : end ≡ total_len (take (i + 1) ts)) where
-  left : (token : TokenAt ts i) → drop j lexical
-      ≡ errors_at (total_len (take i ts)) token.token.faults
-      ++ errors_of (total_len (take i ts) + token.token.len) (drop (i + 1) ts)
-  left token = ap (drop j) lexical_is ∙ walk.errors_left
-      ∙ ap (errors_of (total_len (take i ts))) token.is
+-- so the errors by step are the lexical errors, where no step is an `Error`
+pub by_step_lexical : (ts : List LexedToken) (xs : List StrStep) → covers 0 ts xs ≡ true
+    → are_sound ts ≡ true → has_no_errors xs ≡ true → errors_of 0 ts ≡ errors_by_step 0 ts xs
+by_step_lexical ts xs h s none =
+    sym (merged_lexical 0 ts (errors_of 0 ts) xs none) ∙ merged_is ts xs h s
 
-  -- the faults of the token are the lexical errors before its end
-  pub faults_are : errors_before end (drop j lexical)
-      ≡ step_errors (total_len (take i ts)) (drop i ts) (Token kind start stop)
-  faults_are =
-      let token = token_at ts i some sound in
-      let own : step_errors (total_len (take i ts)) (drop i ts) (Token kind start stop)
-      ≡ errors_at (total_len (take i ts)) token.token.faults = rw token.is refl in
-      ap (errors_before end) (left token)
-      ∙ ap (λ n. errors_before n (errors_at (total_len (take i ts)) token.token.faults
-      ++ errors_of (total_len (take i ts) + token.token.len) (drop (i + 1) ts)))
-      (end_is ∙ token.end)
-      ∙ faults_before (total_len (take i ts)) token.token.len token.token.faults
-      (drop (i + 1) ts) token.faults ∙ sym own
+-- The walk before the steps `left`: the errors that were appended and those that remain are all;
+-- and the remaining steps contain the remaining tokens.
+pub record WalkSoFar (made : List ParseError) (ts : List LexedToken) (token error : ℕ)
+    (left : List StrStep) (all : List ParseError) : Type 0 where
+  pub merged : made ++ merged_errors (total_len (take token ts)) (drop token ts)
+      (drop error (errors_of 0 ts)) left ≡ all
+  pub covered : covers (total_len (take token ts)) (drop token ts) left ≡ true
+  pub token_within : token ≤ length ts
+  pub error_within : error ≤ length (errors_of 0 ts)
 
-  -- the walk goes on with the errors that remain
-  pub walk_on : (k : ℕ) → drop k lexical ≡ errors_not_before end (drop j lexical)
-      → k ≤ length lexical
-      → IsWalkAfter ts i (Token kind start stop) (i + 1) k
-  walk_on k rest within =
-      let token = token_at ts i some sound in
-      let size = ap length lexical_is in
-      let others : drop k lexical ≡ errors_of (total_len (take (i + 1) ts)) (drop (i + 1) ts) =
-      rest ∙ ap (errors_not_before end) (left token)
-      ∙ ap (λ n. errors_not_before n (errors_at (total_len (take i ts)) token.token.faults
-      ++ errors_of (total_len (take i ts) + token.token.len) (drop (i + 1) ts)))
-      (end_is ∙ token.end)
-      ∙ faults_from (total_len (take i ts)) token.token.len token.token.faults
-      (drop (i + 1) ts) token.faults
-      ∙ ap (λ n. errors_of n (drop (i + 1) ts)) (sym token.end) in
-      record {
-        walk = record {
-          within = omega arith;
-          errors_within = omega arith;
-          errors_left = ap (drop k) (sym lexical_is) ∙ others;
-        };
-        offset = token_end ts i;
-        tokens_left = rw token.is refl;
-      }
+-- at the start
+pub so_far_start : (ts : List LexedToken) (xs : List StrStep) → covers 0 ts xs ≡ true
+    → WalkSoFar [] ts 0 0 xs (merged_errors 0 ts (errors_of 0 ts) xs)
+so_far_start ts xs h = record {
+  merged = refl;
+  covered = h;
+  token_within = omega arith;
+  error_within = omega arith;
+}
+
+-- what the steps that contain tokens say of a `Token`: there is a token for it, and those after it
+-- are contained in the steps after it
+covered_token : (at : ℕ) (us : List LexedToken) (kind start end : ℕ) (xs : List StrStep)
+    → covers at us (Token kind start end ∷ xs) ≡ true
+    → (1 ≤ length us) × (covers (at + next_len us) (drop 1 us) xs ≡ true)
+covered_token at [] kind start end xs h = absurd (cc)
+covered_token at (u ∷ us) kind start end xs h = (omega arith, h)
+
+-- after a `Token`
+pub so_far_token : (made : List ParseError) (ts : List LexedToken) (token error : ℕ)
+    (kind start end : ℕ) (xs left : List StrStep) (all : List ParseError)
+    → WalkSoFar made ts token error left all → left ≡ Token kind start end ∷ xs
+    → WalkSoFar made ts (token + 1) error xs all
+so_far_token made ts token error kind start end xs left all walk is =
+    let within = walk.token_within in
+    let here = covered_token (total_len (take token ts)) (drop token ts) kind start end xs
+    (ap (covers (total_len (take token ts)) (drop token ts)) (sym is) ∙ walk.covered) in
+    let some = here.0 in
+    let len = length-drop token ts in
+    let at_is = token_end ts token in
+    let after : drop (token + 1) ts ≡ drop 1 (drop token ts) = sym (drop-drop 1 token ts) in
+    record {
+      merged = rw (at_is, after) (ap (λ ys. made ++ merged_errors (total_len (take token ts))
+          (drop token ts) (drop error (errors_of 0 ts)) ys) (sym is) ∙ walk.merged);
+      covered = rw (at_is, after) here.1;
+      token_within = omega (arith, some, len, within);
+      error_within = walk.error_within;
+    }
+
+-- after a step that has neither tokens nor errors, and so after an `Enter` or an `Exit`
+so_far_same : (made : List ParseError) (ts : List LexedToken) (token errors : ℕ)
+    (y : StrStep) (xs left : List StrStep) (all : List ParseError)
+    → ((at : ℕ) (us : List LexedToken) (es : List ParseError)
+    → merged_errors at us es (y ∷ xs) ≡ merged_errors at us es xs)
+    → ((at : ℕ) (us : List LexedToken) → covers at us (y ∷ xs) ≡ covers at us xs)
+    → WalkSoFar made ts token errors left all → left ≡ y ∷ xs
+    → WalkSoFar made ts token errors xs all
+so_far_same made ts token errors y xs left all merged_same covers_same walk is =
+    let at = total_len (take token ts) in
+    let us = drop token ts in
+    record {
+      merged = ap (λ es. made ++ es) (sym (merged_same at us (drop errors (errors_of 0 ts)))
+          ∙ ap (merged_errors at us (drop errors (errors_of 0 ts))) (sym is)) ∙ walk.merged;
+      covered = sym (covers_same at us) ∙ ap (covers at us) (sym is) ∙ walk.covered;
+      token_within = walk.token_within;
+      error_within = walk.error_within;
+    }
+
+pub so_far_node : (made : List ParseError) (ts : List LexedToken) (token errors : ℕ)
+    (x : StrStep) (xs left : List StrStep) (all : List ParseError)
+    → WalkSoFar made ts token errors left all → left ≡ x ∷ xs
+    → ((kind : ℕ) × (x ≡ Enter kind)) ⊎ (x ≡ Exit) → WalkSoFar made ts token errors xs all
+so_far_node made ts token errors x xs left all walk is (inl enter) =
+    so_far_same made ts token errors (Enter enter.0) xs left all (λ at us es. refl) (λ at us. refl)
+    walk (is ∙ ap (λ y. y ∷ xs) enter.1)
+so_far_node made ts token errors x xs left all walk is (inr leave) =
+    so_far_same made ts token errors Exit xs left all (λ at us es. refl) (λ at us. refl)
+    walk (is ∙ ap (λ y. y ∷ xs) leave)
+
+-- after an `Error`
+pub so_far_error : (made : List ParseError) (ts : List LexedToken) (token error number at : ℕ)
+    (xs left : List StrStep) (all made' : List ParseError) (error' : ℕ)
+    → WalkSoFar made ts token error left all → left ≡ Error number at ∷ xs
+    → made' ≡ made ++ (errors_before (total_len (take token ts)) (drop error (errors_of 0 ts))
+    ++ step_error (total_len (take token ts)) (drop token ts) number)
+    → drop error' (errors_of 0 ts)
+    ≡ errors_not_before (total_len (take token ts)) (drop error (errors_of 0 ts))
+    → error' ≤ length (errors_of 0 ts) → WalkSoFar made' ts token error' xs all
+so_far_error made ts token error number at xs left all made' error' walk is made_is rest within =
+    let start = total_len (take token ts) in
+    let us = drop token ts in
+    let lexical = drop error (errors_of 0 ts) in
+    let more = merged_errors start us (errors_not_before start lexical) xs in
+    record {
+      merged = rw (made_is, rest) (append_assoc made (errors_before start lexical
+          ++ step_error start us number) more
+          ∙ ap (λ es. made ++ es) (append_assoc (errors_before start lexical)
+          (step_error start us number) more)
+          ∙ (ap (λ ys. made ++ merged_errors start us lexical ys) (sym is) ∙ walk.merged));
+      covered = (and_parts (at == start) (covers start us xs)
+          (ap (covers start us) (sym is) ∙ walk.covered)).1;
+      token_within = walk.token_within;
+      error_within = within;
+    }
+
+-- at the end: the remaining lexical errors are all before the end of the text
+pub so_far_end : (made : List ParseError) (ts : List LexedToken) (token error n : ℕ)
+    (steps left : List StrStep) (made' : List ParseError)
+    → WalkSoFar made ts token error left (merged_errors 0 ts (errors_of 0 ts) steps)
+    → left ≡ [] → covers 0 ts steps ≡ true → are_sound ts ≡ true → n ≡ total_len (take (length ts) ts)
+    → made' ≡ made ++ errors_before n (drop error (errors_of 0 ts))
+    → made' ≡ errors_by_step 0 ts steps
+so_far_end made ts token error n steps left made' walk none h s n_is made_is =
+    let whole = n_is ∙ ap total_len (take_all (length ts) ts (omega arith)) in
+    made_is ∙ ap (λ es. made ++ es) (rest_before n error ts (omega (arith, whole)) s)
+    ∙ ap (λ ys. made ++ merged_errors (total_len (take token ts)) (drop token ts)
+    (drop error (errors_of 0 ts)) ys) (sym none) ∙ walk.merged ∙ merged_is ts steps h s
+
+-- the lexical errors that begin before the end of the text are all
+pub all_appended : (made : List ParseError) (ts : List LexedToken) (n : ℕ)
+    (made' : List ParseError) → made ≡ [] → are_sound ts ≡ true
+    → n ≡ total_len (take (length ts) ts)
+    → made' ≡ made ++ errors_before n (drop 0 (errors_of 0 ts)) → made' ≡ errors_of 0 ts
+all_appended made ts n made' none s n_is made_is =
+    let whole = n_is ∙ ap total_len (take_all (length ts) ts (omega arith)) in
+    made_is ∙ ap (λ es. es ++ errors_before n (errors_of 0 ts)) none
+    ∙ rest_before n 0 ts (omega (arith, whole)) s

@@ -1,8 +1,9 @@
 -- The value of a `TreeSink`.
-use Rattle.std.specs.Prelude.{ℕ, ◌≤◌, List, [], ◌∷◌}
+use Rattle.std.specs.Prelude.{◌≡◌, ℕ, ◌≤◌, Bool, All, List, [], ◌∷◌}
 use Rattle.squawk_events.specs.declared.steps.ParseError.{ParseError}
 use Rattle.squawk_events.specs.declared.steps.StrStep.{StrStep}
 use Rattle.squawk_events.specs.declared.steps.StrStep.TheVariants.{Enter, Token, Exit, Error}
+use Rattle.squawk_tree.specs.Steps.{has_no_errors}
 
 -- the steps that a sink has received, `Error` steps among them, and the errors pushed to it
 pub record Taken : Type 0 where
@@ -30,3 +31,9 @@ tokens_end steps = end_after 0 steps
 -- the error ends at an offset or before it
 abbrev pub EndsBy : ℕ → ParseError → Type 0
 EndsBy len e = e.end ≤ len
+
+-- what a sink holds: these steps, whether no `Error` is among them, and these errors
+pub record IsHeld (steps : List StrStep) (without : Bool) (errors : List ParseError)
+    : Type 0 where
+  pub flag : without ≡ has_no_errors steps
+  pub errors_are : All IsError errors

@@ -1,12 +1,11 @@
 -- The errors of a parse, collected in one walk over its steps.
-use Rattle.std.specs.Prelude.{◌≡◌, ℕ, ◌+◌, ◌<◌, ◌≤◌, nat_lt, List, [], ◌∷◌, ◌++◌, drop, take, length, if◌then◌else◌}
+use Rattle.std.specs.Prelude.{ℕ, ◌+◌, ◌==◌, ◌<◌, ◌&&◌, nat_lt, Bool, false, List, [], ◌∷◌, ◌++◌, drop, if◌then◌else◌}
 use Rattle.squawk_events.specs.declared.steps.ParseError.{ParseError}
 use Rattle.squawk_events.specs.declared.steps.StrStep.{StrStep}
 use Rattle.squawk_events.specs.declared.steps.StrStep.TheVariants.{Enter, Token, Exit, Error}
 use Rattle.squawk_lexed.specs.LexedToken.{LexedToken}
-use Rattle.squawk_lexed.specs.LexedText.{total_len}
-use Rattle.squawk_lexed.specs.Stored.{errors_at, errors_of}
-use Rattle.squawk_lexed.specs.Weave.{next_len}
+use Rattle.squawk_lexed.specs.Stored.{errors_at}
+use Rattle.squawk_lexed.specs.Weave.{next_len, is_empty}
 use Rattle.squawk_tree.specs.Errors.{error}
 
 -- the error of an `Error` step: its range is that of the next token, and empty where none remains
@@ -51,21 +50,28 @@ abbrev pub errors_not_before : ℕ → List ParseError → List ParseError
 errors_not_before end [] = []
 errors_not_before end (e ∷ es) = if nat_lt e.start end then errors_not_before end es else e ∷ es
 
+-- The errors of steps and the lexical errors that were not appended before them, where the first of
+-- the remaining tokens begins at an offset. The lexical errors before that offset go before those of
+-- an `Error` step.
+abbrev pub merged_errors : ℕ → List LexedToken → List ParseError → List StrStep → List ParseError
+merged_errors at ts lexical [] = lexical
+merged_errors at ts lexical (Enter kind ∷ xs) = merged_errors at ts lexical xs
+merged_errors at ts lexical (Token kind start end ∷ xs) =
+    merged_errors (at + next_len ts) (drop 1 ts) lexical xs
+merged_errors at ts lexical (Exit ∷ xs) = merged_errors at ts lexical xs
+merged_errors at ts lexical (Error number offset ∷ xs) =
+    errors_before at lexical
+    ++ (step_error at ts number ++ merged_errors at ts (errors_not_before at lexical) xs)
+
+-- whether steps contain all of the tokens from an offset, each `Error` at the start of the next one
+abbrev pub covers : ℕ → List LexedToken → List StrStep → Bool
+covers at ts [] = is_empty ts
+covers at ts (Enter kind ∷ xs) = covers at ts xs
+covers at ts (Exit ∷ xs) = covers at ts xs
+covers at ts (Error number offset ∷ xs) = offset == at && covers at ts xs
+covers at [] (Token kind start end ∷ xs) = false
+covers at (t ∷ ts) (Token kind start end ∷ xs) = covers (at + t.len) ts xs
+
 -- the error ends before a number
 abbrev pub EndsBelow : ℕ → ParseError → Type 0
 EndsBelow n e = e.end < n
-
--- a walk over the steps: the lexical errors that remain are those of the tokens that remain
-pub record IsWalk (ts : List LexedToken) (token error : ℕ) : Type 0 where
-  pub within : token ≤ length ts
-  pub errors_within : error ≤ length (errors_of 0 ts)
-  pub errors_left : drop error (errors_of 0 ts)
-      ≡ errors_of (total_len (take token ts)) (drop token ts)
-
--- the walk after a step, before which `before` tokens were read
-pub record IsWalkAfter (ts : List LexedToken) (before : ℕ) (step : StrStep) (token error : ℕ)
-    : Type 0 where
-  pub walk : IsWalk ts token error
-  pub offset : total_len (take token ts)
-      ≡ next_start (total_len (take before ts)) (drop before ts) step
-  pub tokens_left : drop token ts ≡ tokens_after (drop before ts) step

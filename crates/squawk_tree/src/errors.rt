@@ -5,13 +5,13 @@ ghost use Rattle.squawk_lexed.specs.LexedText.{total_len};
 ghost use Rattle.squawk_lexed.specs.Stored.{errors_of};
 ghost use Rattle.squawk_lexed.specs.Weave.{next_len};
 ghost use Rattle.squawk_tree.specs.Errors.{error};
-ghost use Rattle.squawk_tree.specs.Walk.{step_error, step_errors, errors_by_step, errors_before, errors_not_before, EndsBelow, IsWalk, IsWalkAfter};
+ghost use Rattle.squawk_tree.specs.Walk.{step_error, errors_by_step, errors_before, errors_not_before, covers, EndsBelow};
 
 use squawk_events::{FrontError, ParseError, StrStep};
 use squawk_lexed::{LexError, LexedStr};
 use std::alloc::Global;
 
-// The state of a walk over the steps: the indices of the next token and of the next lexical error.
+// How far a walk over the steps is: the indices of the next token and of the next lexical error.
 #[derive(Clone, Copy)]
 struct Walk {
     token: usize,
@@ -20,7 +20,7 @@ struct Walk {
 
 // Appends the lexical errors from index `from` up to the first that does not begin before `end`.
 // Returns the index of that one.
-fn push_lexical_errors(
+fn push_errors_before(
     errors: &mut Vec<ParseError>,
     lexical: &[LexError],
     from: usize,
@@ -46,6 +46,26 @@ fn push_lexical_errors(
         next += 1;
     }
     Ok(next)
+}
+
+// The same of the lexical errors of a text.
+fn push_lexical_errors(
+    errors: &mut Vec<ParseError>,
+    lexed: &LexedStr<'_>,
+    from: usize,
+    end: usize,
+) -> Result<usize, FrontError>
+    requires { from ≤ length (errors_of 0 lexed.now.tokens) }
+    ensures ok { OnOk result (errors.new.items
+        ≡ errors.old.items ++ errors_before end (drop from (errors_of 0 lexed.now.tokens))) }
+    ensures rest { IfOk result (λ next. drop next (errors_of 0 lexed.now.tokens)
+        ≡ errors_not_before end (drop from (errors_of 0 lexed.now.tokens))) }
+    ensures within { IfOk result (λ next. next ≤ length (errors_of 0 lexed.now.tokens)) }
+    ensures refusals { IfErr result IsOutOfMemory }
+{
+    // The length bounds the offsets of errors.
+    let _ = lexed.len();
+    push_errors_before(errors, lexed.errors(), from, end)
 }
 
 // The end of the token at an index, or the end of the text where there is none.
@@ -81,39 +101,31 @@ fn push_step_error(
     Ok(())
 }
 
-// Appends the errors of a step. Returns the state of the walk after it.
-fn push_errors_of_step(
+// Appends the lexical errors before the next token, and then the error of an `Error` step. Returns
+// the index of the lexical error after those.
+fn push_errors_up_to(
     errors: &mut Vec<ParseError>,
     lexed: &LexedStr<'_>,
-    from: Walk,
-    step: StrStep,
-) -> Result<Walk, FrontError>
-    requires { IsWalk lexed.now.tokens from.token from.error }
+    walk: Walk,
+    number: u8,
+) -> Result<usize, FrontError>
+    requires token { walk.token ≤ length lexed.now.tokens }
+    requires error { walk.error ≤ length (errors_of 0 lexed.now.tokens) }
     ensures ok { OnOk result (errors.new.items ≡ errors.old.items
-        ++ step_errors (total_len (take from.token lexed.now.tokens))
-        (drop from.token lexed.now.tokens) step) }
-    ensures walk { IfOk result (λ to.
-        IsWalkAfter lexed.now.tokens from.token step to.token to.error) }
+        ++ (errors_before (total_len (take walk.token lexed.now.tokens))
+        (drop walk.error (errors_of 0 lexed.now.tokens))
+        ++ step_error (total_len (take walk.token lexed.now.tokens))
+        (drop walk.token lexed.now.tokens) number)) }
+    ensures rest { IfOk result (λ next. drop next (errors_of 0 lexed.now.tokens)
+        ≡ errors_not_before (total_len (take walk.token lexed.now.tokens))
+        (drop walk.error (errors_of 0 lexed.now.tokens))) }
+    ensures within { IfOk result (λ next. next ≤ length (errors_of 0 lexed.now.tokens)) }
     ensures refusals { IfErr result IsOutOfMemory }
 {
-    match step {
-        StrStep::Error { number, .. } => {
-            push_step_error(errors, lexed, from.token, number)?;
-            Ok(from)
-        }
-        StrStep::Token { .. } => {
-            if from.token == lexed.len() {
-                return Ok(from);
-            }
-            let end = lexed.text_range(from.token).end;
-            let error = push_lexical_errors(errors, lexed.errors(), from.error, end)?;
-            Ok(Walk {
-                token: from.token + 1,
-                error,
-            })
-        }
-        _ => Ok(from),
-    }
+    let start = lexed.text_start(walk.token);
+    let next = push_lexical_errors(errors, lexed, walk.error, start)?;
+    push_step_error(errors, lexed, walk.token, number)?;
+    Ok(next)
 }
 
 // The errors of a parse: the faults of the tokens and the `Error` steps, token by token.
@@ -122,6 +134,7 @@ pub(crate) fn errors_of_steps(
     lexed: &LexedStr<'_>,
     steps: &[StrStep],
 ) -> Result<Vec<ParseError>, FrontError>
+    requires { IsTrue (covers 0 lexed.now.tokens steps.now) }
     ensures ok { IfOk result (λ errors.
         errors.items ≡ errors_by_step 0 lexed.now.tokens steps.now) }
     ensures refusals { IfErr result IsOutOfMemory }
@@ -129,7 +142,29 @@ pub(crate) fn errors_of_steps(
     let mut errors = Vec::new(alloc);
     let mut walk = Walk { token: 0, error: 0 };
     for step in steps {
-        walk = push_errors_of_step(&mut errors, lexed, walk, *step)?;
+        match *step {
+            StrStep::Token { .. } => walk.token += 1,
+            StrStep::Error { number, .. } => {
+                walk.error = push_errors_up_to(&mut errors, lexed, walk, number)?;
+            }
+            StrStep::Enter { .. } | StrStep::Exit => {}
+        }
     }
+    let end = lexed.text_start(lexed.len());
+    push_lexical_errors(&mut errors, lexed, walk.error, end)?;
+    Ok(errors)
+}
+
+// The errors of a parse without `Error` steps: the faults of the tokens.
+pub(crate) fn lexical_errors(
+    alloc: Global,
+    lexed: &LexedStr<'_>,
+) -> Result<Vec<ParseError>, FrontError>
+    ensures ok { IfOk result (λ errors. errors.items ≡ errors_of 0 lexed.now.tokens) }
+    ensures refusals { IfErr result IsOutOfMemory }
+{
+    let mut errors = Vec::new(alloc);
+    let end = lexed.text_start(lexed.len());
+    push_lexical_errors(&mut errors, lexed, 0, end)?;
     Ok(errors)
 }

@@ -4,7 +4,7 @@ ghost use Rattle.std.specs.List.{zip};
 ghost use Rattle.std.specs.Str.{IsCharBoundary};
 ghost use Rattle.squawk_tree.specs.ChildSpans.{child_spans, span_child};
 ghost use Rattle.squawk_tree.specs.Ranges.{ranges};
-ghost use Rattle.squawk_tree.specs.Steps.{root_children, without_errors};
+ghost use Rattle.squawk_tree.specs.Steps.{root_children};
 ghost use Rattle.squawk_tree.specs.Tree.{Tree, IsTree, IsErrorWithin, IsRangeOf};
 
 use crate::children::{ChildSpan, child_spans};
@@ -43,34 +43,31 @@ impl Model for Parse {
         p.spans.items p.counts.items p.children.items };
 }
 
-// Removes the `Error` steps, in place.
-fn remove_errors(steps: &mut Vec<StrStep>)
-    ensures { steps.new.items ≡ without_errors steps.old.items }
-{
-    steps.retain(|step| !matches!(step, StrStep::Error { .. }));
+// What a `Parse` is made of: the steps of a tree, the errors in its text, and the length of the text.
+#[derive(Drop)]
+pub(crate) struct TreeParts {
+    pub(crate) steps: Vec<StrStep>,
+    pub(crate) errors: Vec<ParseError>,
+    pub(crate) len: u32,
+}
+
+impl Model for TreeParts {
+    ghost use Rattle.squawk_tree.specs.Tree.{Tree, IsTree};
+
+    ghost Value = { Tree };
+
+    ghost view = { λ p. record { steps = p.steps.items; errors = p.errors.items; len = p.len } };
+
+    ghost invariant = { λ p. IsTree
+        (record { steps = p.steps.items; errors = p.errors.items; len = p.len }) };
 }
 
 impl Parse {
-    // The parse of a text of `len` bytes with these steps, less `Error` steps, and these errors.
-    pub(crate) fn new(
-        alloc: Global,
-        steps: Vec<StrStep>,
-        errors: Vec<ParseError>,
-        len: u32,
-    ) -> Result<Parse, AllocError>
-        requires { IsTree (record {
-          steps = without_errors steps.items;
-          errors = errors.items;
-          len = len;
-        }) }
-        ensures { IfOk result (λ parse. parse ≡ record {
-          steps = without_errors steps.items;
-          errors = errors.items;
-          len = len;
-        }) }
+    // The parse that is made of these parts.
+    pub(crate) fn new(alloc: Global, parts: TreeParts) -> Result<Parse, AllocError>
+        ensures { IfOk result (λ parse. parse ≡ parts) }
     {
-        let mut steps = steps;
-        remove_errors(&mut steps);
+        let TreeParts { steps, errors, len } = parts;
         let spans = spans_of(alloc, &steps)?;
         let counts = counts_of(alloc, &steps)?;
         let children = child_spans(alloc, &steps)?;

@@ -1,10 +1,10 @@
 //! A sink that builds a tree from the steps that it receives.
 ghost use Rattle.std.specs.Prelude.{◌≡◌, ◌≤◌, IsTrue, All, [], ◌∷◌, ◌++◌, OnOk, OnErr, IfOk, IfErr};
 ghost use Rattle.squawk_events.specs.Refusals.{IsOutOfMemory};
-ghost use Rattle.squawk_tree.specs.Steps.{is_balanced, leaves, tiles, without_errors};
+ghost use Rattle.squawk_tree.specs.Steps.{has_no_errors, is_balanced, leaves, tiles, without_errors};
 ghost use Rattle.squawk_tree.specs.Taken.{Taken, IsError, EndsBy, end_after, tokens_end};
 
-use crate::Parse;
+use crate::parse::{Parse, TreeParts};
 use squawk_events::{FrontError, ParseError, StepSink, StrStep};
 use std::alloc::Global;
 use std::marker::Model;
@@ -16,18 +16,46 @@ use std::marker::Model;
 pub struct TreeSink {
     alloc: Global,
     steps: Vec<StrStep>,
+    // Whether no `Error` is among the steps.
+    has_no_errors: bool,
     errors: Vec<ParseError>,
 }
 
 impl Model for TreeSink {
-    ghost use Rattle.std.specs.Prelude.{All};
-    ghost use Rattle.squawk_tree.specs.Taken.{Taken, IsError};
+    ghost use Rattle.squawk_tree.specs.Taken.{Taken, IsHeld};
 
     ghost Value = { Taken };
 
     ghost view = { λ s. record { steps = s.steps.items; errors = s.errors.items } };
 
-    ghost invariant = { λ s. All IsError s.errors.items };
+    ghost invariant = { λ s. IsHeld s.steps.items s.has_no_errors s.errors.items };
+}
+
+// Whether a step stays in the tree: whether it is no `Error`.
+fn is_kept(step: &StrStep) -> bool
+    ensures { result ≡ has_no_errors (step.now ∷ []) }
+{
+    !matches!(*step, StrStep::Error { .. })
+}
+
+// Removes the `Error` steps, in place.
+fn remove_errors(steps: &mut Vec<StrStep>)
+    ensures { steps.new.items ≡ without_errors steps.old.items }
+{
+    steps.retain(|step| !matches!(step, StrStep::Error { .. }));
+}
+
+// The steps less their `Error` steps; `no_errors` says whether there are none.
+fn without_errors(steps: Vec<StrStep>, no_errors: bool) -> Vec<StrStep>
+    requires { no_errors ≡ has_no_errors steps.items }
+    ensures { result.items ≡ without_errors steps.items }
+{
+    if no_errors {
+        return steps;
+    }
+    let mut steps = steps;
+    remove_errors(&mut steps);
+    steps
 }
 
 // The end of the last token of these steps, or 0 if there is none.
@@ -51,6 +79,7 @@ impl TreeSink {
         TreeSink {
             alloc,
             steps: Vec::new(alloc),
+            has_no_errors: true,
             errors: Vec::new(alloc),
         }
     }
@@ -70,10 +99,24 @@ impl TreeSink {
     }
 
     // The steps that the sink has received.
-    pub(crate) fn into_steps(self) -> Vec<StrStep>
-        ensures { result.items ≡ self.steps }
+    pub(crate) fn steps(&self) -> &[StrStep]
+        ensures { result.now ≡ self.now.steps }
     {
-        self.steps
+        &self.steps
+    }
+
+    // Whether no `Error` is among the steps that the sink has received.
+    pub(crate) fn has_no_errors(&self) -> bool
+        ensures { result ≡ has_no_errors self.now.steps }
+    {
+        self.has_no_errors
+    }
+
+    // The steps that the sink has received, less their `Error` steps.
+    pub(crate) fn into_steps(self) -> Vec<StrStep>
+        ensures { result.items ≡ without_errors self.steps }
+    {
+        without_errors(self.steps, self.has_no_errors)
     }
 
     /// The tree with the steps that the sink has received, less their `Error` steps, and the errors
@@ -91,7 +134,12 @@ impl TreeSink {
         ensures refusals { IfErr result IsOutOfMemory }
     {
         let len = last_end(&self.steps);
-        Ok(Parse::new(self.alloc, self.steps, self.errors, len)?)
+        let parts = TreeParts {
+            steps: without_errors(self.steps, self.has_no_errors),
+            errors: self.errors,
+            len,
+        };
+        Ok(Parse::new(self.alloc, parts)?)
     }
 }
 
@@ -101,7 +149,11 @@ impl StepSink for TreeSink {
     ghost errors = { λ s. s.errors };
 
     fn step(&mut self, step: StrStep) -> Result<(), FrontError> {
+        let is_kept = is_kept(&step);
         self.steps.push(step)?;
+        if !is_kept {
+            self.has_no_errors = false;
+        }
         Ok(())
     }
 }

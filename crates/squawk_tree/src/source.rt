@@ -9,24 +9,26 @@ ghost use Rattle.squawk_lexer.specs.declared.token.Strings.TheVariants.{Standard
 ghost use Rattle.squawk_statements.specs.Plain.{plain};
 ghost use Rattle.squawk_statements.specs.declared.division.Division.TheVariants.{Flat};
 ghost use Rattle.squawk_tree.specs.Parses.{ParsesText, ParsesTokens};
+ghost use Rattle.squawk_tree.specs.Walk.{covers, errors_by_step};
 
-use crate::errors::errors_of_steps;
+use crate::errors::{errors_of_steps, lexical_errors};
 use crate::laws::{children_join, parses_are_trees};
+use crate::parse::TreeParts;
 use crate::{Parse, TreeSink};
-use squawk_events::{EntryPoint, FrontError, Grammar, StrStep};
+use squawk_events::{EntryPoint, FrontError, Grammar, ParseError};
 use squawk_lexed::LexedStr;
 use squawk_lexed::laws::leaves_keep_roles;
 use squawk_lexer::Strings;
 use squawk_statements::{Division, GroupedGrammar, PlainGrammar};
 use std::alloc::Global;
 
-// The output of a grammar for these tokens, woven with them.
+// The output of a grammar for these tokens, woven with them, in a sink.
 fn woven_steps<G: Grammar>(
     alloc: Global,
     lexed: &LexedStr<'_>,
     grammar: &G,
-) -> Result<Vec<StrStep>, FrontError>
-    ensures steps { IfOk result (λ steps. steps.items
+) -> Result<TreeSink, FrontError>
+    ensures steps { IfOk result (λ sink. sink.steps
         ≡ weave lexed.now.tokens (G.told grammar.now (kinds_without_trivia lexed.now.tokens))) }
     ensures lawful { OnOk result (IsLawful (kinds_without_trivia lexed.now.tokens)
         (G.told grammar.now (kinds_without_trivia lexed.now.tokens))) }
@@ -36,7 +38,61 @@ fn woven_steps<G: Grammar>(
     let output = EntryPoint::SourceFile.parse(alloc, &input, grammar)?;
     let mut sink = TreeSink::new(alloc);
     let _ = lexed.intersperse_trivia(&output, &mut sink)?;
-    Ok(sink.into_steps())
+    Ok(sink)
+}
+
+// The errors of the steps in a sink. No walk over them is needed if no `Error` is among them.
+fn errors_in(
+    alloc: Global,
+    lexed: &LexedStr<'_>,
+    sink: &TreeSink,
+) -> Result<Vec<ParseError>, FrontError>
+    requires sound { IsTrue (are_sound lexed.now.tokens) }
+    requires covered { IsTrue (covers 0 lexed.now.tokens sink.now.steps) }
+    ensures ok { IfOk result (λ errors.
+        errors.items ≡ errors_by_step 0 lexed.now.tokens sink.now.steps) }
+    ensures refusals { IfErr result IsOutOfMemory }
+{
+    if sink.has_no_errors() {
+        lexical_errors(alloc, lexed)
+    } else {
+        errors_of_steps(alloc, lexed, sink.steps())
+    }
+}
+
+// The steps, the errors and the length of the parse of these tokens by a grammar.
+fn parts_of<G: Grammar>(
+    alloc: Global,
+    lexed: &LexedStr<'_>,
+    grammar: &G,
+) -> Result<TreeParts, FrontError>
+    ensures parse { ParsesTokens (G.told grammar.now) lexed.now result }
+    ensures sound { IsTrue (are_sound lexed.now.tokens) }
+    ensures refusals { IfErr result IsOutOfMemory }
+{
+    let len = lexed.text_start(lexed.len()) as u32;
+    let sink = woven_steps(alloc, lexed, grammar)?;
+    let errors = errors_in(alloc, lexed, &sink)?;
+    Ok(TreeParts {
+        steps: sink.into_steps(),
+        errors,
+        len,
+    })
+}
+
+// The parse of these tokens by a grammar. Their memory is free before the parse looks up ranges.
+fn parse_owned<G: Grammar>(
+    alloc: Global,
+    lexed: LexedStr<'_>,
+    grammar: &G,
+) -> Result<Parse, FrontError>
+    ensures parse { ParsesTokens (G.told grammar.now) lexed.entry result }
+    ensures sound { IsTrue (are_sound lexed.entry.tokens) }
+    ensures refusals { IfErr result IsOutOfMemory }
+{
+    let parts = parts_of(alloc, &lexed, grammar)?;
+    drop(lexed);
+    Ok(Parse::new(alloc, parts)?)
 }
 
 /// Parses the tokens of a text by a grammar. The only error is `OutOfMemory`.
@@ -54,10 +110,8 @@ pub fn parse_lexed<G: Grammar>(
     ensures sound { IsTrue (are_sound lexed.now.tokens) }
     ensures refusals { IfErr result IsOutOfMemory }
 {
-    let len = lexed.text_start(lexed.len()) as u32;
-    let steps = woven_steps(alloc, lexed, grammar)?;
-    let errors = errors_of_steps(alloc, lexed, &steps)?;
-    Ok(Parse::new(alloc, steps, errors, len)?)
+    let parts = parts_of(alloc, lexed, grammar)?;
+    Ok(Parse::new(alloc, parts)?)
 }
 
 /// Parses a text by a grammar, as `parse_lexed` does; `strings` says how plain strings are read.
@@ -75,7 +129,7 @@ pub fn parse_with_in<G: Grammar>(
     ensures refusals { IfErr result (MayRefuse text.now) }
 {
     let lexed = LexedStr::new_in(alloc, text, strings)?;
-    parse_lexed(alloc, &lexed, grammar)
+    parse_owned(alloc, lexed, grammar)
 }
 
 /// Parses a text by a grammar, where a backslash in a plain string is an ordinary character.
@@ -89,18 +143,14 @@ pub fn parse_with<G: Grammar>(alloc: Global, text: &str, grammar: &G) -> Result<
 }
 
 // The parse of the tokens of a text into statements.
-fn parse_tokens(
-    alloc: Global,
-    lexed: &LexedStr<'_>,
-    division: Division,
-) -> Result<Parse, FrontError>
-    ensures parse { ParsesTokens (plain division) lexed.now result }
-    ensures sound { IsTrue (are_sound lexed.now.tokens) }
+fn parse_tokens(alloc: Global, lexed: LexedStr<'_>, division: Division) -> Result<Parse, FrontError>
+    ensures parse { ParsesTokens (plain division) lexed.entry result }
+    ensures sound { IsTrue (are_sound lexed.entry.tokens) }
     ensures refusals { IfErr result IsOutOfMemory }
 {
     match division {
-        Division::Flat => parse_lexed(alloc, lexed, &PlainGrammar),
-        Division::Grouped => parse_lexed(alloc, lexed, &GroupedGrammar),
+        Division::Flat => parse_owned(alloc, lexed, &PlainGrammar),
+        Division::Grouped => parse_owned(alloc, lexed, &GroupedGrammar),
     }
 }
 
@@ -126,7 +176,7 @@ pub fn parse_divided(
     children_join();
     parses_are_trees();
     let lexed = LexedStr::new_in(alloc, text, strings)?;
-    parse_tokens(alloc, &lexed, division)
+    parse_tokens(alloc, lexed, division)
 }
 
 /// Parses a text into statements, where each semicolon ends one; `strings` says how plain

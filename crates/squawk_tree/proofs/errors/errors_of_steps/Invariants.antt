@@ -1,13 +1,13 @@
-use Rattle.std.proofs.Common.{◌≡◌, ◌++◌, drop, take}
-use Rattle.squawk_lexed.specs.LexedText.{total_len}
-use Rattle.squawk_tree.specs.Walk.{errors_by_step, IsWalk}
+use Rattle.std.proofs.Common.{◌≤◌, drop}
+use Rattle.squawk_lexed.specs.Stored.{errors_of}
+use Rattle.squawk_tree.specs.Walk.{merged_errors}
+use Rattle.squawk_tree.proofs.WalkLemmas.{WalkSoFar}
 use Rattle.squawk_tree.proofs.errors.errors_of_steps.Given as goal
 
--- the errors of the steps that were read and of those that remain are those of all steps
 abbrev pub invariant-loop-step : goal.invariant-loop-step
 invariant-loop-step l = record {
-  errors : l.errors.items ++ errors_by_step (total_len (take l.walk.token l.lexed.tokens))
-      (drop l.walk.token l.lexed.tokens) (drop l.step-index l.steps)
-      ≡ errors_by_step 0 l.lexed.tokens l.steps;
-  walk : IsWalk l.lexed.tokens l.walk.token l.walk.error;
+  walk : WalkSoFar l.errors.items l.lexed.tokens l.walk.token l.walk.error
+      (drop l.step-index l.steps)
+      (merged_errors 0 l.lexed.tokens (errors_of 0 l.lexed.tokens) l.steps);
+  few : l.walk.token ≤ l.step-index;
 }

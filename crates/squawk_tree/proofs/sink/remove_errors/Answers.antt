@@ -4,7 +4,7 @@ use Rattle.std.proofs.lemmas.List.Elements.{filter_from_retain}
 use Rattle.squawk_events.specs.declared.steps.StrStep.{StrStep}
 use Rattle.squawk_events.specs.declared.steps.StrStep.TheVariants.{Enter, Token, Exit, Error}
 use Rattle.squawk_tree.specs.Steps.{without_errors}
-use Rattle.squawk_tree.proofs.parse.remove_errors.Goals as goal
+use Rattle.squawk_tree.proofs.sink.remove_errors.Goals as goal
 
 -- whether a step is no `Error`
 abbrev is_kept : StrStep → Bool

@@ -5,22 +5,29 @@ use Rattle.squawk_lexed.specs.LexedToken.{LexedToken}
 use Rattle.squawk_lexed.specs.Weave.{kinds_without_trivia}
 use Rattle.squawk_tree.specs.Steps.{only_tokens}
 use Rattle.squawk_tree.specs.Tree.{Tree, IsTree}
-use Rattle.squawk_tree.specs.Walk.{errors_by_step}
+use Rattle.squawk_tree.proofs.ErrorLemmas.{covers_whole}
 use Rattle.squawk_tree.proofs.LeavesLemmas.{leaves_whole}
 use Rattle.squawk_tree.proofs.TreeLaws.{tree_of_lawful, parts_are}
-use Rattle.squawk_tree.proofs.source.parse_lexed.Goals as goal
+use Rattle.squawk_tree.proofs.source.parts_of.Goals as goal
 
 whole_len : (ts : List LexedToken) (n len : ℕ) → n ≡ length ts → len ≡ total_len (take n ts)
     → len ≡ total_len ts
 whole_len ts n len count is =
     is ∙ ap total_len (take_all n ts (omega arith))
 
-pub new-requires : goal.new-requires
-new-requires g c =
+pub errors_in-requires-clause-covered : goal.errors_in-requires-clause-covered
+errors_in-requires-clause-covered g c =
     let ts = c.args.lexed.now.tokens in
-    let lawful = c.in_ok-steps.ensures.lawful in
-    subst IsTree (sym (parts_are ts _ _ _ _ c.len.ensures.sound lawful c.in_ok-steps.ensures.steps
-    (c.in_ok-errors.ensures.ok ∙ ap (errors_by_step 0 ts) c.deref.ensures.value)
+    let told = g.G.Grammar.told c.args.grammar.now (kinds_without_trivia ts) in
+    let lawful = c.in_ok-sink.ensures.lawful in
+    rw c.in_ok-sink.ensures.steps (covers_whole ts told lawful.balanced lawful.tokens)
+
+pub invariant_of-result : goal.invariant_of-result
+invariant_of-result g c =
+    let ts = c.args.lexed.now.tokens in
+    let lawful = c.in_ok-sink.ensures.lawful in
+    subst IsTree (sym (parts_are ts _ _ _ _ _ c.len.ensures.sound lawful c.in_ok-sink.ensures.steps
+    c.into_steps.ensures c.in_ok-errors.ensures.ok
     (whole_len ts _ _ c.len.ensures.count c.text_start-len.ensures)))
     (tree_of_lawful ts _ c.len.ensures.sound lawful)
 
@@ -28,10 +35,9 @@ pub returns-clause-parse : goal.returns-clause-parse
 returns-clause-parse g c =
     let ts = c.args.lexed.now.tokens in
     let told = g.G.Grammar.told c.args.grammar.now (kinds_without_trivia ts) in
-    let lawful = c.in_ok-steps.ensures.lawful in
-    let is = c.in_ok-new.ensures ∙ parts_are ts told _ _ _ c.len.ensures.sound lawful
-    c.in_ok-steps.ensures.steps
-    (c.in_ok-errors.ensures.ok ∙ ap (errors_by_step 0 ts) c.deref.ensures.value)
+    let lawful = c.in_ok-sink.ensures.lawful in
+    let is = parts_are ts told _ _ _ _ c.len.ensures.sound lawful
+    c.in_ok-sink.ensures.steps c.into_steps.ensures c.in_ok-errors.ensures.ok
     (whole_len ts _ _ c.len.ensures.count c.text_start-len.ensures) in
     record {
       tree = is;

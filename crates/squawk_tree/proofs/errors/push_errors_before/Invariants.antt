@@ -1,6 +1,6 @@
 use Rattle.std.proofs.Common.{◌≡◌, ◌≤◌, ◌++◌, ◌-◌, drop, length}
 use Rattle.squawk_tree.specs.Walk.{errors_before, errors_not_before}
-use Rattle.squawk_tree.proofs.errors.push_lexical_errors.Given as goal
+use Rattle.squawk_tree.proofs.errors.push_errors_before.Given as goal
 
 -- the errors that were appended and those that remain are all that begin before the end
 abbrev pub invariant-loop-next : goal.invariant-loop-next
