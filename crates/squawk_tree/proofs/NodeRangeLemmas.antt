@@ -1,14 +1,12 @@
 -- A range of a step is found among those of the nodes, by the number of nodes' steps before it.
-use Rattle.std.proofs.Common.{◌≡◌, ℕ, zero, suc, ◌+◌, ◌-◌, ◌*◌, ◌/◌, ◌<◌, ◌≤◌, min, leb, Bool, true, false, List, [], ◌∷◌, ◌++◌, length, take, drop, ap, sym, ◌∙◌, refl, arith, get_or, slice_get, slice_index_or}
+use Rattle.std.proofs.Common.{◌≡◌, ℕ, zero, suc, ◌+◌, ◌-◌, ◌*◌, ◌/◌, ◌%◌, ◌<◌, ◌≤◌, true, false, List, [], ◌∷◌, ◌++◌, length, take, drop, ap, sym, ◌∙◌, refl, arith, get_or, slice_get, slice_index_or}
 use Rattle.std.specs.Prelude.{Option, Some, None, is_none}
-use Rattle.std.proofs.lemmas.Bool.{leb-true}
-use Rattle.std.proofs.lemmas.Bool.Decides.{nat_tests}
-use Rattle.std.proofs.lemmas.List.{take_all, length-drop, length-take, length-take-le}
+use Rattle.std.proofs.lemmas.List.{length_push, length-take-le}
 use Rattle.std.proofs.lemmas.Option.{get_or_from_slice_get, slice_get_within, slice_get-get_or}
 use Rattle.std.specs.List.{zip}
 use Rattle.squawk_events.specs.declared.steps.StrStep.{StrStep}
 use Rattle.squawk_events.specs.declared.steps.StrStep.TheVariants.{Enter, Token, Exit, Error}
-use Rattle.squawk_tree.specs.NodeRanges.{AreNodeStepCounts, token_range, node_step_count, at_nodes, node_ranges, with_ranges}
+use Rattle.squawk_tree.specs.NodeRanges.{AreNodeStepCounts, AreCountsUpTo, token_range, node_step_count, at_nodes, node_ranges, with_ranges}
 use Rattle.squawk_tree.specs.Ranges.{node_end, first_offset, other_offsets, ranges, ranges_from}
 use Rattle.squawk_tree.proofs.RangeLemmas.{length_ranges_from}
 
@@ -197,33 +195,43 @@ count_and_rest_le steps counts i rest are lt is =
     let len = length-take-le i steps (omega (arith, lt)) in
     omega (arith, sum, few, len)
 
--- a list from an index on is all of its elements up to any end past the last
-take_past : (a n : ℕ) (xs : List StrStep) → length xs ≤ n → a ≤ length xs
-    → take (n - a) (drop a xs) ≡ take (length xs - a) (drop a xs)
-take_past a n xs le within =
-    let len = length-drop a xs in
-    take_all (n - a) (drop a xs) (omega (arith, len, le, within))
-    ∙ sym (take_all (length xs - a) (drop a xs) (omega (arith, len, within)))
+-- the counts that are kept up to the next step, if one is kept for this step, and if none is
+pub counts_push : (steps : List StrStep) (i nodes : ℕ) (counts counts' : List ℕ) → i % 64 ≡ 0
+    → AreCountsUpTo steps i counts → nodes ≡ node_step_count (take i steps)
+    → counts' ≡ counts ++ nodes ∷ [] → AreCountsUpTo steps (i + 1) counts'
+counts_push steps i nodes counts counts' kept are nodes_is is =
+    let enough = are.enough in
+    let few = are.few in
+    let here : i ≡ 64 * length counts = omega (arith, kept, enough, few) in
+    let len = ap length is ∙ length_push counts nodes in
+    record {
+      enough = omega (arith, len, here);
+      few = omega (arith, len, here);
+      counts_are = rw is (by_index_push (λ j. node_step_count (take (64 * j) steps)) counts nodes
+          are.counts_are (nodes_is ∙ ap (λ n. node_step_count (take n steps)) here));
+    }
 
--- one more chunk of steps, which ends after 64 or with the last
-pub node_count_chunk : (at end : ℕ) (xs : List StrStep) (nodes more : ℕ) → at ≤ length xs
-    → end ≡ min (length xs) (at + 64) → nodes ≡ node_step_count (take at xs)
-    → more ≡ node_step_count (take (end - at) (drop at xs))
-    → nodes + more ≡ node_step_count (take (at + 64) xs)
-node_count_chunk at end xs nodes more within end_is nodes_are more_is =
-    rw (nodes_are, more_is, end_is) (ap (λ ys. node_step_count (take at xs) + node_step_count ys)
-    (by (leb (length xs) (at + 64)) refl) ∙ node_count_up_to at (at + 64) xs (omega arith))
-  where
-    by : (b : Bool) → leb (length xs) (at + 64) ≡ b
-        → take (min (length xs) (at + 64) - at) (drop at xs) ≡ take (at + 64 - at) (drop at xs)
-    by true is = let e : min (length xs) (at + 64) ≡ length xs = grind (arith, nat_tests) in
-        rw e (sym (take_past at (at + 64) xs (leb-true _ _ is) within))
-    by false is = let e : min (length xs) (at + 64) ≡ at + 64 = grind (arith, nat_tests) in
-        rw e refl
+pub counts_keep : (steps : List StrStep) (i : ℕ) (counts : List ℕ) → 1 ≤ i % 64
+    → AreCountsUpTo steps i counts → AreCountsUpTo steps (i + 1) counts
+counts_keep steps i counts kept are =
+    let enough = are.enough in
+    let few = are.few in
+    record {
+      enough = omega (arith, kept, enough, few);
+      few = omega (arith, few);
+      counts_are = are.counts_are;
+    }
 
--- a chunk has at most 64 steps
-pub chunk_len : (at end : ℕ) (xs : List StrStep) → end ≡ min (length xs) (at + 64)
-    → length (take (end - at) (drop at xs)) ≤ 64
-chunk_len at end xs is =
-    let len = length-take (end - at) (drop at xs) in
-    grind (arith, nat_tests)
+-- at first, and after the last step
+pub counts_start : (steps : List StrStep) → AreCountsUpTo steps 0 []
+counts_start steps = record {
+  enough = omega arith;
+  few = omega arith;
+  counts_are = λ j lt. absurd (omega (arith, lt));
+}
+
+pub counts_end : (steps : List StrStep) (i : ℕ) (counts : List ℕ) → length steps ≤ i
+    → AreCountsUpTo steps i counts → AreNodeStepCounts steps counts
+counts_end steps i counts le are =
+    let enough = are.enough in
+    record { enough = omega (arith, le, enough); counts_are = are.counts_are }

@@ -1,12 +1,13 @@
 -- The ranges of the nodes' steps that a pass has read, and of those that remain, are those of all
 -- steps of nodes.
-use Rattle.std.proofs.Common.{◌≡◌, ℕ, suc, zero, ◌<◌, ◌≤◌, true, List, [], ◌∷◌, ◌++◌, length, slice_set, ap, sym, ◌∙◌, refl, subst, append_assoc, arith}
-use Rattle.std.proofs.lemmas.List.{set-append_left, set_at, length-set, length_push}
+use Rattle.std.proofs.Common.{◌≡◌, ℕ, suc, zero, ◌<◌, ◌≤◌, true, List, [], ◌∷◌, ◌++◌, length, slice_set, take, drop, ◌+◌, ap, sym, ◌∙◌, refl, subst, append_assoc, arith}
+use Rattle.std.proofs.lemmas.List.{append-nil, set-append_left, set_at, length-set, length_push}
 use Rattle.std.proofs.lemmas.Bool.Decides.{nat_tests}
 use Rattle.squawk_tree.specs.Spans.{AreBelow, spans_after, open_nodes_after, offset_after}
 use Rattle.squawk_tree.specs.Steps.{closes, is_balanced}
-use Rattle.squawk_tree.specs.NodeRanges.{at_nodes, node_ranges}
+use Rattle.squawk_tree.specs.NodeRanges.{at_nodes, node_ranges, node_step_count}
 use Rattle.squawk_tree.specs.Ranges.{ranges_from, node_end}
+use Rattle.squawk_tree.proofs.NodeRangeLemmas.{node_count_split}
 use Rattle.squawk_events.specs.declared.steps.StrStep.{StrStep}
 use Rattle.squawk_events.specs.declared.steps.StrStep.TheVariants.{Enter, Token, Exit, Error}
 
@@ -152,3 +153,37 @@ so_far_start steps h = record {
   count =
       balanced_open_count steps h;
 }
+
+-- a step adds a range if it is a step of a node
+spans_len : (spans ps : List (ℕ × ℕ)) (at : ℕ) (x : StrStep)
+    → length (spans_after spans ps at x) ≡ length spans + node_step_count (x ∷ [])
+spans_len spans ps at (Enter kind) = length_push spans (at, at)
+spans_len spans ps at (Token kind start end) = omega arith
+spans_len spans ps at (Error number offset) = length_push spans (at, at)
+spans_len spans [] at Exit = length_push spans (0, at)
+spans_len spans (p ∷ ps) at Exit =
+    length_push (slice_set spans p.0 (p.1, at)) (p.1, at)
+    ∙ ap (λ n. n + 1) (length-set spans p.0 (p.1, at))
+
+-- so there are as many ranges as steps of nodes
+pub spans_counted : (spans ps : List (ℕ × ℕ)) (at i : ℕ) (x : StrStep) (xs steps : List StrStep)
+    (spans' : List (ℕ × ℕ)) → length spans ≡ node_step_count (take i steps)
+    → drop i steps ≡ x ∷ xs → spans' ≡ spans_after spans ps at x
+    → length spans' ≡ node_step_count (take (i + 1) steps)
+spans_counted spans ps at i x xs steps spans' len is spans_is =
+    let added = ap length spans_is ∙ spans_len spans ps at x in
+    let split = node_count_split i 1 steps
+    ∙ ap (λ ys. node_step_count (take i steps) + node_step_count (take 1 ys)) is in
+    omega (arith, added, split, len)
+
+-- at the end the ranges are those of all steps of nodes
+pub so_far_end : (spans ps : List (ℕ × ℕ)) (at : ℕ) (left : List StrStep) (all : List (ℕ × ℕ))
+    → SpansSoFar spans ps at left all → left ≡ [] → spans ≡ all
+so_far_end spans ps at left all h none =
+    sym (append-nil spans) ∙ ap (λ qs. whole spans qs at []) (sym (no_nodes ps
+    (ap (open_count (length ps)) (sym none) ∙ h.count)))
+    ∙ ap (whole spans ps at) (sym none) ∙ h.whole_is
+  where
+    no_nodes : (ps : List (ℕ × ℕ)) → length ps ≡ 0 → ps ≡ []
+    no_nodes [] e = refl
+    no_nodes (p ∷ ps) e = absurd (omega (arith, e))

@@ -1,7 +1,7 @@
 -- What a `Parse` stores of the ranges of its steps: those of nodes. The range of a token is in its
 -- step. Every step other than a `Token` is a step of a node here: the steps of a tree have no
 -- `Error` among them.
-use Rattle.std.specs.Prelude.{◌≡◌, ℕ, suc, ◌*◌, ◌<◌, ◌≤◌, List, [], ◌∷◌, Option, Some, None, length, slice_get, take}
+use Rattle.std.specs.Prelude.{◌≡◌, ℕ, suc, ◌+◌, ◌*◌, ◌<◌, ◌≤◌, List, [], ◌∷◌, Option, Some, None, length, slice_get, take}
 use Rattle.squawk_events.specs.declared.steps.StrStep.{StrStep}
 use Rattle.squawk_events.specs.declared.steps.StrStep.TheVariants.{Enter, Token, Exit, Error}
 use Rattle.squawk_tree.specs.Ranges.{ranges}
@@ -37,6 +37,13 @@ node_ranges steps = at_nodes steps (ranges steps)
 -- for every 64th step, the number of steps of nodes before it
 pub record AreNodeStepCounts (steps : List StrStep) (counts : List ℕ) : Type 0 where
   pub enough : length steps ≤ 64 * length counts
+  pub counts_are : (j : ℕ) → j < length counts
+      → slice_get counts j ≡ Some (node_step_count (take (64 * j) steps))
+
+-- the counts that are kept for the steps before the i-th
+pub record AreCountsUpTo (steps : List StrStep) (i : ℕ) (counts : List ℕ) : Type 0 where
+  pub enough : i ≤ 64 * length counts
+  pub few : 64 * length counts < i + 64
   pub counts_are : (j : ℕ) → j < length counts
       → slice_get counts j ≡ Some (node_step_count (take (64 * j) steps))
 

@@ -1,15 +1,14 @@
-//! The children of a tree's root, found in one pass over its steps.
-ghost use Rattle.std.specs.Prelude.{◌≡◌, ◌≤◌, ◌<◌, ◌+◌, ◌++◌, ◌^◌, ◌∷◌, [], ℕ, List, IfOk, IsTrue, length, drop};
+//! The children of a tree's root, found step by step.
+ghost use Rattle.std.specs.Prelude.{◌≡◌, ◌≤◌, ◌<◌, ◌+◌, ◌++◌, ◌^◌, ◌∷◌, [], ℕ, List, IfOk, IsTrue};
 ghost use Rattle.squawk_events.specs.declared.steps.StrStep.{StrStep as Given};
-ghost use Rattle.squawk_tree.specs.ChildSpans.{child_spans};
 ghost use Rattle.squawk_tree.specs.ChildPass.{remaining, depth, IsCounted};
 ghost use Rattle.squawk_tree.specs.Spans.{offset_after};
 ghost use Rattle.squawk_tree.specs.declared.children.PassState.TheVariants.{UnderRoot, InChild};
-ghost use Rattle.squawk_tree.specs.Steps.{closes, is_balanced};
+ghost use Rattle.squawk_tree.specs.Steps.{closes};
 
 use squawk_events::StrStep;
 use squawk_kinds::SyntaxKind;
-use std::alloc::{AllocError, Global};
+use std::alloc::AllocError;
 
 /// A child of the root: a leaf, or a node with all of its descendants.
 #[derive(Clone, Copy, Debug, PartialEq, Eq)]
@@ -124,7 +123,7 @@ fn pass_in_child(
 }
 
 // Reads a step. Returns the next state.
-fn pass_step(
+pub(crate) fn pass_step(
     children: &mut Vec<ChildSpan>,
     state: PassState,
     at: u32,
@@ -146,29 +145,4 @@ fn pass_step(
         PassState::UnderRoot => pass_under_root(children, at, index, step),
         PassState::InChild { child } => pass_in_child(children, child, at, step),
     }
-}
-
-// The end of the last token after a step at the offset `at`.
-fn offset_after(at: u32, step: StrStep) -> u32
-    ensures { result ≡ offset_after at step }
-{
-    match step {
-        StrStep::Token { end, .. } => end,
-        _ => at,
-    }
-}
-
-// The children of the root.
-pub(crate) fn child_spans(alloc: Global, steps: &[StrStep]) -> Result<Vec<ChildSpan>, AllocError>
-    requires { IsTrue (is_balanced steps.now) }
-    ensures { IfOk result (λ children. children.items ≡ child_spans steps.now) }
-{
-    let mut children = Vec::new(alloc);
-    let mut state = PassState::UnderRoot;
-    let mut at = 0;
-    for i in 1..steps.len() {
-        state = pass_step(&mut children, state, at, i, steps[i])?;
-        at = offset_after(at, steps[i]);
-    }
-    Ok(children)
 }

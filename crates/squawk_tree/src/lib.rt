@@ -9,6 +9,7 @@ mod sink;
 mod source;
 mod spans;
 mod step_ranges;
+mod tables;
 #[cfg(test)]
 mod tests;
 

@@ -7,9 +7,10 @@ ghost use Rattle.squawk_tree.specs.Ranges.{ranges};
 ghost use Rattle.squawk_tree.specs.Steps.{root_children};
 ghost use Rattle.squawk_tree.specs.Tree.{Tree, IsTree, IsErrorWithin, IsRangeOf};
 
-use crate::children::{ChildSpan, child_spans};
-use crate::spans::{counts_of, node_steps_before, spans_of, token_range};
+use crate::children::ChildSpan;
+use crate::spans::{node_steps_before, token_range};
 use crate::step_ranges::{StepRanges, step_ranges};
+use crate::tables::{Tables, tables_of};
 use squawk_events::{ParseError, StrStep};
 use std::alloc::{AllocError, Global};
 use std::marker::Model;
@@ -68,9 +69,11 @@ impl Parse {
         ensures { IfOk result (λ parse. parse ≡ parts) }
     {
         let TreeParts { steps, errors, len } = parts;
-        let spans = spans_of(alloc, &steps)?;
-        let counts = counts_of(alloc, &steps)?;
-        let children = child_spans(alloc, &steps)?;
+        let Tables {
+            spans,
+            counts,
+            children,
+        } = tables_of(alloc, &steps)?;
         Ok(Parse {
             steps,
             spans,

@@ -1,14 +1,13 @@
 //! The ranges of the nodes of a tree, and the counts by which they are looked up.
-ghost use Rattle.std.specs.Prelude.{◌≡◌, ◌≤◌, ◌<◌, OnOk, IfOk, IsTrue, length, reverse, take};
-ghost use Rattle.squawk_tree.specs.NodeRanges.{token_range, node_step_count, node_ranges, AreNodeStepCounts};
+ghost use Rattle.std.specs.Prelude.{◌≡◌, ◌≤◌, ◌<◌, OnOk, IfOk, length, reverse, take};
+ghost use Rattle.squawk_tree.specs.NodeRanges.{token_range, node_step_count, AreNodeStepCounts};
 ghost use Rattle.squawk_tree.specs.Spans.{spans_after, open_nodes_after, offset_after, AreBelow};
-ghost use Rattle.squawk_tree.specs.Steps.{is_balanced};
 
 use squawk_events::StrStep;
-use std::alloc::{AllocError, Global};
+use std::alloc::AllocError;
 
 // The number of steps from one kept count to the next.
-const STRIDE: usize = 64;
+pub(crate) const STRIDE: usize = 64;
 
 // The range of a `Token`, and `None` for another step.
 pub(crate) fn token_range(step: StrStep) -> Option<(u32, u32)>
@@ -24,7 +23,7 @@ pub(crate) fn token_range(step: StrStep) -> Option<(u32, u32)>
 // last token after the step.
 //
 // An open node is the index of its range and the offset at which it begins.
-fn add_step(
+pub(crate) fn add_step(
     spans: &mut Vec<(u32, u32)>,
     open_nodes: &mut Vec<(usize, u32)>,
     at: u32,
@@ -60,20 +59,6 @@ fn add_step(
     }
 }
 
-// The range of each step other than a `Token`.
-pub(crate) fn spans_of(alloc: Global, steps: &[StrStep]) -> Result<Vec<(u32, u32)>, AllocError>
-    requires { IsTrue (is_balanced steps.now) }
-    ensures { IfOk result (λ spans. spans.items ≡ node_ranges steps.now) }
-{
-    let mut spans = Vec::with_capacity(alloc, node_step_count(steps))?;
-    let mut open_nodes = Vec::new(alloc);
-    let mut at = 0;
-    for step in steps {
-        at = add_step(&mut spans, &mut open_nodes, at, *step)?;
-    }
-    Ok(spans)
-}
-
 // The number of steps other than `Token`.
 fn node_step_count(steps: &[StrStep]) -> usize
     ensures count { result ≡ node_step_count steps.now }
@@ -86,22 +71,6 @@ fn node_step_count(steps: &[StrStep]) -> usize
         }
     }
     count
-}
-
-// For every 64th step, the number of steps other than `Token` before it.
-pub(crate) fn counts_of(alloc: Global, steps: &[StrStep]) -> Result<Vec<usize>, AllocError>
-    ensures { IfOk result (λ counts. AreNodeStepCounts steps.now counts.items) }
-{
-    let mut counts = Vec::with_capacity(alloc, steps.len() / STRIDE + 1)?;
-    let mut nodes = 0;
-    let mut at = 0;
-    while at < steps.len() {
-        counts.push(nodes)?;
-        let end = steps.len().min(at + STRIDE);
-        nodes += node_step_count(&steps[at..end]);
-        at += STRIDE;
-    }
-    Ok(counts)
 }
 
 // The number of steps other than `Token` before the i-th, found from the kept counts.

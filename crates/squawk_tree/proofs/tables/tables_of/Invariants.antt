@@ -1,0 +1,21 @@
+use Rattle.std.proofs.Common.{◌≡◌, ◌++◌, drop, length, reverse, take}
+use Rattle.std.specs.Prelude.{IsTrue}
+use Rattle.squawk_tree.specs.ChildPass.{remaining, depth, IsCounted}
+use Rattle.squawk_tree.specs.ChildSpans.{child_spans}
+use Rattle.squawk_tree.specs.NodeRanges.{node_ranges, node_step_count, AreCountsUpTo}
+use Rattle.squawk_tree.specs.Steps.{closes}
+use Rattle.squawk_tree.proofs.SpanLemmas.{SpansSoFar}
+use Rattle.squawk_tree.proofs.tables.tables_of.Given as goal
+
+-- the tables of the steps that were read
+abbrev pub invariant-loop-i : goal.invariant-loop-i
+invariant-loop-i l = record {
+  spans : SpansSoFar l.spans.items (reverse l.open_nodes.items) l.at (drop l.i l.steps)
+      (node_ranges l.steps);
+  nodes : length l.spans.items ≡ node_step_count (take l.i l.steps);
+  counts : AreCountsUpTo l.steps l.i l.counts.items;
+  children : l.children.items ++ remaining l.state l.at l.i (drop l.i l.steps)
+      ≡ child_spans l.steps;
+  closes : IsTrue (closes (depth l.state) (drop l.i l.steps));
+  counted : IsCounted l.i l.state;
+}

@@ -1,0 +1,58 @@
+//! What a tree keeps beside its steps, found in one pass over them.
+ghost use Rattle.std.specs.Prelude.{◌≡◌, ◌+◌, ◌<◌, ◌^◌, ℕ, List, OnOk, IfOk, IsTrue, take};
+ghost use Rattle.squawk_events.specs.declared.steps.StrStep.{StrStep as Given};
+ghost use Rattle.squawk_tree.specs.ChildSpans.{child_spans};
+ghost use Rattle.squawk_tree.specs.NodeRanges.{node_step_count, node_ranges, AreNodeStepCounts, AreCountsUpTo};
+ghost use Rattle.squawk_tree.specs.Steps.{is_balanced};
+
+use crate::children::{ChildSpan, PassState, pass_step};
+use crate::spans::{STRIDE, add_step};
+use squawk_events::StrStep;
+use std::alloc::{AllocError, Global};
+
+// The ranges of the nodes' steps, the counts by which they are looked up, and the root's children.
+#[derive(Drop)]
+pub(crate) struct Tables {
+    pub(crate) spans: Vec<(u32, u32)>,
+    pub(crate) counts: Vec<usize>,
+    pub(crate) children: Vec<ChildSpan>,
+}
+
+// Appends the number of nodes' steps before the i-th step, if a count is kept for this step.
+fn push_count(counts: &mut Vec<usize>, i: usize, nodes: usize) -> Result<(), AllocError>
+    ensures { OnOk result ((steps : List Given) → AreCountsUpTo steps i counts.old.items
+        → nodes ≡ node_step_count (take i steps)
+        → AreCountsUpTo steps (i + 1) counts.new.items) }
+{
+    if i % STRIDE == 0 {
+        counts.push(nodes)?;
+    }
+    Ok(())
+}
+
+// The tables of a tree with these steps.
+pub(crate) fn tables_of(alloc: Global, steps: &[StrStep]) -> Result<Tables, AllocError>
+    requires { IsTrue (is_balanced steps.now) }
+    ensures spans { IfOk result (λ tables. tables.spans.items ≡ node_ranges steps.now) }
+    ensures counts { IfOk result (λ tables. AreNodeStepCounts steps.now tables.counts.items) }
+    ensures children { IfOk result (λ tables. tables.children.items ≡ child_spans steps.now) }
+{
+    let mut spans = Vec::new(alloc);
+    let mut open_nodes = Vec::new(alloc);
+    let mut counts = Vec::new(alloc);
+    let mut children = Vec::new(alloc);
+    // The first step enters the root.
+    push_count(&mut counts, 0, 0)?;
+    let mut at = add_step(&mut spans, &mut open_nodes, 0, steps[0])?;
+    let mut state = PassState::UnderRoot;
+    for i in 1..steps.len() {
+        push_count(&mut counts, i, spans.len())?;
+        state = pass_step(&mut children, state, at, i, steps[i])?;
+        at = add_step(&mut spans, &mut open_nodes, at, steps[i])?;
+    }
+    Ok(Tables {
+        spans,
+        counts,
+        children,
+    })
+}
