@@ -16,28 +16,37 @@ use Rattle.squawk_tree.specs.Walk.{covers, errors_by_step}
 use Rattle.squawk_lexed.specs.Stored.{errors_at}
 use Rattle.squawk_tree.proofs.LeavesLemmas.{next_of, none_after_trivia, kinds_after_trivia, never_closed}
 
--- reading leading trivia, before other steps and before one more step that is woven with it
-covers_leading_trivia : (at : ℕ) (ts : List LexedToken) (ys : List StrStep)
-    → covers at ts (leading_trivia at ts ++ ys)
-    ≡ covers (leading_trivia_end at ts) (after_leading_trivia ts) ys
-covers_leading_trivia at [] ys = refl
-covers_leading_trivia at (t ∷ ts) ys =
-    by (is_trivia_kind t.kind) (covers_leading_trivia (at + t.len) ts ys)
-  where
-    by : (b : Bool) → covers (at + t.len) ts (leading_trivia (at + t.len) ts ++ ys)
-        ≡ covers (leading_trivia_end (at + t.len) ts) (after_leading_trivia ts) ys
-        → covers at (t ∷ ts) (cond b (out.Token t.kind at (at + t.len)
-        ∷ leading_trivia (at + t.len) ts) [] ++ ys)
-        ≡ covers (cond b (leading_trivia_end (at + t.len) ts) at)
-        (cond b (after_leading_trivia ts) (t ∷ ts)) ys
-    by true rest = rest
-    by false rest = refl
+-- Reading leading trivia, before other steps and before one more step that is woven with it: for
+-- each function of tokens and steps that reads a token at a `Token`.
+module _ (reads : ℕ → List LexedToken → List StrStep → Bool)
+    (token : (at : ℕ) (t : LexedToken) (ts : List LexedToken) (ys : List StrStep)
+    → reads at (t ∷ ts) (out.Token t.kind at (at + t.len) ∷ ys) ≡ reads (at + t.len) ts ys) where
+  read_leading_trivia : (at : ℕ) (ts : List LexedToken) (ys : List StrStep)
+      → reads at ts (leading_trivia at ts ++ ys)
+      ≡ reads (leading_trivia_end at ts) (after_leading_trivia ts) ys
+  read_leading_trivia at [] ys = refl
+  read_leading_trivia at (t ∷ ts) ys =
+      by (is_trivia_kind t.kind) (read_leading_trivia (at + t.len) ts ys)
+    where
+      by : (b : Bool) → reads (at + t.len) ts (leading_trivia (at + t.len) ts ++ ys)
+          ≡ reads (leading_trivia_end (at + t.len) ts) (after_leading_trivia ts) ys
+          → reads at (t ∷ ts) (cond b (out.Token t.kind at (at + t.len)
+          ∷ leading_trivia (at + t.len) ts) [] ++ ys)
+          ≡ reads (cond b (leading_trivia_end (at + t.len) ts) at)
+          (cond b (after_leading_trivia ts) (t ∷ ts)) ys
+      by true rest = token at t ts (leading_trivia (at + t.len) ts ++ ys) ∙ rest
+      by false rest = refl
+
+  pub read_trivia_step : (at : ℕ) (ts : List LexedToken) (y : StrStep) (ys : List StrStep)
+      → reads at ts ((leading_trivia at ts ++ y ∷ []) ++ ys)
+      ≡ reads (leading_trivia_end at ts) (after_leading_trivia ts) (y ∷ ys)
+  read_trivia_step at ts y ys = ap (reads at ts) (append_assoc (leading_trivia at ts) (y ∷ []) ys)
+      ∙ read_leading_trivia at ts (y ∷ ys)
 
 covers_trivia_step : (at : ℕ) (ts : List LexedToken) (y : StrStep) (ys : List StrStep)
     → covers at ts ((leading_trivia at ts ++ y ∷ []) ++ ys)
     ≡ covers (leading_trivia_end at ts) (after_leading_trivia ts) (y ∷ ys)
-covers_trivia_step at ts y ys = ap (covers at ts) (append_assoc (leading_trivia at ts) (y ∷ []) ys)
-    ∙ covers_leading_trivia at ts (y ∷ ys)
+covers_trivia_step at ts y ys = read_trivia_step covers (λ at t ts ys. refl) at ts y ys
 
 -- an offset is equal to itself
 pub same_offset : (at : ℕ) (b : Bool) → (at == at && b) ≡ b

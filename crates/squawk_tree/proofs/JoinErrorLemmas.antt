@@ -27,7 +27,7 @@ use Rattle.squawk_tree.proofs.CutLemmas.{trivia_role, first_cut}
 use Rattle.squawk_tree.specs.Errors.{errors}
 use Rattle.squawk_tree.proofs.JoinLemmas.{joined_errors}
 use Rattle.squawk_statements.specs.Plain.{plain}
-use Rattle.squawk_tree.proofs.ErrorLemmas.{split, same_offset, by_token_is_by_step}
+use Rattle.squawk_tree.proofs.ErrorLemmas.{read_trivia_step, split, same_offset, by_token_is_by_step}
 use Rattle.squawk_tree.proofs.JoinLemmas.{placed as placed_law, fits, both, placed_from, fits_child, leaf_woven, node_woven, shift_child, further}
 
 -- whether steps contain all of the tokens, each `Error` at the start of one of them
@@ -40,28 +40,11 @@ inner at (t ∷ ts) (out.Error number offset ∷ xs) = offset == at && inner at 
 inner at [] (out.Token kind start end ∷ xs) = false
 inner at (t ∷ ts) (out.Token kind start end ∷ xs) = inner (at + t.len) ts xs
 
--- reading leading trivia, before other steps and before one more step that is woven with it
-inner_leading_trivia : (at : ℕ) (ts : List LexedToken) (ys : List StrStep)
-    → inner at ts (leading_trivia at ts ++ ys)
-    ≡ inner (leading_trivia_end at ts) (after_leading_trivia ts) ys
-inner_leading_trivia at [] ys = refl
-inner_leading_trivia at (t ∷ ts) ys =
-    by (is_trivia_kind t.kind) (inner_leading_trivia (at + t.len) ts ys)
-  where
-    by : (b : Bool) → inner (at + t.len) ts (leading_trivia (at + t.len) ts ++ ys)
-        ≡ inner (leading_trivia_end (at + t.len) ts) (after_leading_trivia ts) ys
-        → inner at (t ∷ ts) (cond b (out.Token t.kind at (at + t.len)
-        ∷ leading_trivia (at + t.len) ts) [] ++ ys)
-        ≡ inner (cond b (leading_trivia_end (at + t.len) ts) at)
-        (cond b (after_leading_trivia ts) (t ∷ ts)) ys
-    by true rest = rest
-    by false rest = refl
-
+-- reading leading trivia, before one more step that is woven with it
 inner_trivia_step : (at : ℕ) (ts : List LexedToken) (y : StrStep) (ys : List StrStep)
     → inner at ts ((leading_trivia at ts ++ y ∷ []) ++ ys)
     ≡ inner (leading_trivia_end at ts) (after_leading_trivia ts) (y ∷ ys)
-inner_trivia_step at ts y ys = ap (inner at ts) (append_assoc (leading_trivia at ts) (y ∷ []) ys)
-    ∙ inner_leading_trivia at ts (y ∷ ys)
+inner_trivia_step at ts y ys = read_trivia_step inner (λ at t ts ys. refl) at ts y ys
 
 -- reading a `Token` and an `Error` where a token remains
 first_token : (at : ℕ) (us : List LexedToken) (kind start end : ℕ) (ys : List StrStep)

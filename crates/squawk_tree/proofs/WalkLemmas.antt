@@ -147,7 +147,8 @@ errors_all_before n at (t ∷ ts) le s =
 pub rest_before : (n i : ℕ) (ts : List LexedToken) → total_len ts ≤ n → are_sound ts ≡ true
     → errors_before n (drop i (errors_of 0 ts)) ≡ drop i (errors_of 0 ts)
 rest_before n i ts le s =
-    let all = all_before_drop n i (errors_of 0 ts) (errors_all_before n 0 ts (omega (arith, le)) s) in
+    let all = all_before_drop n i (errors_of 0 ts)
+    (errors_all_before n 0 ts (omega (arith, le)) s) in
     let rest = drop i (errors_of 0 ts) in
     ap (errors_before n) (sym (append-nil rest)) ∙ errors_before_append n rest [] all
     ∙ append-nil rest
@@ -178,7 +179,8 @@ merged_from pending at ts (Error number offset ∷ xs) before h s =
     errors_before_append at pending (errors_of at ts) before
     ∙ ap (λ es. pending ++ es) (none_before at at ts (omega arith)) ∙ append-nil pending in
     let left : errors_not_before at (pending ++ errors_of at ts) ≡ errors_of at ts =
-    errors_not_before_append at pending (errors_of at ts) before ∙ all_from at at ts (omega arith) in
+    errors_not_before_append at pending (errors_of at ts) before
+    ∙ all_from at at ts (omega arith) in
     rw (appended, left) (ap (λ es. pending ++ (step_error at ts number ++ es))
     (merged_from [] at ts xs refl rest s))
 
@@ -359,7 +361,8 @@ so_far_error made ts token error number at xs left all made' error' walk is made
 pub so_far_end : (made : List ParseError) (ts : List LexedToken) (token error n : ℕ)
     (steps left : List StrStep) (made' : List ParseError)
     → WalkSoFar made ts token error left (merged_errors 0 ts (errors_of 0 ts) steps)
-    → left ≡ [] → covers 0 ts steps ≡ true → are_sound ts ≡ true → n ≡ total_len (take (length ts) ts)
+    → left ≡ [] → covers 0 ts steps ≡ true → are_sound ts ≡ true
+    → n ≡ total_len (take (length ts) ts)
     → made' ≡ made ++ errors_before n (drop error (errors_of 0 ts))
     → made' ≡ errors_by_step 0 ts steps
 so_far_end made ts token error n steps left made' walk none h s n_is made_is =

@@ -22,7 +22,8 @@ numbers_at at (Error number offset ∷ xs) = if offset == at then number ∷ num
 
 -- For each token, the errors of the `Error` steps at its start, in the order of these steps, and
 -- then its faults; after the last token, the errors of the `Error` steps at the end of the text.
--- The range of an `Error` step is that of the token that begins at its offset, and empty at the end.
+-- The range of an `Error` step is that of the token that begins at its offset, and empty at the
+-- end.
 abbrev pub errors_by_token : ℕ → List LexedToken → List StrStep → List ParseError
 errors_by_token at [] xs = map (error at at) (numbers_at at xs)
 errors_by_token at (t ∷ ts) xs =

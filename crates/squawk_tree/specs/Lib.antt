@@ -15,4 +15,4 @@ pub mod Spans
 pub mod ChildPass
 pub mod Walk
 -- what the contracts of tests cite
-pub mod FlatGrammar
+pub mod UngroupedGrammar

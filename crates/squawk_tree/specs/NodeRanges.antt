@@ -34,18 +34,22 @@ at_nodes (Error number offset ∷ xs) (y ∷ ys) = y ∷ at_nodes xs ys
 abbrev pub node_ranges : List StrStep → List (ℕ × ℕ)
 node_ranges steps = at_nodes steps (ranges steps)
 
+-- the number of steps from one kept count to the next
+abbrev pub stride : ℕ
+stride = 64
+
 -- for every 64th step, the number of steps of nodes before it
 pub record AreNodeStepCounts (steps : List StrStep) (counts : List ℕ) : Type 0 where
-  pub enough : length steps ≤ 64 * length counts
+  pub enough : length steps ≤ stride * length counts
   pub counts_are : (j : ℕ) → j < length counts
-      → slice_get counts j ≡ Some (node_step_count (take (64 * j) steps))
+      → slice_get counts j ≡ Some (node_step_count (take (stride * j) steps))
 
 -- the counts that are kept for the steps before the i-th
 pub record AreCountsUpTo (steps : List StrStep) (i : ℕ) (counts : List ℕ) : Type 0 where
-  pub enough : i ≤ 64 * length counts
-  pub few : 64 * length counts < i + 64
+  pub enough : i ≤ stride * length counts
+  pub few : stride * length counts < i + stride
   pub counts_are : (j : ℕ) → j < length counts
-      → slice_get counts j ≡ Some (node_step_count (take (64 * j) steps))
+      → slice_get counts j ≡ Some (node_step_count (take (stride * j) steps))
 
 -- the steps with their ranges, where the steps of nodes have the ranges of the second list
 abbrev pub with_ranges : List StrStep → List (ℕ × ℕ) → List (StrStep × (ℕ × ℕ))

@@ -51,8 +51,8 @@ errors_not_before end [] = []
 errors_not_before end (e ∷ es) = if nat_lt e.start end then errors_not_before end es else e ∷ es
 
 -- The errors of steps and the lexical errors that were not appended before them, where the first of
--- the remaining tokens begins at an offset. The lexical errors before that offset go before those of
--- an `Error` step.
+-- the remaining tokens begins at an offset. The lexical errors before that offset go before the
+-- error of an `Error` step.
 abbrev pub merged_errors : ℕ → List LexedToken → List ParseError → List StrStep → List ParseError
 merged_errors at ts lexical [] = lexical
 merged_errors at ts lexical (Enter kind ∷ xs) = merged_errors at ts lexical xs

@@ -44,7 +44,7 @@ impl Model for Parse {
         p.spans.items p.counts.items p.children.items };
 }
 
-// What a `Parse` is made of: the steps of a tree, the errors in its text, and the length of the text.
+// What a `Parse` is made of: the steps of a tree, the errors in its text, and its length.
 #[derive(Drop)]
 pub(crate) struct TreeParts {
     pub(crate) steps: Vec<StrStep>,
@@ -104,9 +104,9 @@ impl Parse {
     }
 
     /// The errors in the text. Each has a number from 1 to 10 and lies in the text. In a parse that
-    /// the calls of this crate made they are in the order of the tokens, and at each token first come
-    /// those of the grammar, then the token's faults by number; a `TreeSink` keeps the order in which
-    /// they were pushed.
+    /// the calls of this crate made they are in the order of the tokens, and at each token first
+    /// come those of the grammar, then the token's faults by number; a `TreeSink` keeps the order
+    /// in which they were pushed.
     pub fn errors(&self) -> &[ParseError]
         ensures errors { result.now ≡ self.now.errors }
         ensures within { All (IsErrorWithin self.now.len) result.now }
@@ -135,8 +135,8 @@ impl Parse {
     }
 
     /// The range of a step in bytes, end exclusive: for a `Token` that of the token, for an `Enter`
-    /// and its `Exit` that of the node. `i` is the index of the step, below the number of steps. Takes
-    /// constant time.
+    /// and its `Exit` that of the node. `i` is the index of the step, below the number of steps.
+    /// Takes constant time.
     ///
     /// A node begins where the last token before its `Enter` ends, and ends where the last token
     /// before its `Exit` does. Before the first token that offset is 0.
@@ -155,9 +155,9 @@ impl Parse {
         step_ranges(&self.steps, &self.spans)
     }
 
-    /// The part of `text` in the range of step `i`, which is below the number of steps. `text` is the
-    /// text of the parse, or any other in which both ends of the range are character boundaries.
-    /// Takes constant time.
+    /// The part of `text` in the range of step `i`, which is below the number of steps. `text` is
+    /// the text of the parse, or any other in which both ends of the range are character
+    /// boundaries. Takes constant time.
     pub fn text<'a>(&self, text: &'a str, i: usize) -> &'a str
         requires step { i < length self.now.steps }
         requires range { IfSome (slice_get (ranges self.now.steps) i) (IsRangeOf text.now) }

@@ -84,9 +84,9 @@ impl TreeSink {
         }
     }
 
-    /// Appends an error to those of the tree. Its number must be from 1 to 10, and its range in bytes
-    /// must not end before its start. The only error of the call is `OutOfMemory`; it leaves the sink
-    /// unchanged.
+    /// Appends an error to those of the tree. Its number must be from 1 to 10, and its range in
+    /// bytes must not end before its start. The only error of the call is `OutOfMemory`; it leaves
+    /// the sink unchanged.
     pub fn push_error(&mut self, error: ParseError) -> Result<(), FrontError>
         requires { IsError error }
         ensures steps { OnOk result (self.new.steps ≡ self.old.steps) }

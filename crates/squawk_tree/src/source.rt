@@ -98,9 +98,9 @@ fn parse_owned<G: Grammar>(
 /// Parses the tokens of a text by a grammar. The only error is `OutOfMemory`.
 ///
 /// The steps of the parse are those of the grammar without `Error` steps, with the trivia between
-/// them. Its errors are, at each token, first the `Error` steps at its start, with the token's range
-/// in bytes, and then its faults; `Error` steps at the end of the text come last, with an empty
-/// range.
+/// them. Its errors are, at each token, first the `Error` steps at its start, with the token's
+/// range in bytes, and then its faults; `Error` steps at the end of the text come last, with an
+/// empty range.
 pub fn parse_lexed<G: Grammar>(
     alloc: Global,
     lexed: &LexedStr<'_>,
@@ -162,8 +162,8 @@ fn parse_tokens(alloc: Global, lexed: LexedStr<'_>, division: Division) -> Resul
 /// the text are the faults of its tokens, and one for each statement that does not begin with known
 /// words.
 ///
-/// Every UTF-8 text of at most 4294967295 bytes parses. The errors are `TooLong`, exactly if the text
-/// is longer, and `OutOfMemory`. `TooLong` is returned before anything is allocated.
+/// Every UTF-8 text of at most 4294967295 bytes parses. The errors are `TooLong`, exactly if the
+/// text is longer, and `OutOfMemory`. `TooLong` is returned before anything is allocated.
 pub fn parse_divided(
     alloc: Global,
     text: &str,

@@ -2,7 +2,7 @@
 ghost use Rattle.std.specs.Prelude.{◌≡◌, ◌∷◌, [], ◌++◌, ℕ, List, OnOk, IfOk, IfErr};
 ghost use Rattle.squawk_events.specs.Depth.{depth_of};
 ghost use Rattle.squawk_events.specs.Refusals.{IsOutOfMemory};
-ghost use Rattle.squawk_tree.specs.FlatGrammar.{flat, flat_from, flat_depth};
+ghost use Rattle.squawk_tree.specs.UngroupedGrammar.{ungrouped, ungrouped_from, ungrouped_depth};
 
 use super::{MIGRATION, render};
 use crate::{parse_lexed, parse_source, parse_source_in, parse_with_in};
@@ -15,10 +15,11 @@ use std::test::Fail;
 
 // Appends the steps of a kind. Returns whether a statement is open after it.
 fn emit_kind(output: &mut Output, in_statement: bool, kind: SyntaxKind) -> Result<bool, FrontError>
-    requires { depth_of output.old ≡ flat_depth in_statement }
+    requires { depth_of output.old ≡ ungrouped_depth in_statement }
     ensures steps { IfOk result (λ after. (rest : List ℕ)
-        → output.new ++ flat_from after rest ≡ output.old ++ flat_from in_statement (kind ∷ rest)) }
-    ensures depth { IfOk result (λ after. depth_of output.new ≡ flat_depth after) }
+        → output.new ++ ungrouped_from after rest
+        ≡ output.old ++ ungrouped_from in_statement (kind ∷ rest)) }
+    ensures depth { IfOk result (λ after. depth_of output.new ≡ ungrouped_depth after) }
     ensures refusals { IfErr result IsOutOfMemory }
 {
     if !in_statement {
@@ -33,9 +34,9 @@ fn emit_kind(output: &mut Output, in_statement: bool, kind: SyntaxKind) -> Resul
 }
 
 // Appends the steps of a text.
-fn emit_flat(output: &mut Output, kinds: &[SyntaxKind]) -> Result<(), FrontError>
+fn emit_ungrouped(output: &mut Output, kinds: &[SyntaxKind]) -> Result<(), FrontError>
     requires { output.old ≡ [] }
-    ensures ok { OnOk result (output.new ≡ flat kinds.now) }
+    ensures ok { OnOk result (output.new ≡ ungrouped kinds.now) }
     ensures refusals { IfErr result IsOutOfMemory }
 {
     output.enter(SyntaxKind::SOURCE_FILE)?;
@@ -50,26 +51,26 @@ fn emit_flat(output: &mut Output, kinds: &[SyntaxKind]) -> Result<(), FrontError
     output.exit()
 }
 
-// Each statement is one flat node, which ends with its semicolon.
-struct FlatGrammar;
+// A grammar that makes no groups: each statement is one node, which ends with its semicolon.
+struct UngroupedGrammar;
 
-impl Grammar for FlatGrammar {
-    ghost use Rattle.squawk_tree.specs.FlatGrammar.{flat, flat_lawful};
+impl Grammar for UngroupedGrammar {
+    ghost use Rattle.squawk_tree.specs.UngroupedGrammar.{ungrouped, ungrouped_lawful};
 
-    ghost told = { λ _ kinds. flat kinds };
+    ghost told = { λ _ kinds. ungrouped kinds };
 
     fn run(&self, input: &Input, output: &mut Output) -> Result<(), FrontError> {
-        emit_flat(output, input.kinds())
+        emit_ungrouped(output, input.kinds())
     }
 
-    ghost lawful = { λ _ kinds no_trivia. flat_lawful kinds no_trivia };
+    ghost lawful = { λ _ kinds no_trivia. ungrouped_lawful kinds no_trivia };
 }
 
 #[test]
-fn flat_statements(rt: HostRuntime) -> Result<(), Fail> {
+fn statements_without_groups(rt: HostRuntime) -> Result<(), Fail> {
     let text = "(a); 1e b";
     let lexed = LexedStr::new(rt.alloc(), text)?;
-    let parse = parse_lexed(rt.alloc(), &lexed, &FlatGrammar)?;
+    let parse = parse_lexed(rt.alloc(), &lexed, &UngroupedGrammar)?;
     let lines = render(rt.alloc(), &parse, text)?;
     assert_eq!(rt;
         lines.as_str(),
@@ -109,7 +110,7 @@ fn readings_of_strings(rt: HostRuntime) -> Result<(), Fail> {
     let text = "'\\';'";
     let standard = parse_source_in(rt.alloc(), text, Strings::Standard)?;
     assert_eq!(rt; standard.children().len(), 2);
-    let escaped = parse_with_in(rt.alloc(), text, Strings::Backslash, &FlatGrammar)?;
+    let escaped = parse_with_in(rt.alloc(), text, Strings::Backslash, &UngroupedGrammar)?;
     assert_eq!(rt; escaped.children().len(), 1);
     Ok(())
 }

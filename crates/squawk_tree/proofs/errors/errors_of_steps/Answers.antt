@@ -39,4 +39,6 @@ returns-clause-ok c =
     so_far_end _ _ c.loop-step.walk.token c.loop-step.walk.error _ steps _ _
     c.loop-step.invariant.walk
     (drop_all c.loop-step.step-index steps (omega (arith, c.loop-step-test.false)))
-    c.requires c.len.ensures.sound (c.text_start-end.ensures ∙ ap (λ n. total_len (take n c.args.lexed.now.tokens)) c.len.ensures.count) c.in_ok-push_lexical_errors.ensures.ok
+    c.requires c.len.ensures.sound (c.text_start-end.ensures
+    ∙ ap (λ n. total_len (take n c.args.lexed.now.tokens)) c.len.ensures.count)
+    c.in_ok-push_lexical_errors.ensures.ok

@@ -4,8 +4,10 @@ use Rattle.squawk_tree.proofs.sink.TreeSinkStepSink.step.Goals as goal
 
 pub invariant_of-self-then-not-is_kept : goal.invariant_of-self-then-not-is_kept
 invariant_of-self-then-not-is_kept c =
-    held_error _ c.args.step _ _ _ c.self.invariant (sym c.if-not-is_kept.ensures) c.in_ok-push.ensures.items
+    held_error _ c.args.step _ _ _ c.self.invariant (sym c.if-not-is_kept.ensures)
+    c.in_ok-push.ensures.items
 
 pub invariant_of-self-else-not-is_kept : goal.invariant_of-self-else-not-is_kept
 invariant_of-self-else-not-is_kept c =
-    held_kept _ c.args.step _ _ _ c.self.invariant (sym c.if-not-is_kept.ensures) c.in_ok-push.ensures.items
+    held_kept _ c.args.step _ _ _ c.self.invariant (sym c.if-not-is_kept.ensures)
+    c.in_ok-push.ensures.items
