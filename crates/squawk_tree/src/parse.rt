@@ -50,6 +50,8 @@ pub(crate) struct TreeParts {
     pub(crate) steps: Vec<StrStep>,
     pub(crate) errors: Vec<ParseError>,
     pub(crate) len: u32,
+    // The number of `Enter` and `Exit` steps, or 0 where it is not known. Only saves memory.
+    pub(crate) node_steps: usize,
 }
 
 impl Model for TreeParts {
@@ -68,12 +70,17 @@ impl Parse {
     pub(crate) fn new(alloc: Global, parts: TreeParts) -> Result<Parse, AllocError>
         ensures { IfOk result (λ parse. parse ≡ parts) }
     {
-        let TreeParts { steps, errors, len } = parts;
+        let TreeParts {
+            steps,
+            errors,
+            len,
+            node_steps,
+        } = parts;
         let Tables {
             spans,
             counts,
             children,
-        } = tables_of(alloc, &steps)?;
+        } = tables_of(alloc, &steps, node_steps)?;
         Ok(Parse {
             steps,
             spans,

@@ -138,6 +138,7 @@ impl TreeSink {
             steps: without_errors(self.steps, self.has_no_errors),
             errors: self.errors,
             len,
+            node_steps: 0,
         };
         Ok(Parse::new(self.alloc, parts)?)
     }

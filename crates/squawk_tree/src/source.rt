@@ -73,10 +73,14 @@ fn parts_of<G: Grammar>(
     let len = lexed.text_start(lexed.len()) as u32;
     let sink = woven_steps(alloc, lexed, grammar)?;
     let errors = errors_in(alloc, lexed, &sink)?;
+    let steps = sink.into_steps();
+    // Each token has a step.
+    let node_steps = steps.len().saturating_sub(lexed.len());
     Ok(TreeParts {
-        steps: sink.into_steps(),
+        steps,
         errors,
         len,
+        node_steps,
     })
 }
 

@@ -30,16 +30,16 @@ fn push_count(counts: &mut Vec<usize>, i: usize, nodes: usize) -> Result<(), All
     Ok(())
 }
 
-// The tables of a tree with these steps.
-pub(crate) fn tables_of(alloc: Global, steps: &[StrStep]) -> Result<Tables, AllocError>
+// The tables of a tree with these steps. Room for the ranges of `room` nodes' steps is reserved.
+pub(crate) fn tables_of(alloc: Global, steps: &[StrStep], room: usize) -> Result<Tables, AllocError>
     requires { IsTrue (is_balanced steps.now) }
     ensures spans { IfOk result (λ tables. tables.spans.items ≡ node_ranges steps.now) }
     ensures counts { IfOk result (λ tables. AreNodeStepCounts steps.now tables.counts.items) }
     ensures children { IfOk result (λ tables. tables.children.items ≡ child_spans steps.now) }
 {
-    let mut spans = Vec::new(alloc);
+    let mut spans = Vec::with_capacity(alloc, room)?;
+    let mut counts = Vec::with_capacity(alloc, steps.len() / STRIDE + 1)?;
     let mut open_nodes = Vec::new(alloc);
-    let mut counts = Vec::new(alloc);
     let mut children = Vec::new(alloc);
     // The first step enters the root.
     push_count(&mut counts, 0, 0)?;

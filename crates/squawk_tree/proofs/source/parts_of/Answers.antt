@@ -27,7 +27,7 @@ invariant_of-result g c =
     let ts = c.args.lexed.now.tokens in
     let lawful = c.in_ok-sink.ensures.lawful in
     subst IsTree (sym (parts_are ts _ _ _ _ _ c.len.ensures.sound lawful c.in_ok-sink.ensures.steps
-    c.into_steps.ensures c.in_ok-errors.ensures.ok
+    c.into_steps-steps.ensures c.in_ok-errors.ensures.ok
     (whole_len ts _ _ c.len.ensures.count c.text_start-len.ensures)))
     (tree_of_lawful ts _ c.len.ensures.sound lawful)
 
@@ -37,7 +37,7 @@ returns-clause-parse g c =
     let told = g.G.Grammar.told c.args.grammar.now (kinds_without_trivia ts) in
     let lawful = c.in_ok-sink.ensures.lawful in
     let is = parts_are ts told _ _ _ _ c.len.ensures.sound lawful
-    c.in_ok-sink.ensures.steps c.into_steps.ensures c.in_ok-errors.ensures.ok
+    c.in_ok-sink.ensures.steps c.into_steps-steps.ensures c.in_ok-errors.ensures.ok
     (whole_len ts _ _ c.len.ensures.count c.text_start-len.ensures) in
     record {
       tree = is;

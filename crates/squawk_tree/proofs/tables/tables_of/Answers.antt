@@ -23,15 +23,15 @@ loop-i-init c =
     let begins : steps ≡ x ∷ drop 1 steps = root.is ∙ ap (λ y. y ∷ drop 1 steps) (sym first) in
     let start : c.in_ok-at.at ≡ 0 = c.in_ok-at.ensures.offset ∙ ap (offset_after 0) first in
     record {
-      spans = so_far_step c.new-spans.result.items (reverse c.new-open_nodes.result.items) 0 x
+      spans = so_far_step c.in_ok-spans.spans.items (reverse c.new-open_nodes.result.items) 0 x
           (drop 1 steps) steps _ _ _ _
-          (rw (c.new-spans.ensures.items, c.new-open_nodes.ensures.items)
+          (rw (c.in_ok-spans.ensures.items, c.new-open_nodes.ensures.items)
           (so_far_start steps c.requires)) begins c.in_ok-at.ensures.spans
           c.in_ok-at.ensures.open_nodes c.in_ok-at.ensures.offset;
-      nodes = spans_counted c.new-spans.result.items (reverse c.new-open_nodes.result.items) 0 0 x
-          (drop 1 steps) steps _ (rw c.new-spans.ensures.items refl) begins
+      nodes = spans_counted c.in_ok-spans.spans.items (reverse c.new-open_nodes.result.items) 0 0 x
+          (drop 1 steps) steps _ (rw c.in_ok-spans.ensures.items refl) begins
           c.in_ok-at.ensures.spans;
-      counts = c.in_ok-push_count.ensures steps (rw c.new-counts.ensures.items (counts_start steps))
+      counts = c.in_ok-push_count.ensures steps (rw c.in_ok-counts.ensures.items (counts_start steps))
           refl;
       children = rw (c.new-children.ensures.items, start) root.children;
       closes = root.closed;
