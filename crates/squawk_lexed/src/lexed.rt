@@ -103,8 +103,8 @@ pub(crate) struct KindAndLen {
     pub(crate) len: u32,
 }
 
-// The kinds that are not trivia. Each kind is stored, and the next one in its place if it is trivia:
-// a branch on trivia would be hard to predict.
+// The kinds that are not trivia. Each kind is stored, and the next one in its place if it is
+// trivia: a branch on trivia would be hard to predict.
 fn without_trivia(alloc: Global, kinds: &[SyntaxKind]) -> Result<Input, FrontError>
     ensures ok { IfOk result (λ input. input ≡ without_trivia kinds.now) }
     ensures refusals { IfErr result IsOutOfMemory }

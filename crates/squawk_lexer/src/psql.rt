@@ -15,8 +15,8 @@ use crate::cursor::Cursor;
 use crate::quoted::escape_or_quote;
 use crate::token::TokenKind;
 
-// The first byte of a command's name, or NUL if it has none. The lists of names below are divided by
-// it, so that most names are compared with few others.
+// The first byte of a command's name, or NUL if it has none. The lists of names below are divided
+// by it, so that most names are compared with few others.
 fn first_byte(word: &str) -> u8
     ensures { result ≡ slice_index word.now 0 }
 {

@@ -127,8 +127,8 @@ fn short_len_until2(a: u8, b: u8, bytes: &[u8]) -> usize
     len
 }
 
-// The length of that run, found by `memchr`. Not inlined, so that `len_until2` stays small for short
-// runs.
+// The length of that run, found by `memchr`. Not inlined, so that `len_until2` stays small for
+// short runs.
 #[inline(never)]
 fn memchr_len_until2(a: u8, b: u8, bytes: &[u8]) -> usize
     ensures { result ≡ prefix_len (is_neither a b) bytes.now }

@@ -46,6 +46,7 @@ pub(crate) enum PassState {
 
 // Reads a step directly under the root. Appends a child if the step is a leaf. Returns the next
 // state.
+#[inline(always)]
 fn pass_under_root(
     children: &mut Vec<ChildSpan>,
     at: u32,
@@ -86,6 +87,7 @@ fn pass_under_root(
 
 // Reads a step inside a child of the root. Appends the child if the step is its `Exit`. Returns the
 // next state.
+#[inline(always)]
 fn pass_in_child(
     children: &mut Vec<ChildSpan>,
     child: OpenChild,
@@ -123,6 +125,7 @@ fn pass_in_child(
 }
 
 // Reads a step. Returns the next state.
+#[inline(always)]
 pub(crate) fn pass_step(
     children: &mut Vec<ChildSpan>,
     state: PassState,

@@ -98,6 +98,16 @@ impl TreeSink {
         Ok(())
     }
 
+    // An empty sink with room for this many steps. If that much memory cannot be had, it grows as
+    // needed.
+    pub(crate) fn with_room(alloc: Global, steps: usize) -> TreeSink
+        ensures { result ≡ record { steps = []; errors = [] } }
+    {
+        let mut sink = TreeSink::new(alloc);
+        let _ = sink.steps.reserve(steps);
+        sink
+    }
+
     // The steps that the sink has received.
     pub(crate) fn steps(&self) -> &[StrStep]
         ensures { result.now ≡ self.now.steps }

@@ -36,7 +36,8 @@ fn woven_steps<G: Grammar>(
 {
     let input = lexed.to_input(alloc)?;
     let output = EntryPoint::SourceFile.parse(alloc, &input, grammar)?;
-    let mut sink = TreeSink::new(alloc);
+    // At most one step for each of the grammar, and one for each token.
+    let mut sink = TreeSink::with_room(alloc, lexed.len().saturating_add(output.steps().len()));
     let _ = lexed.intersperse_trivia(&output, &mut sink)?;
     Ok(sink)
 }
@@ -158,8 +159,8 @@ fn parse_tokens(alloc: Global, lexed: LexedStr<'_>, division: Division) -> Resul
     }
 }
 
-/// Parses a text into statements (`docs/STATEMENTS.md`). `strings` says how plain strings are read, and `division`
-/// whether a semicolon between parentheses ends a statement.
+/// Parses a text into statements (`docs/STATEMENTS.md`). `strings` says how plain strings are read,
+/// and `division` whether a semicolon between parentheses ends a statement.
 ///
 /// Each child of the root is a statement, a lone semicolon or psql command, or a leaf: a trivia
 /// token (white space, a leading byte order mark, a comment) outside of statements. The errors in

@@ -23,6 +23,7 @@ pub(crate) fn token_range(step: StrStep) -> Option<(u32, u32)>
 // last token after the step.
 //
 // An open node is the index of its range and the offset at which it begins.
+#[inline(always)]
 pub(crate) fn add_step(
     spans: &mut Vec<(u32, u32)>,
     open_nodes: &mut Vec<(usize, u32)>,

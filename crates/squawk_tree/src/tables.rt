@@ -19,6 +19,7 @@ pub(crate) struct Tables {
 }
 
 // Appends the number of nodes' steps before the i-th step, if a count is kept for this step.
+#[inline(always)]
 fn push_count(counts: &mut Vec<usize>, i: usize, nodes: usize) -> Result<(), AllocError>
     ensures { OnOk result ((steps : List Given) → AreCountsUpTo steps i counts.old.items
         → nodes ≡ node_step_count (take i steps)
