@@ -2,7 +2,7 @@
 //!
 //! Most lines of nodes and leaves have a short text. They are written in place at the end of the
 //! report, by copies of fixed sizes. The others are built in a `LineBuffer`.
-ghost use Rattle.std.specs.Prelude.{◌≡◌, ◌≤◌, ◌+◌, ◌%◌, ◌++◌, ◌∷◌, [], ◌<◌, length, take, drop, decimal, OnOk};
+ghost use Rattle.std.specs.Prelude.{◌≡◌, ◌≤◌, ◌+◌, ◌%◌, ◌++◌, ◌∷◌, [], ◌<◌, length, take, drop, decimal, IfOk, OnOk};
 ghost use Rattle.squawk_lexer.specs.Classes.{space};
 ghost use Rattle.squawk_show.specs.Report as spec;
 
@@ -134,22 +134,23 @@ fn push_number(out: &mut Vec<u8>, number: Number) -> Result<(), AllocError>
     Ok(())
 }
 
-// Appends all digits of a depth but the last, where there are more.
+// Appends all digits of a depth but the last, and returns that one.
 #[inline(always)]
 fn push_upper_digits(
     out: &mut Vec<u8>,
     tables: &DigitTables,
     depth: usize,
-) -> Result<(), AllocError>
+) -> Result<usize, AllocError>
     requires { depth < 10000000000 }
-    ensures { OnOk result (out.new.items ++ decimal (depth % 10)
+    ensures digits { IfOk result (λ last. out.new.items ++ decimal last
         ≡ out.old.items ++ decimal depth) }
+    ensures last { IfOk result (λ last. last < 10) }
 {
     if depth < 10 {
-        return Ok(());
+        return Ok(depth);
     }
     push_number(out, tables.number((depth / 10) as u32))?;
-    Ok(())
+    Ok(depth % 10)
 }
 
 // Appends the line of a node or a leaf. `last` is the number where the line before ended: most
@@ -171,8 +172,8 @@ pub(crate) fn push_line(
         if len <= MAX_SHORT_TEXT && depth < MAX_SHORT_DEPTH {
             let start = tables.number_after(last, range.0);
             let end = tables.number(range.1);
-            push_upper_digits(out, tables, depth)?;
-            push_short_line(out, window, depth % 10, letter, len, start, end)?;
+            let digit = push_upper_digits(out, tables, depth)?;
+            push_short_line(out, window, digit, letter, len, start, end)?;
             return Ok(end);
         }
     }

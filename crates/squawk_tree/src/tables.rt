@@ -1,5 +1,5 @@
 //! What a tree keeps beside its steps, found in one pass over them.
-ghost use Rattle.std.specs.Prelude.{◌≡◌, ◌+◌, ◌<◌, ◌^◌, ℕ, List, OnOk, IfOk, IsTrue, take};
+ghost use Rattle.std.specs.Prelude.{◌≡◌, ◌+◌, ◌<◌, ◌^◌, ℕ, List, OnOk, IfOk, IsTrue, [], take};
 ghost use Rattle.squawk_events.specs.declared.steps.StrStep.{StrStep as Given};
 ghost use Rattle.squawk_tree.specs.ChildSpans.{child_spans};
 ghost use Rattle.squawk_tree.specs.NodeRanges.{node_step_count, node_ranges, AreNodeStepCounts, AreCountsUpTo};
@@ -31,7 +31,18 @@ fn push_count(counts: &mut Vec<usize>, i: usize, nodes: usize) -> Result<(), All
     Ok(())
 }
 
-// The tables of a tree with these steps. Room for the ranges of `room` nodes' steps is reserved.
+// No children yet, and room for this many. If that much memory cannot be had, the list grows as
+// needed.
+fn no_children(alloc: Global, room: usize) -> Vec<ChildSpan>
+    ensures { result.items ≡ [] }
+{
+    let mut children = Vec::new(alloc);
+    let _ = children.reserve(room);
+    children
+}
+
+// The tables of a tree with these steps, of which `room` are steps of nodes. Most trees have fewer
+// children than such steps.
 pub(crate) fn tables_of(alloc: Global, steps: &[StrStep], room: usize) -> Result<Tables, AllocError>
     requires { IsTrue (is_balanced steps.now) }
     ensures spans { IfOk result (λ tables. tables.spans.items ≡ node_ranges steps.now) }
@@ -41,7 +52,7 @@ pub(crate) fn tables_of(alloc: Global, steps: &[StrStep], room: usize) -> Result
     let mut spans = Vec::with_capacity(alloc, room)?;
     let mut counts = Vec::with_capacity(alloc, steps.len() / STRIDE + 1)?;
     let mut open_nodes = Vec::new(alloc);
-    let mut children = Vec::new(alloc);
+    let mut children = no_children(alloc, room);
     // The first step enters the root.
     push_count(&mut counts, 0, 0)?;
     let mut at = add_step(&mut spans, &mut open_nodes, 0, steps[0])?;

@@ -1,4 +1,4 @@
-use Rattle.std.proofs.Common.{◌≡◌, ◌%◌, ◌++◌, rules}
+use Rattle.std.proofs.Common.{◌≡◌, ◌++◌, rules}
 use Rattle.squawk_show.proofs.LineLemmas.{depth_completed}
 use Rattle.squawk_show.specs.Report.{kind_text, line_with_text}
 use Rattle.squawk_show.proofs.line.push_line.Goals as goal
@@ -6,8 +6,8 @@ use Rattle.squawk_show.proofs.line.push_line.Goals as goal
 pub returns-then-depth-lt-MAX_SHORT_DEPTH : goal.returns-then-depth-lt-MAX_SHORT_DEPTH
 returns-then-depth-lt-MAX_SHORT_DEPTH c =
     let line : c.push_short_line.new.out.items ≡ c.push_upper_digits.new.out.items
-    ++ line_with_text (c.args.depth % 10) c.args.letter (kind_text c.args.kind) c.args.range =
+    ++ line_with_text c.in_ok-digit.digit c.args.letter (kind_text c.args.kind) c.args.range =
     search rules in
-    depth_completed c.args.depth (c.args.depth % 10) c.args.letter (kind_text c.args.kind)
+    depth_completed c.args.depth c.in_ok-digit.digit c.args.letter (kind_text c.args.kind)
     c.args.range c.args.out.now.items c.push_upper_digits.new.out.items _
-    c.in_ok-push_upper_digits.ensures line
+    c.in_ok-digit.ensures.digits line
