@@ -4,16 +4,16 @@
 Use: program.py [--times N] [--other PROGRAM] [--program PROGRAM] [--tables NAMES] [FILE..]
 
 Each FILE is a SQL text; without one, statements.sql beside this script is repeated up to 10 MB. The program is the one
-that ./run builds, which is built first if need be; PROGRAM is any other that reads SQL on standard input. Each row is the
-least of N runs (5 if nothing is said), which take turns between the two programs. Their output goes to /dev/null.
+that ./run builds, which is built first if need be; PROGRAM is any other that reads SQL on standard input. Each row is
+the least of N runs (5 if nothing is said), which take turns between the two programs. Their output goes to /dev/null.
 
 NAMES are one or more of these, with commas between them; all of them if nothing is said:
-  texts     the files, and the program's own `make 100000`
+  texts     the files, and `make 100000`, which only the program that ./run builds knows
   growth    the first file, 1, 2, 4 and 8 times, with the ratio of the time to that of half the text
   hostile   texts of 20 MB that repeat what is bad for a lexer or a tree, and a group 100000 deep
 
-Time is user and system time of the process. Memory is its largest resident set; Linux counts in what
-this script has in memory, some 15 MB, so the figure says nothing below that.
+Time is user and system time of the process. Memory is its largest resident set. On Linux the figure includes the
+memory of this script, about 15 MB, so it says nothing below that.
 """
 import argparse
 import os
@@ -25,6 +25,9 @@ import tempfile
 HERE = pathlib.Path(__file__).resolve().parent
 BUILT = HERE.parent / "crates/squawk_show/out/squawk_show"
 MB = 1000000
+
+# A time in seconds below which no run is taken to be.
+LEAST_TIME = 0.001
 
 # What a hostile text begins with, and what it repeats.
 HOSTILE = {
@@ -84,21 +87,24 @@ def cost(program, words, path):
     process.returncode = os.waitstatus_to_exitcode(status)
     if process.returncode != 0:
         sys.exit(f"program.py: {program} ended with {process.returncode}")
-    return usage.ru_utime + usage.ru_stime, usage.ru_maxrss * 1024
+    return max(usage.ru_utime + usage.ru_stime, LEAST_TIME), usage.ru_maxrss * 1024
 
 
 def least_costs(programs, words, path, times):
     """The least time and the least memory of each program, which take turns."""
     runs = [[cost(program, words, path) for program in programs] for _ in range(times)]
-    return [(min(run[i][0] for run in runs), min(run[i][1] for run in runs)) for i in range(len(programs))]
+    return [tuple(map(min, zip(*costs))) for costs in zip(*runs)]
 
 
 def row(name, size, costs):
     """A line of a table: what the first program costs, and the second, as ratios of the first to the second."""
     (time, memory), *others = costs
-    line = f"{name:20} {size / MB:8.2f} MB {time:7.3f} s {size / MB / time:6.1f} MB/s {memory / MB:8.1f} MB {memory / size:6.1f}x"
+    speed = size / MB / time
+    line = f"{name:20} {size / MB:8.2f} MB {time:7.3f} s {speed:6.1f} MB/s"
+    line += f" {memory / MB:8.1f} MB {memory / max(size, 1):6.1f}x"
     for other_time, other_memory in others:
-        line += f" | {other_time:7.3f} s {other_memory / MB:8.1f} MB | time {time / other_time:5.2f} memory {memory / other_memory:5.2f}"
+        line += f" | {other_time:7.3f} s {other_memory / MB:8.1f} MB"
+        line += f" | time {time / other_time:5.2f} memory {memory / other_memory:5.2f}"
     return line
 
 
@@ -108,10 +114,11 @@ class Bench:
     def __init__(self, programs, times, folder):
         self.programs = programs
         self.times = times
+        self.makes_texts = programs[0] == str(BUILT)
         self.path = pathlib.Path(folder) / "text"
 
     def measure(self, name, parts, half=None):
-        """Prints the row of a text, with the ratio to the time of half of it. Returns the time of the first program."""
+        """Prints the row of a text, with the ratio to the time of half of it. Returns the first program's time."""
         with open(self.path, "wb") as file:
             for part in parts:
                 file.write(part)
@@ -124,6 +131,8 @@ class Bench:
     def texts(self, files):
         for path in files:
             self.measure(path.name, parts_of(path))
+        if not self.makes_texts:
+            return
         summary = subprocess.run([self.programs[0], "make", "100000"], capture_output=True, check=True).stdout
         costs = least_costs(self.programs[:1], ["make", "100000"], os.devnull, self.times)
         print(row("make 100000", int(summary.split()[1]), costs), flush=True)
@@ -131,14 +140,18 @@ class Bench:
     def growth(self, files):
         path = files[0]
         half = None
-        for times in 1, 2, 4, 8:
-            parts = (part for _ in range(times) for part in parts_of(path))
-            half = self.measure(f"{path.name} {times}x", parts, half)
+        for factor in 1, 2, 4, 8:
+            parts = (part for _ in range(factor) for part in parts_of(path))
+            half = self.measure(f"{path.name} {factor}x", parts, half)
 
     def hostile(self, _files):
         for name, (start, piece) in HOSTILE.items():
             self.measure(name, repeated(start, piece, 20 * MB))
         self.measure("100000 deep", nested(100000))
+
+
+# The tables by their names.
+TABLES = {"texts": Bench.texts, "growth": Bench.growth, "hostile": Bench.hostile}
 
 
 def repeated_statements(folder):
@@ -157,17 +170,21 @@ def main():
     parser.add_argument("--times", metavar="N", type=int, default=5)
     parser.add_argument("--program", metavar="PROGRAM")
     parser.add_argument("--other", metavar="PROGRAM")
-    parser.add_argument("--tables", metavar="NAMES", default="texts,growth,hostile")
+    parser.add_argument("--tables", metavar="NAMES", default=",".join(TABLES))
     words = parser.parse_args()
+    tables = words.tables.split(",")
+    for table in tables:
+        if table not in TABLES:
+            parser.error(f"no table {table}")
     if words.program is None:
         subprocess.run([HERE.parent / "run", "make", "1"], stdout=subprocess.DEVNULL, check=True)
     programs = [words.program or str(BUILT)] + ([words.other] if words.other else [])
     with tempfile.TemporaryDirectory() as folder:
         files = words.files or [repeated_statements(folder)]
         bench = Bench(programs, words.times, folder)
-        for table in words.tables.split(","):
+        for table in tables:
             print(f"\n{table}")
-            getattr(bench, table)(files)
+            TABLES[table](bench, files)
 
 
 if __name__ == "__main__":

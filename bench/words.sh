@@ -2,18 +2,25 @@
 # Measures the look-up of keywords: nanoseconds a call over the words of a text, for keywords, for other words, and for
 # all words in the order of the text.
 #
-# Use: words.sh [TEXT]      TEXT is a file; without it, statements.sql beside this script
+# Use: words.sh [TEXT]      TEXT is a file; without it, statements.sql beside this script. It is repeated up to 10 MB.
 #
 # The program that measures is written, with the crates that it needs, to a temporary folder, and is proved and built
-# there. It goes over the keywords, over the other words and over all of them, twenty times and more, until it has made
-# ten million calls, and prints the time of the fastest round, by the clock, divided by the number of its words. The
-# time of the loop itself, with its sum, is in the figure. Rounds over the words of a short text, or over one kind of
-# words, are learnt by the processor's branch prediction: a long text in its own order is what a parse sees.
+# there. It goes over the keywords, over the other words and over all of them twenty times each, and prints the time of
+# the fastest round, by the clock, divided by the number of its words. The time of the loop itself, with its sum, is in
+# the figure. Words of one kind alone, or those of a short text again and again, are easy for a processor's branch
+# prediction: a long text in its own order is what a parse sees.
 set -eu
 here=$(CDPATH='' cd -- "$(dirname -- "${BASH_SOURCE[0]}")/.." && pwd)
 text=$(realpath "${1:-$here/bench/statements.sql}")
 folder=$(mktemp -d)
 trap 'rm -rf "$folder"' EXIT
+
+# A short text is repeated, so that a round takes long enough to be measured.
+cp "$text" "$folder/text"
+while [ -s "$folder/text" ] && [ "$(stat -c %s "$folder/text")" -lt 10000000 ]; do
+  cat "$folder/text" "$folder/text" > "$folder/twice"
+  mv "$folder/twice" "$folder/text"
+done
 
 mkdir -p "$folder/crates/bench_words/src"
 for crate in squawk_names squawk_kinds squawk_words; do
@@ -31,8 +38,7 @@ use std::io;
 use std::rt::Clock;
 use std::time::Instant;
 
-// The least number of calls, and of rounds, with keywords, with other words and with all words.
-const CALLS: usize = 10_000_000;
+// The number of rounds with keywords, with other words and with all words.
 const ROUNDS: usize = 20;
 
 fn main(rt: HostRuntime) -> io::Result<()> {
@@ -63,7 +69,7 @@ fn report<R: Print + Clock>(rt: &R, title: &str, words: &[&str]) -> io::Result<(
     }
     let mut least = u128::MAX;
     let mut sum = 0;
-    for _round in 0..ROUNDS.max(CALLS / words.len()) {
+    for _round in 0..ROUNDS {
         let start = Instant::now(rt)?;
         sum = look_up_all(words);
         least = least.min(start.elapsed(rt)?.as_nanos());
@@ -84,4 +90,4 @@ fn look_up_all(words: &[&str]) -> u64 {
     sum
 }
 END
-(cd "$folder/crates/bench_words" && rt run < "$text")
+(cd "$folder/crates/bench_words" && rt run < "$folder/text")

@@ -1,6 +1,6 @@
 -- Lists that grew by a prefix of another.
 use Rattle.std.proofs.Common.{◌≡◌, suc, ◌-◌, ◌≤◌, List, [], ◌∷◌, ◌++◌, length, take, drop, append_assoc, refl, ap, sym, ◌∙◌, arith}
-use Rattle.std.proofs.lemmas.List.{take_at, take_all, take-append-drop, append-nil, length-append}
+use Rattle.std.proofs.lemmas.List.{take_at, take-append-drop, append-nil, length-append}
 use Rattle.squawk_lexed.specs.Prefixes.{AppendsPrefix}
 
 -- the longer of two lists that begin the same list is the shorter and a prefix of its rest
@@ -31,14 +31,6 @@ prefix_as now a x b w is e le = (length a - length b, is ∙ prefix_at a x b w e
 -- nothing was appended
 pub prefix_none : {A : Type 0} (old now xs : List A) → now ≡ old → AppendsPrefix old now xs
 prefix_none old now xs is = (0, is ∙ sym (append-nil old))
-
--- all was appended
-pub prefix_all : {A : Type 0} (old now xs : List A) → now ≡ old ++ xs → AppendsPrefix old now xs
-prefix_all old now xs is = (
-  length xs,
-  is
-      ∙ ap (λ ys. old ++ ys) (sym (take_all (length xs) xs (omega arith))),
-)
 
 -- the first part, or some of it
 pub prefix_part : {A : Type 0} (old now xs ys : List A) → AppendsPrefix old now xs

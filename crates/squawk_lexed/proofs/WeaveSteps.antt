@@ -1,5 +1,5 @@
 -- The weave from one position to the next, at an `Enter`.
-use Rattle.std.proofs.Common.{◌≡◌, ◌++◌, ℕ, ◌+◌, ◌<◌, ◌≤◌, true, List, [], ◌∷◌, length, drop, get_or, ap, refl, ◌∙◌, arith, IfOk}
+use Rattle.std.proofs.Common.{◌≡◌, ◌++◌, ℕ, ◌+◌, ◌<◌, true, List, [], ◌∷◌, length, drop, get_or, ap, refl, ◌∙◌, arith, IfOk}
 use Rattle.std.specs.Prelude.{Result, Ok, Err, OnErr}
 use Rattle.std.proofs.lemmas.List.{drop_more}
 use Rattle.squawk_events.specs.Lawful.{token_kinds}
@@ -8,11 +8,10 @@ use Rattle.squawk_events.specs.declared.steps.Step.{Step}
 use Rattle.squawk_events.specs.declared.steps.Step.TheVariants.{Enter}
 use Rattle.squawk_events.specs.declared.steps.StrStep.{StrStep}
 use Rattle.squawk_events.specs.declared.steps.StrStep.TheVariants as out
-use Rattle.squawk_lexed.specs.LexedText.{total_len}
 use Rattle.squawk_lexed.specs.LexedToken.{LexedToken}
 use Rattle.squawk_lexed.specs.Prefixes.{AppendsPrefix}
 use Rattle.squawk_lexed.specs.Weave.{kinds_without_trivia, leading_trivia, leading_trivia_end, after_leading_trivia, weave_from, begins_with}
-use Rattle.squawk_lexed.specs.WeavePosition.{weave_left, IsPosition, IsAfter}
+use Rattle.squawk_lexed.specs.WeavePosition.{weave_left, IsPosition, IsAfterTrivia, IsAfter}
 use Rattle.squawk_lexed.specs.declared.weave.Position.{Position}
 use Rattle.squawk_lexed.proofs.PrefixLemmas.{prefix_part}
 use Rattle.squawk_lexed.proofs.WeaveLemmas.{kinds_after_leading_trivia}
@@ -32,35 +31,28 @@ module _ (ts : List LexedToken) (xs : List Step) (from : Position) (kind : ℕ)
       → begins_with (kinds_without_trivia now) (token_kinds later) ≡ true
   agree_after us later now is h = rw (is, kinds_after_leading_trivia us) h
 
-  enter_to : (to : Position) → IsPosition ts xs from
-      → drop to.token ts ≡ after_leading_trivia (drop from.token ts)
-      → to.at + total_len (drop to.token ts) ≡ from.at + total_len (drop from.token ts)
-      → to.step ≡ from.step + 1 → from.token ≤ to.token → to.token ≤ length ts
+  enter_to : (to : Position) → IsPosition ts xs from → IsAfterTrivia ts from to
+      → to.step ≡ from.step + 1
       → IsAfter ts xs from to
-  enter_to to position left end step forward within = record {
+  enter_to to position after step = record {
     position = record {
-      within = within;
-      offset = end ∙ position.offset;
+      within = after.within;
+      offset = after.same_end ∙ position.offset;
       agree = rw step (agree_after (drop from.token ts) (drop (from.step + 1) xs) (drop to.token ts)
-          left (rw next at position.agree));
+          after.left (rw next at position.agree));
     };
     steps = omega (arith, step);
-    tokens = forward;
-    forward = omega (arith, step, forward);
-    remaining = rw (step, left, next) refl;
+    tokens = after.forward;
+    forward = omega (arith, step, after.forward);
+    remaining = rw (step, after.left, next) refl;
   }
 
   -- an `Enter` with the trivia before it leads to the next position
   pub enter_after : (r : Result Position FrontError) → IsPosition ts xs from
-      → IfOk r (λ to. drop to.token ts ≡ after_leading_trivia (drop from.token ts))
-      → IfOk r (λ to. to.at + total_len (drop to.token ts)
-      ≡ from.at + total_len (drop from.token ts))
-      → IfOk r (λ to. to.step ≡ from.step + 1) → IfOk r (λ to. from.token ≤ to.token)
-      → IfOk r (λ to. to.token ≤ length ts)
+      → IfOk r (IsAfterTrivia ts from) → IfOk r (λ to. to.step ≡ from.step + 1)
       → IfOk r (IsAfter ts xs from)
-  enter_after (Ok to) position left end step forward within =
-      enter_to to position left end step forward within
-  enter_after (Err error) position left end step forward within = tt
+  enter_after (Ok to) position after step = enter_to to position after step
+  enter_after (Err error) position after step = tt
 
   -- where it fails, a prefix of the weave that is left was emitted
   pub enter_prefix : (r : Result Position FrontError) (old now : List StrStep)

@@ -23,7 +23,8 @@ use std::alloc::Global;
 use std::marker::Model;
 use std::ops::Range;
 
-// The length of a token and the trivia around it, as it is in most SQL: the room that is reserved.
+// The mean length of a token in most SQL, trivia counted: `new_in` reserves room for one token in so
+// many bytes.
 const BYTES_PER_TOKEN: usize = 4;
 
 // The lists of a lexed text while it grows.
@@ -35,8 +36,8 @@ struct Lists {
 }
 
 impl Lists {
-    // Empty lists with room for this many tokens. If that much memory cannot be had, they grow as
-    // needed.
+    // Empty lists with room for this many tokens and the end of the last. If that much memory cannot
+    // be had, they grow as needed.
     fn with_room(alloc: Global, tokens: usize) -> Lists
         ensures kinds { result.kinds.items ≡ [] }
         ensures starts { result.starts.items ≡ [] }
@@ -45,7 +46,7 @@ impl Lists {
         let mut kinds = Vec::new(alloc);
         let mut starts = Vec::new(alloc);
         let _ = kinds.reserve(tokens);
-        let _ = starts.reserve(tokens);
+        let _ = starts.reserve(tokens.saturating_add(1));
         Lists {
             kinds,
             starts,
@@ -103,8 +104,8 @@ pub(crate) struct KindAndLen {
     pub(crate) len: u32,
 }
 
-// The kinds that are not trivia. Each kind is stored, and the next one in its place if it is
-// trivia: a branch on trivia would be hard to predict.
+// The kinds that are not trivia. Stores every kind, and the next one over it if it is trivia: a
+// branch would be hard to predict.
 fn without_trivia(alloc: Global, kinds: &[SyntaxKind]) -> Result<Input, FrontError>
     ensures ok { IfOk result (λ input. input ≡ without_trivia kinds.now) }
     ensures refusals { IfErr result IsOutOfMemory }

@@ -2,8 +2,8 @@
 ghost use Rattle.std.specs.Prelude.{◌≡◌, ◌^◌, ◌<◌, ◌≤◌, ◌+◌, [], ◌∷◌, ◌++◌, length, OnOk, OnErr, IfOk, IfErr, IsTrue, drop};
 ghost use Rattle.squawk_events.specs.Lawful.{is_balanced};
 ghost use Rattle.squawk_events.specs.Refusals.{IsOutOfMemory};
-ghost use Rattle.squawk_lexed.specs.Weave.{KindsAgree, all_emitted, leading_trivia, leading_trivia_end, after_leading_trivia, weave, weave_from, remaining_from, is_empty};
-ghost use Rattle.squawk_lexed.specs.WeavePosition.{weave_left, IsTokenNext, IsPosition, IsAfter};
+ghost use Rattle.squawk_lexed.specs.Weave.{KindsAgree, all_emitted, leading_trivia, weave, weave_from, remaining_from, is_empty};
+ghost use Rattle.squawk_lexed.specs.WeavePosition as spec;
 ghost use Rattle.squawk_lexed.specs.LexedText.{total_len};
 ghost use Rattle.squawk_lexed.specs.Prefixes.{AppendsPrefix};
 ghost use Rattle.squawk_events.specs.declared.steps.Step.TheVariants.{Enter};
@@ -31,15 +31,8 @@ fn emit_leading_trivia<K: StepSink>(
     requires small { from.at + total_len (drop from.token lexed.now.tokens) < 2 ^ 32 }
     ensures ok { OnOk result (K.steps sink.new
         ≡ K.steps sink.old ++ leading_trivia from.at (drop from.token lexed.now.tokens)) }
-    ensures left { IfOk result (λ to. drop to.token lexed.now.tokens
-        ≡ after_leading_trivia (drop from.token lexed.now.tokens)) }
-    ensures at { IfOk result (λ to.
-        to.at ≡ leading_trivia_end from.at (drop from.token lexed.now.tokens)) }
-    ensures same_end { IfOk result (λ to. to.at + total_len (drop to.token lexed.now.tokens)
-        ≡ from.at + total_len (drop from.token lexed.now.tokens)) }
+    ensures after { IfOk result (spec.IsAfterTrivia lexed.now.tokens from) }
     ensures same_step { IfOk result (λ to. to.step ≡ from.step) }
-    ensures forward { IfOk result (λ to. from.token ≤ to.token) }
-    ensures within { IfOk result (λ to. to.token ≤ length lexed.now.tokens) }
     ensures prefix { OnErr result (AppendsPrefix (K.steps sink.old) (K.steps sink.new)
         (leading_trivia from.at (drop from.token lexed.now.tokens))) }
     ensures grows { length (K.steps sink.old) ≤ length (K.steps sink.new) }
@@ -76,18 +69,11 @@ fn emit_after_trivia<K: StepSink>(
 ) -> Result<Position, FrontError>
     requires within { from.token ≤ length lexed.now.tokens }
     requires small { from.at + total_len (drop from.token lexed.now.tokens) < 2 ^ 32 }
-    requires not_last { from.step + 1 < 2 ^ 64 }
+    requires step_fits { from.step + 1 < 2 ^ 64 }
     ensures ok { OnOk result (K.steps sink.new ≡ K.steps sink.old
         ++ (leading_trivia from.at (drop from.token lexed.now.tokens) ++ step ∷ [])) }
-    ensures left { IfOk result (λ to. drop to.token lexed.now.tokens
-        ≡ after_leading_trivia (drop from.token lexed.now.tokens)) }
-    ensures at { IfOk result (λ to.
-        to.at ≡ leading_trivia_end from.at (drop from.token lexed.now.tokens)) }
-    ensures same_end { IfOk result (λ to. to.at + total_len (drop to.token lexed.now.tokens)
-        ≡ from.at + total_len (drop from.token lexed.now.tokens)) }
+    ensures after { IfOk result (spec.IsAfterTrivia lexed.now.tokens from) }
     ensures next_step { IfOk result (λ to. to.step ≡ from.step + 1) }
-    ensures forward { IfOk result (λ to. from.token ≤ to.token) }
-    ensures within { IfOk result (λ to. to.token ≤ length lexed.now.tokens) }
     ensures prefix { OnErr result (AppendsPrefix (K.steps sink.old) (K.steps sink.new)
         (leading_trivia from.at (drop from.token lexed.now.tokens) ++ step ∷ [])) }
     ensures grows { length (K.steps sink.old) ≤ length (K.steps sink.new) }
@@ -103,8 +89,8 @@ fn emit_after_trivia<K: StepSink>(
     })
 }
 
-// Emits the token that comes next, trivia or not, before or for a `Token` step. One token a call
-// keeps the loop over the steps free of a branch on trivia, which is hard to predict.
+// Emits the next token: trivia before a `Token` step, or the token of that step. One token a call
+// keeps the loop over the steps free of a branch on trivia, which would be hard to predict.
 #[inline(always)]
 fn emit_token<K: StepSink>(
     lexed: &LexedStr<'_>,
@@ -113,12 +99,12 @@ fn emit_token<K: StepSink>(
     sink: &mut K,
 ) -> Result<Position, FrontError>
     requires small { total_len lexed.now.tokens < 2 ^ 32 }
-    requires position { IsPosition lexed.now.tokens steps.now from }
+    requires position { spec.IsPosition lexed.now.tokens steps.now from }
     requires step { from.step < length steps.now }
-    requires token { IsTokenNext steps.now from }
-    ensures ok { IfOk result (λ to. K.steps sink.new ++ weave_left lexed.now.tokens steps.now to
-        ≡ K.steps sink.old ++ weave_left lexed.now.tokens steps.now from) }
-    ensures after { IfOk result (IsAfter lexed.now.tokens steps.now from) }
+    requires token { spec.IsTokenNext steps.now from }
+    ensures ok { IfOk result (λ to. K.steps sink.new ++ spec.weave_left lexed.now.tokens steps.now to
+        ≡ K.steps sink.old ++ spec.weave_left lexed.now.tokens steps.now from) }
+    ensures after { IfOk result (spec.IsAfter lexed.now.tokens steps.now from) }
     ensures err { OnErr result (K.steps sink.new ≡ K.steps sink.old) }
     ensures grows { length (K.steps sink.old) ≤ length (K.steps sink.new) }
     ensures errors { K.errors sink.new ≡ K.errors sink.old }
@@ -148,13 +134,13 @@ fn emit_next<K: StepSink>(
     sink: &mut K,
 ) -> Result<Position, FrontError>
     requires small { total_len lexed.now.tokens < 2 ^ 32 }
-    requires position { IsPosition lexed.now.tokens steps.now from }
+    requires position { spec.IsPosition lexed.now.tokens steps.now from }
     requires step { from.step < length steps.now }
-    ensures ok { IfOk result (λ to. K.steps sink.new ++ weave_left lexed.now.tokens steps.now to
-        ≡ K.steps sink.old ++ weave_left lexed.now.tokens steps.now from) }
-    ensures after { IfOk result (IsAfter lexed.now.tokens steps.now from) }
+    ensures ok { IfOk result (λ to. K.steps sink.new ++ spec.weave_left lexed.now.tokens steps.now to
+        ≡ K.steps sink.old ++ spec.weave_left lexed.now.tokens steps.now from) }
+    ensures after { IfOk result (spec.IsAfter lexed.now.tokens steps.now from) }
     ensures prefix { OnErr result (AppendsPrefix (K.steps sink.old) (K.steps sink.new)
-        (weave_left lexed.now.tokens steps.now from)) }
+        (spec.weave_left lexed.now.tokens steps.now from)) }
     ensures grows { length (K.steps sink.old) ≤ length (K.steps sink.new) }
     ensures errors { K.errors sink.new ≡ K.errors sink.old }
     ensures refusals { IfErr result IsOutOfMemory }
@@ -198,6 +184,7 @@ fn emit_rest<K: StepSink>(
     ensures errors { K.errors sink.new ≡ K.errors sink.old }
     ensures refusals { IfErr result IsOutOfMemory }
 {
+    // The length bounds the offsets.
     let count = lexed.len();
     let mut position = Position {
         step: 0,
