@@ -17,7 +17,7 @@ use Rattle.squawk_lexed.specs.Weave.{next_len}
 use Rattle.squawk_lexed.specs.declared.fault.Fault.{Fault}
 use Rattle.squawk_tree.specs.Errors.{error}
 use Rattle.squawk_tree.specs.Steps.{has_no_errors}
-use Rattle.squawk_tree.specs.Walk.{step_error, errors_before, errors_not_before, merged_errors, errors_by_step, covers, EndsBelow}
+use Rattle.squawk_tree.specs.Walk.{step_error, errors_before, errors_not_before, errors_by_step, covers, EndsBelow}
 
 -- a fault of a sound token begins before the end of the token and ends by it
 pub record InToken (len : ℕ) (f : Fault) : Type 0 where
@@ -152,6 +152,19 @@ rest_before n i ts le s =
     let rest = drop i (errors_of 0 ts) in
     ap (errors_before n) (sym (append-nil rest)) ∙ errors_before_append n rest [] all
     ∙ append-nil rest
+
+-- The errors of `Error` steps merged with lexical errors in their order, where the first of the
+-- remaining tokens begins at an offset: those that begin before the offset stand before the error
+-- of an `Error` step.
+abbrev pub merged_errors : ℕ → List LexedToken → List ParseError → List StrStep → List ParseError
+merged_errors at ts lexical [] = lexical
+merged_errors at ts lexical (Enter kind ∷ xs) = merged_errors at ts lexical xs
+merged_errors at ts lexical (Token kind start end ∷ xs) =
+    merged_errors (at + next_len ts) (drop 1 ts) lexical xs
+merged_errors at ts lexical (Exit ∷ xs) = merged_errors at ts lexical xs
+merged_errors at ts lexical (Error number offset ∷ xs) =
+    errors_before at lexical
+    ++ (step_error at ts number ++ merged_errors at ts (errors_not_before at lexical) xs)
 
 -- the merged errors of steps that contain all of the tokens are the lexical errors that were not
 -- appended before, and then the errors by step

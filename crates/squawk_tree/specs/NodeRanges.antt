@@ -38,18 +38,21 @@ node_ranges steps = at_nodes steps (ranges steps)
 abbrev pub stride : ℕ
 stride = 64
 
+-- the j-th count is the number of steps of nodes before step `stride * j`
+abbrev pub AreCountsByStride : List StrStep → List ℕ → Type 0
+AreCountsByStride steps counts = (j : ℕ) → j < length counts
+    → slice_get counts j ≡ Some (node_step_count (take (stride * j) steps))
+
 -- for every 64th step, the number of steps of nodes before it
 pub record AreNodeStepCounts (steps : List StrStep) (counts : List ℕ) : Type 0 where
   pub enough : length steps ≤ stride * length counts
-  pub counts_are : (j : ℕ) → j < length counts
-      → slice_get counts j ≡ Some (node_step_count (take (stride * j) steps))
+  pub counts_are : AreCountsByStride steps counts
 
 -- the counts that are kept for the steps before the i-th
 pub record AreCountsUpTo (steps : List StrStep) (i : ℕ) (counts : List ℕ) : Type 0 where
   pub enough : i ≤ stride * length counts
   pub few : stride * length counts < i + stride
-  pub counts_are : (j : ℕ) → j < length counts
-      → slice_get counts j ≡ Some (node_step_count (take (stride * j) steps))
+  pub counts_are : AreCountsByStride steps counts
 
 -- the steps with their ranges, where the steps of nodes have the ranges of the second list
 abbrev pub with_ranges : List StrStep → List (ℕ × ℕ) → List (StrStep × (ℕ × ℕ))

@@ -50,19 +50,6 @@ abbrev pub errors_not_before : ℕ → List ParseError → List ParseError
 errors_not_before end [] = []
 errors_not_before end (e ∷ es) = if nat_lt e.start end then errors_not_before end es else e ∷ es
 
--- The errors of steps and the lexical errors that were not appended before them, where the first of
--- the remaining tokens begins at an offset. The lexical errors before that offset go before the
--- error of an `Error` step.
-abbrev pub merged_errors : ℕ → List LexedToken → List ParseError → List StrStep → List ParseError
-merged_errors at ts lexical [] = lexical
-merged_errors at ts lexical (Enter kind ∷ xs) = merged_errors at ts lexical xs
-merged_errors at ts lexical (Token kind start end ∷ xs) =
-    merged_errors (at + next_len ts) (drop 1 ts) lexical xs
-merged_errors at ts lexical (Exit ∷ xs) = merged_errors at ts lexical xs
-merged_errors at ts lexical (Error number offset ∷ xs) =
-    errors_before at lexical
-    ++ (step_error at ts number ++ merged_errors at ts (errors_not_before at lexical) xs)
-
 -- whether steps contain all of the tokens from an offset, each `Error` at the start of the next one
 abbrev pub covers : ℕ → List LexedToken → List StrStep → Bool
 covers at ts [] = is_empty ts
