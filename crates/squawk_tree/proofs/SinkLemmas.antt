@@ -5,7 +5,7 @@ use Rattle.squawk_events.specs.declared.steps.ParseError.{ParseError}
 use Rattle.squawk_events.specs.declared.steps.StrStep.{StrStep}
 use Rattle.squawk_events.specs.declared.steps.StrStep.TheVariants.{Enter, Token, Exit, Error}
 use Rattle.squawk_tree.specs.Steps.{has_no_errors, is_balanced, without_errors, leaves, tiles}
-use Rattle.squawk_tree.specs.Taken.{Taken, IsError, IsHeld, EndsBy, tokens_end}
+use Rattle.squawk_tree.specs.Taken.{Taken, IsError, IsSinkState, EndsBy, tokens_end}
 use Rattle.squawk_tree.specs.Tree.{IsTree}
 use Rattle.squawk_tree.proofs.Balanced.{without_errors_has_none}
 use Rattle.squawk_tree.proofs.TreeLaws.{kept_tree}
@@ -47,23 +47,23 @@ none_push (Exit ∷ xs) x = none_push xs x
 none_push (Error number at ∷ xs) x = refl
 
 -- a sink after a step: one that stays in the tree, and one that does not
-pub held_kept : (xs : List StrStep) (x : StrStep) (flag : Bool) (own : List ParseError)
-    (xs' : List StrStep) → IsHeld xs flag own → has_no_errors (x ∷ []) ≡ true
-    → xs' ≡ xs ++ x ∷ [] → IsHeld xs' flag own
-held_kept xs x flag own xs' held kept is = record {
-  flag = held.flag ∙ sym (and_true (has_no_errors xs))
+pub state_kept : (xs : List StrStep) (x : StrStep) (flag : Bool) (own : List ParseError)
+    (xs' : List StrStep) → IsSinkState xs flag own → has_no_errors (x ∷ []) ≡ true
+    → xs' ≡ xs ++ x ∷ [] → IsSinkState xs' flag own
+state_kept xs x flag own xs' state kept is = record {
+  flag = state.flag ∙ sym (and_true (has_no_errors xs))
       ∙ ap (λ b. has_no_errors xs && b) (sym kept) ∙ sym (none_push xs x)
       ∙ ap has_no_errors (sym is);
-  errors_are = held.errors_are;
+  errors_are = state.errors_are;
 }
 
-pub held_error : (xs : List StrStep) (x : StrStep) (flag : Bool) (own : List ParseError)
-    (xs' : List StrStep) → IsHeld xs flag own → has_no_errors (x ∷ []) ≡ false
-    → xs' ≡ xs ++ x ∷ [] → IsHeld xs' false own
-held_error xs x flag own xs' held lost is = record {
+pub state_error : (xs : List StrStep) (x : StrStep) (flag : Bool) (own : List ParseError)
+    (xs' : List StrStep) → IsSinkState xs flag own → has_no_errors (x ∷ []) ≡ false
+    → xs' ≡ xs ++ x ∷ [] → IsSinkState xs' false own
+state_error xs x flag own xs' state lost is = record {
   flag = sym (and_false (has_no_errors xs)) ∙ ap (λ b. has_no_errors xs && b) (sym lost)
       ∙ sym (none_push xs x) ∙ ap has_no_errors (sym is);
-  errors_are = held.errors_are;
+  errors_are = state.errors_are;
 }
 
 -- what `finish` makes is a tree: by its steps and errors, and by the value of the sink

@@ -32,8 +32,8 @@ tokens_end steps = end_after 0 steps
 abbrev pub EndsBy : ℕ → ParseError → Type 0
 EndsBy len e = e.end ≤ len
 
--- what a sink holds: these steps, whether no `Error` is among them, and these errors
-pub record IsHeld (steps : List StrStep) (without : Bool) (errors : List ParseError)
+-- the flag says whether no `Error` is among the steps, and the errors are lawful
+pub record IsSinkState (steps : List StrStep) (no_errors : Bool) (errors : List ParseError)
     : Type 0 where
-  pub flag : without ≡ has_no_errors steps
+  pub flag : no_errors ≡ has_no_errors steps
   pub errors_are : All IsError errors

@@ -2,7 +2,7 @@
 ghost use Rattle.std.specs.Prelude.{◌≡◌, ◌≤◌, IsTrue, All, [], ◌∷◌, ◌++◌, OnOk, OnErr, IfOk, IfErr};
 ghost use Rattle.squawk_events.specs.Refusals.{IsOutOfMemory};
 ghost use Rattle.squawk_tree.specs.Steps.{has_no_errors, is_balanced, leaves, tiles, without_errors};
-ghost use Rattle.squawk_tree.specs.Taken.{Taken, IsError, EndsBy, end_after, tokens_end};
+ghost use Rattle.squawk_tree.specs.Taken.{Taken, IsError, EndsBy, tokens_end};
 
 use crate::parse::{Parse, TreeParts};
 use squawk_events::{FrontError, ParseError, StepSink, StrStep};
@@ -22,13 +22,13 @@ pub struct TreeSink {
 }
 
 impl Model for TreeSink {
-    ghost use Rattle.squawk_tree.specs.Taken.{Taken, IsHeld};
+    ghost use Rattle.squawk_tree.specs.Taken.{Taken, IsSinkState};
 
     ghost Value = { Taken };
 
     ghost view = { λ s. record { steps = s.steps.items; errors = s.errors.items } };
 
-    ghost invariant = { λ s. IsHeld s.steps.items s.has_no_errors s.errors.items };
+    ghost invariant = { λ s. IsSinkState s.steps.items s.has_no_errors s.errors.items };
 }
 
 // Whether a step stays in the tree: whether it is no `Error`.
@@ -42,7 +42,7 @@ fn is_kept(step: &StrStep) -> bool
 fn remove_errors(steps: &mut Vec<StrStep>)
     ensures { steps.new.items ≡ without_errors steps.old.items }
 {
-    steps.retain(|step| !matches!(step, StrStep::Error { .. }));
+    steps.retain(|step| is_kept(step));
 }
 
 // The steps less their `Error` steps; `no_errors` says whether there are none.

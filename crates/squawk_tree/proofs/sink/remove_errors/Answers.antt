@@ -1,17 +1,14 @@
-use Rattle.std.proofs.Common.{rules, ◌≡◌, ◌∙◌, ap, refl, Bool, List, [], ◌∷◌, true, false}
+use Rattle.std.proofs.Common.{rules, ◌≡◌, ◌∙◌, ap, refl, Bool, List, [], ◌∷◌}
 use Rattle.std.specs.List.{filter}
 use Rattle.std.proofs.lemmas.List.Elements.{filter_from_retain}
 use Rattle.squawk_events.specs.declared.steps.StrStep.{StrStep}
 use Rattle.squawk_events.specs.declared.steps.StrStep.TheVariants.{Enter, Token, Exit, Error}
-use Rattle.squawk_tree.specs.Steps.{without_errors}
+use Rattle.squawk_tree.specs.Steps.{has_no_errors, without_errors}
 use Rattle.squawk_tree.proofs.sink.remove_errors.Goals as goal
 
 -- whether a step is no `Error`
 abbrev is_kept : StrStep → Bool
-is_kept (Enter kind) = true
-is_kept (Token kind start end) = true
-is_kept Exit = true
-is_kept (Error number at) = false
+is_kept x = has_no_errors (x ∷ [])
 
 -- the steps other than `Error` steps are a filter
 kept_steps : (xs : List StrStep) → filter is_kept xs ≡ without_errors xs
