@@ -4,8 +4,7 @@ ghost use Rattle.squawk_events.specs.Refusals.{IsOutOfMemory};
 ghost use Rattle.squawk_lexed.specs.LexedText.{total_len};
 ghost use Rattle.squawk_lexed.specs.Stored.{errors_of};
 ghost use Rattle.squawk_lexed.specs.Weave.{next_len};
-ghost use Rattle.squawk_tree.specs.Errors.{error};
-ghost use Rattle.squawk_tree.specs.Walk.{step_error, errors_by_step, errors_before, errors_not_before, covers, EndsBelow};
+ghost use Rattle.squawk_tree.specs.Walk as spec;
 
 use squawk_events::{FrontError, ParseError, StrStep};
 use squawk_lexed::{LexError, LexedStr};
@@ -27,11 +26,11 @@ fn push_errors_before(
     end: usize,
 ) -> Result<usize, FrontError>
     requires within { from ≤ length lexical.now }
-    requires small { All (EndsBelow (2 ^ 32)) lexical.now }
+    requires small { All (spec.EndsBelow (2 ^ 32)) lexical.now }
     ensures ok { OnOk result (errors.new.items
-        ≡ errors.old.items ++ errors_before end (drop from lexical.now)) }
+        ≡ errors.old.items ++ spec.errors_before end (drop from lexical.now)) }
     ensures rest { IfOk result (λ next. drop next lexical.now
-        ≡ errors_not_before end (drop from lexical.now)) }
+        ≡ spec.errors_not_before end (drop from lexical.now)) }
     ensures within { IfOk result (λ next. next ≤ length lexical.now) }
     ensures refusals { IfErr result IsOutOfMemory }
 {
@@ -57,9 +56,9 @@ fn push_lexical_errors(
 ) -> Result<usize, FrontError>
     requires { from ≤ length (errors_of 0 lexed.now.tokens) }
     ensures ok { OnOk result (errors.new.items
-        ≡ errors.old.items ++ errors_before end (drop from (errors_of 0 lexed.now.tokens))) }
+        ≡ errors.old.items ++ spec.errors_before end (drop from (errors_of 0 lexed.now.tokens))) }
     ensures rest { IfOk result (λ next. drop next (errors_of 0 lexed.now.tokens)
-        ≡ errors_not_before end (drop from (errors_of 0 lexed.now.tokens))) }
+        ≡ spec.errors_not_before end (drop from (errors_of 0 lexed.now.tokens))) }
     ensures within { IfOk result (λ next. next ≤ length (errors_of 0 lexed.now.tokens)) }
     ensures refusals { IfErr result IsOutOfMemory }
 {
@@ -91,7 +90,7 @@ fn push_step_error(
 ) -> Result<(), FrontError>
     requires { token ≤ length lexed.now.tokens }
     ensures ok { OnOk result (errors.new.items ≡ errors.old.items
-        ++ step_error (total_len (take token lexed.now.tokens))
+        ++ spec.step_error (total_len (take token lexed.now.tokens))
         (drop token lexed.now.tokens) number) }
     ensures refusals { IfErr result IsOutOfMemory }
 {
@@ -112,12 +111,12 @@ fn push_errors_up_to(
     requires token { walk.token ≤ length lexed.now.tokens }
     requires error { walk.error ≤ length (errors_of 0 lexed.now.tokens) }
     ensures ok { OnOk result (errors.new.items ≡ errors.old.items
-        ++ (errors_before (total_len (take walk.token lexed.now.tokens))
+        ++ (spec.errors_before (total_len (take walk.token lexed.now.tokens))
         (drop walk.error (errors_of 0 lexed.now.tokens))
-        ++ step_error (total_len (take walk.token lexed.now.tokens))
+        ++ spec.step_error (total_len (take walk.token lexed.now.tokens))
         (drop walk.token lexed.now.tokens) number)) }
     ensures rest { IfOk result (λ next. drop next (errors_of 0 lexed.now.tokens)
-        ≡ errors_not_before (total_len (take walk.token lexed.now.tokens))
+        ≡ spec.errors_not_before (total_len (take walk.token lexed.now.tokens))
         (drop walk.error (errors_of 0 lexed.now.tokens))) }
     ensures within { IfOk result (λ next. next ≤ length (errors_of 0 lexed.now.tokens)) }
     ensures refusals { IfErr result IsOutOfMemory }
@@ -134,9 +133,9 @@ pub(crate) fn errors_of_steps(
     lexed: &LexedStr<'_>,
     steps: &[StrStep],
 ) -> Result<Vec<ParseError>, FrontError>
-    requires { IsTrue (covers 0 lexed.now.tokens steps.now) }
+    requires { IsTrue (spec.covers 0 lexed.now.tokens steps.now) }
     ensures ok { IfOk result (λ errors.
-        errors.items ≡ errors_by_step 0 lexed.now.tokens steps.now) }
+        errors.items ≡ spec.errors_by_step 0 lexed.now.tokens steps.now) }
     ensures refusals { IfErr result IsOutOfMemory }
 {
     let mut errors = Vec::new(alloc);
