@@ -18,22 +18,22 @@ pub(crate) struct Tables {
     pub(crate) children: Vec<ChildSpan>,
 }
 
-// Appends the number of nodes' steps before the i-th step, if a count is kept for this step.
+// Appends the number of `Enter` and `Exit` steps before step `i`, if a count is kept for it.
 #[inline(always)]
-fn push_count(counts: &mut Vec<usize>, i: usize, nodes: usize) -> Result<(), AllocError>
+fn push_count(counts: &mut Vec<usize>, i: usize, node_steps: usize) -> Result<(), AllocError>
     ensures { OnOk result ((steps : List Given) → AreCountsUpTo steps i counts.old.items
-        → nodes ≡ node_step_count (take i steps)
+        → node_steps ≡ node_step_count (take i steps)
         → AreCountsUpTo steps (i + 1) counts.new.items) }
 {
     if i % STRIDE == 0 {
-        counts.push(nodes)?;
+        counts.push(node_steps)?;
     }
     Ok(())
 }
 
-// No children yet, and room for this many. If that much memory cannot be had, the list grows as
+// An empty list of children with room for this many. If that much memory cannot be had, it grows as
 // needed.
-fn no_children(alloc: Global, room: usize) -> Vec<ChildSpan>
+fn children_with_room(alloc: Global, room: usize) -> Vec<ChildSpan>
     ensures { result.items ≡ [] }
 {
     let mut children = Vec::new(alloc);
@@ -41,18 +41,22 @@ fn no_children(alloc: Global, room: usize) -> Vec<ChildSpan>
     children
 }
 
-// The tables of a tree with these steps, of which `room` are steps of nodes. Most trees have fewer
-// children than such steps.
-pub(crate) fn tables_of(alloc: Global, steps: &[StrStep], room: usize) -> Result<Tables, AllocError>
+// The tables of a tree with these steps. `node_steps` is the number of `Enter` and `Exit` steps, or
+// 0 if unknown: room for as many ranges and children is reserved.
+pub(crate) fn tables_of(
+    alloc: Global,
+    steps: &[StrStep],
+    node_steps: usize,
+) -> Result<Tables, AllocError>
     requires { IsTrue (is_balanced steps.now) }
     ensures spans { IfOk result (λ tables. tables.spans.items ≡ node_ranges steps.now) }
     ensures counts { IfOk result (λ tables. AreNodeStepCounts steps.now tables.counts.items) }
     ensures children { IfOk result (λ tables. tables.children.items ≡ child_spans steps.now) }
 {
-    let mut spans = Vec::with_capacity(alloc, room)?;
+    let mut spans = Vec::with_capacity(alloc, node_steps)?;
     let mut counts = Vec::with_capacity(alloc, steps.len() / STRIDE + 1)?;
     let mut open_nodes = Vec::new(alloc);
-    let mut children = no_children(alloc, room);
+    let mut children = children_with_room(alloc, node_steps);
     // The first step enters the root.
     push_count(&mut counts, 0, 0)?;
     let mut at = add_step(&mut spans, &mut open_nodes, 0, steps[0])?;

@@ -33,7 +33,7 @@ loop-i-init c =
           c.in_ok-at.ensures.spans;
       counts = c.in_ok-push_count.ensures steps (rw c.in_ok-counts.ensures.items (counts_start steps))
           refl;
-      children = rw (c.no_children-children.ensures, start) root.children;
+      children = rw (c.children_with_room-children.ensures, start) root.children;
       closes = root.closed;
       counted = tt;
     }
