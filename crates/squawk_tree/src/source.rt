@@ -22,8 +22,8 @@ use squawk_lexer::Strings;
 use squawk_statements::{Division, GroupedGrammar, PlainGrammar};
 use std::alloc::Global;
 
-// The output of a grammar for these tokens, woven with them, in a sink.
-fn woven_steps<G: Grammar>(
+// Weaves these tokens and the output of a grammar for them into a sink.
+fn weave_into_sink<G: Grammar>(
     alloc: Global,
     lexed: &LexedStr<'_>,
     grammar: &G,
@@ -36,7 +36,7 @@ fn woven_steps<G: Grammar>(
 {
     let input = lexed.to_input(alloc)?;
     let output = EntryPoint::SourceFile.parse(alloc, &input, grammar)?;
-    // At most one step for each of the grammar, and one for each token.
+    // No more than one step for each of the grammar and one for each token.
     let mut sink = TreeSink::with_room(alloc, lexed.len().saturating_add(output.steps().len()));
     let _ = lexed.intersperse_trivia(&output, &mut sink)?;
     Ok(sink)
@@ -62,7 +62,7 @@ fn errors_in(
 }
 
 // The steps, the errors and the length of the parse of these tokens by a grammar.
-fn parts_of<G: Grammar>(
+fn tree_parts<G: Grammar>(
     alloc: Global,
     lexed: &LexedStr<'_>,
     grammar: &G,
@@ -72,7 +72,7 @@ fn parts_of<G: Grammar>(
     ensures refusals { IfErr result IsOutOfMemory }
 {
     let len = lexed.text_start(lexed.len()) as u32;
-    let sink = woven_steps(alloc, lexed, grammar)?;
+    let sink = weave_into_sink(alloc, lexed, grammar)?;
     let errors = errors_in(alloc, lexed, &sink)?;
     let steps = sink.into_steps();
     // Each token has a step.
@@ -85,8 +85,8 @@ fn parts_of<G: Grammar>(
     })
 }
 
-// The parse of these tokens by a grammar. Their memory is free before the parse looks up ranges.
-fn parse_owned<G: Grammar>(
+// Parses these tokens by a grammar, and frees them before the ranges are found.
+fn parse_and_free<G: Grammar>(
     alloc: Global,
     lexed: LexedStr<'_>,
     grammar: &G,
@@ -95,7 +95,7 @@ fn parse_owned<G: Grammar>(
     ensures sound { IsTrue (are_sound lexed.entry.tokens) }
     ensures refusals { IfErr result IsOutOfMemory }
 {
-    let parts = parts_of(alloc, &lexed, grammar)?;
+    let parts = tree_parts(alloc, &lexed, grammar)?;
     drop(lexed);
     Ok(Parse::new(alloc, parts)?)
 }
@@ -115,7 +115,7 @@ pub fn parse_lexed<G: Grammar>(
     ensures sound { IsTrue (are_sound lexed.now.tokens) }
     ensures refusals { IfErr result IsOutOfMemory }
 {
-    let parts = parts_of(alloc, lexed, grammar)?;
+    let parts = tree_parts(alloc, lexed, grammar)?;
     Ok(Parse::new(alloc, parts)?)
 }
 
@@ -134,7 +134,7 @@ pub fn parse_with_in<G: Grammar>(
     ensures refusals { IfErr result (MayRefuse text.now) }
 {
     let lexed = LexedStr::new_in(alloc, text, strings)?;
-    parse_owned(alloc, lexed, grammar)
+    parse_and_free(alloc, lexed, grammar)
 }
 
 /// Parses a text by a grammar, where a backslash in a plain string is an ordinary character.
@@ -154,8 +154,8 @@ fn parse_tokens(alloc: Global, lexed: LexedStr<'_>, division: Division) -> Resul
     ensures refusals { IfErr result IsOutOfMemory }
 {
     match division {
-        Division::Flat => parse_owned(alloc, lexed, &PlainGrammar),
-        Division::Grouped => parse_owned(alloc, lexed, &GroupedGrammar),
+        Division::Flat => parse_and_free(alloc, lexed, &PlainGrammar),
+        Division::Grouped => parse_and_free(alloc, lexed, &GroupedGrammar),
     }
 }
 

@@ -1,6 +1,6 @@
 use Rattle.std.proofs.Common.{◌∙◌}
 use Rattle.squawk_tree.proofs.LeavesLemmas.{begins_with_of}
-use Rattle.squawk_tree.proofs.source.woven_steps.Goals as goal
+use Rattle.squawk_tree.proofs.source.weave_into_sink.Goals as goal
 
 pub intersperse_trivia-requires-clause-tokens : goal.intersperse_trivia-requires-clause-tokens
 intersperse_trivia-requires-clause-tokens g c =

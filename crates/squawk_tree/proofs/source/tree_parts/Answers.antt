@@ -8,7 +8,7 @@ use Rattle.squawk_tree.specs.Tree.{Tree, IsTree}
 use Rattle.squawk_tree.proofs.ErrorLemmas.{covers_whole}
 use Rattle.squawk_tree.proofs.LeavesLemmas.{leaves_whole}
 use Rattle.squawk_tree.proofs.TreeLaws.{tree_of_lawful, parts_are}
-use Rattle.squawk_tree.proofs.source.parts_of.Goals as goal
+use Rattle.squawk_tree.proofs.source.tree_parts.Goals as goal
 
 whole_len : (ts : List LexedToken) (n len : ℕ) → n ≡ length ts → len ≡ total_len (take n ts)
     → len ≡ total_len ts
