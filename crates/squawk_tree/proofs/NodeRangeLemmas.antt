@@ -1,6 +1,6 @@
 -- A range of a step is found among those of the nodes, by the number of nodes' steps before it.
-use Rattle.std.proofs.Common.{◌≡◌, ℕ, zero, suc, ◌+◌, ◌-◌, ◌*◌, ◌/◌, ◌%◌, ◌<◌, ◌≤◌, true, false, List, [], ◌∷◌, ◌++◌, length, take, drop, ap, sym, ◌∙◌, refl, arith, get_or, slice_get, slice_index_or}
-use Rattle.std.specs.Prelude.{Option, Some, None, is_none}
+use Rattle.std.proofs.Common.{◌≡◌, ℕ, zero, suc, ◌+◌, ◌-◌, ◌*◌, ◌/◌, ◌%◌, ◌<◌, ◌≤◌, List, [], ◌∷◌, ◌++◌, length, take, drop, ap, sym, ◌∙◌, refl, arith, get_or, slice_get, slice_index_or}
+use Rattle.std.specs.Prelude.{Option, Some, None}
 use Rattle.std.proofs.lemmas.List.{length_push, length-take-le}
 use Rattle.std.proofs.lemmas.Option.{get_or_from_slice_get, slice_get_within, slice_get-get_or}
 use Rattle.std.specs.List.{zip}
@@ -9,21 +9,6 @@ use Rattle.squawk_events.specs.declared.steps.StrStep.TheVariants.{Enter, Token,
 use Rattle.squawk_tree.specs.NodeRanges.{AreNodeStepCounts, AreCountsUpTo, token_range, node_step_count, at_nodes, node_ranges, with_ranges}
 use Rattle.squawk_tree.specs.Ranges.{node_end, first_offset, other_offsets, ranges, ranges_from}
 use Rattle.squawk_tree.proofs.RangeLemmas.{length_ranges_from}
-
--- a step counts as one if it is no `Token`, and else as none
-pub count_node : (x : StrStep) (xs : List StrStep) → is_none (token_range x) ≡ true
-    → node_step_count (x ∷ xs) ≡ suc (node_step_count xs)
-count_node (Enter kind) xs h = refl
-count_node (Token kind start end) xs h = cc
-count_node Exit xs h = refl
-count_node (Error number offset) xs h = refl
-
-pub count_token : (x : StrStep) (xs : List StrStep) → is_none (token_range x) ≡ false
-    → node_step_count (x ∷ xs) ≡ node_step_count xs
-count_token (Enter kind) xs h = cc
-count_token (Token kind start end) xs h = refl
-count_token Exit xs h = cc
-count_token (Error number offset) xs h = cc
 
 -- there are no more steps of nodes than steps
 pub node_count_le : (xs : List StrStep) → node_step_count xs ≤ length xs
@@ -222,16 +207,10 @@ counts_keep steps i counts kept are =
       counts_are = are.counts_are;
     }
 
--- at first, and after the last step
+-- no count is kept before the first step
 pub counts_start : (steps : List StrStep) → AreCountsUpTo steps 0 []
 counts_start steps = record {
   enough = omega arith;
   few = omega arith;
   counts_are = λ j lt. absurd (omega (arith, lt));
 }
-
-pub counts_end : (steps : List StrStep) (i : ℕ) (counts : List ℕ) → length steps ≤ i
-    → AreCountsUpTo steps i counts → AreNodeStepCounts steps counts
-counts_end steps i counts le are =
-    let enough = are.enough in
-    record { enough = omega (arith, le, enough); counts_are = are.counts_are }

@@ -1,18 +1,13 @@
 -- `ChildSpan` values, without their ranges, are the children of the root.
-use Rattle.std.proofs.Common.{◌≡◌, ℕ, zero, suc, ◌+◌, ◌==◌, true, List, [], ◌∷◌, ◌++◌, drop, map, ap, sym, refl, ◌∙◌, arith}
+use Rattle.std.proofs.Common.{◌≡◌, ℕ, zero, suc, ◌+◌, ◌==◌, true, List, [], ◌∷◌, drop, map, ap, refl, ◌∙◌, arith}
 use Rattle.std.proofs.lemmas.Bool.{eqb-true}
-use Rattle.std.proofs.lemmas.List.{append-nil}
 use Rattle.squawk_events.specs.declared.steps.StrStep.{StrStep}
 use Rattle.squawk_events.specs.declared.steps.StrStep.TheVariants.{Enter, Token, Exit, Error}
-use Rattle.squawk_tree.specs.ChildPass.{remaining, depth}
 use Rattle.squawk_tree.specs.ChildSpans.{node_tokens, child_spans_from, child_spans, span_child}
-use Rattle.squawk_tree.specs.declared.children.ChildSpan.{ChildSpan}
-use Rattle.squawk_tree.specs.declared.children.PassState.{PassState}
-use Rattle.squawk_tree.specs.declared.children.PassState.TheVariants.{Outside, UnderRoot, InChild}
 use Rattle.squawk_tree.specs.Steps.{Leaf, Node, closes, is_balanced, root_children_from, root_children}
 
 -- a number above 0 is not 0
-pub never : (d : ℕ) {P : Type 0} → (suc d == 0) ≡ true → P
+never : (d : ℕ) {P : Type 0} → (suc d == 0) ≡ true → P
 never d h = absurd (let e : suc d ≡ 0 = eqb-true (suc d) 0 h in omega arith)
 
 mutual
@@ -53,21 +48,6 @@ spans_are_children (Enter kind ∷ xs) h = under_root 1 0 xs h
 spans_are_children (Token kind start end ∷ xs) h = refl
 spans_are_children (Exit ∷ xs) h = refl
 spans_are_children (Error number at ∷ xs) h = refl
-
--- where no step is left, no child remains
-none_left : (state : PassState) (at i : ℕ) → closes (depth state) [] ≡ true
-    → remaining state at i [] ≡ []
-none_left Outside at i h = refl
-none_left UnderRoot at i h = refl
-none_left (InChild child) at i h = never (suc child.inner) h
-
-pub all_found : (made all : List ChildSpan) (state : PassState) (at i : ℕ) (left : List StrStep)
-    → left ≡ [] → closes (depth state) left ≡ true
-    → made ++ remaining state at i left ≡ all → made ≡ all
-all_found made all state at i left none closed is =
-    let closed_none = rw none at closed in
-    sym (append-nil made) ∙ ap (λ xs. made ++ xs) (sym (none_left state at i closed_none))
-    ∙ ap (λ xs. made ++ remaining state at i xs) (sym none) ∙ is
 
 -- the first step of a balanced tree, and what its other steps are
 pub record RootFirst (steps : List StrStep) : Type 0 where
