@@ -4,8 +4,14 @@ ghost use Rattle.squawk_show.specs.Digits as spec;
 
 use std::alloc::{AllocError, Global};
 
-// The numbers of at most four digits are those below.
+// The numbers of at most four digits, one group, are those below.
 const GROUP: u32 = 10_000;
+
+// The numbers of at most eight digits, two groups, are those below.
+const TWO_GROUPS: u32 = GROUP * GROUP;
+
+// The bytes that `put_number` writes, three groups. No more than the first ten have a meaning.
+pub(crate) const NUMBER_ROOM: usize = 12;
 
 // The ASCII code of a digit.
 fn digit(n: u32) -> u8
@@ -77,7 +83,7 @@ fn make_leading(alloc: Global) -> Result<Vec<u32>, AllocError>
     ensures { IfOk result (λ table. spec.IsLeadingTable 10000 table.items) }
 {
     let mut table = Vec::new(alloc);
-    for n in 0..10000u32 {
+    for n in 0..GROUP {
         table.push(pack(leading_bytes(n)))?;
     }
     Ok(table)
@@ -88,7 +94,7 @@ fn make_trailing(alloc: Global) -> Result<Vec<u32>, AllocError>
     ensures { IfOk result (λ table. spec.IsTrailingTable 10000 table.items) }
 {
     let mut table = Vec::new(alloc);
-    for n in 0..10000u32 {
+    for n in 0..GROUP {
         table.push(pack(trailing_bytes(n)))?;
     }
     Ok(table)
@@ -128,7 +134,7 @@ impl Number {
     {
         Number {
             value: 0,
-            leading: 48,
+            leading: b'0' as u32,
             middle: 0,
             trailing: 0,
             width: 1,
@@ -208,9 +214,9 @@ impl DigitTables {
     pub(crate) fn number(&self, value: u32) -> Number
         ensures { result.value ≡ value }
     {
-        if value < 10_000 {
+        if value < GROUP {
             self.one_group(value)
-        } else if value < 100_000_000 {
+        } else if value < TWO_GROUPS {
             self.two_groups(value)
         } else {
             self.three_groups(value)
@@ -241,8 +247,8 @@ fn put_u32(text: &mut [u8], at: usize, packed: u32)
     text[at..at + 4].copy_from_slice(&packed.to_le_bytes());
 }
 
-// Writes the digits of a number at an offset, and returns the offset after them. It writes twelve
-// bytes whatever the number, since copies of a fixed size are faster than one of any size.
+// Writes the digits of a number at an offset, and returns the offset after them. It writes
+// `NUMBER_ROOM` bytes whatever the number: copies of a fixed size are faster than one of any size.
 #[inline(always)]
 pub(crate) fn put_number(text: &mut [u8], at: usize, number: Number) -> usize
     requires { at + 12 ≤ length text.old }

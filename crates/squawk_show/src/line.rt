@@ -6,7 +6,7 @@ ghost use Rattle.std.specs.Prelude.{◌≡◌, ◌≤◌, ◌+◌, ◌%◌, ◌+
 ghost use Rattle.squawk_lexer.specs.Classes.{space};
 ghost use Rattle.squawk_show.specs.Report as spec;
 
-use crate::digits::{DigitTables, Number, put_number};
+use crate::digits::{DigitTables, NUMBER_ROOM, Number, put_number};
 use crate::line_buffer::LineBuffer;
 use squawk_events::{ParseError, message};
 use squawk_kinds::SyntaxKind;
@@ -16,8 +16,8 @@ use std::alloc::AllocError;
 // The most bytes of a printed text whose line fits into its window with any range.
 const MAX_SHORT_TEXT: usize = 35;
 
-// From this depth on a line is built in a `LineBuffer`. No tree of a text is so deep.
-const MAX_SHORT_DEPTH: usize = 10_000_000_000;
+// Lines of this depth or more are built in a `LineBuffer`. No tree of a text is so deep.
+const SHORT_DEPTH_LIMIT: usize = 10_000_000_000;
 
 // Appends the line of a node or a leaf, whatever its depth and its range.
 fn push_any_line(
@@ -128,13 +128,13 @@ fn push_number(out: &mut Vec<u8>, number: Number) -> Result<(), AllocError>
     ensures { OnOk result (out.new.items ≡ out.old.items ++ decimal number.value) }
 {
     let old = out.len();
-    out.extend_from_slice(&[b'0'; 12])?;
+    out.extend_from_slice(&[b'0'; NUMBER_ROOM])?;
     let count = put_number(&mut out.as_mut_slice()[old..], 0, number);
     out.truncate(old + count);
     Ok(())
 }
 
-// Appends all digits of a depth but the last, and returns that one.
+// Appends all digits of a depth but the last. Returns the last.
 #[inline(always)]
 fn push_upper_digits(
     out: &mut Vec<u8>,
@@ -169,7 +169,7 @@ pub(crate) fn push_line(
         ≡ out.old.items ++ spec.report_line depth letter kind range) }
 {
     if let (Some(tables), Some((window, len))) = (tables, name_window(kind.to_raw())) {
-        if len <= MAX_SHORT_TEXT && depth < MAX_SHORT_DEPTH {
+        if len <= MAX_SHORT_TEXT && depth < SHORT_DEPTH_LIMIT {
             let start = tables.number_after(last, range.0);
             let end = tables.number(range.1);
             let digit = push_upper_digits(out, tables, depth)?;
