@@ -8,30 +8,117 @@ use std::alloc::Global;
 use std::process::Abort;
 use std::test::Fail;
 
-// The line of a leaf.
-#[derive(Clone, Copy)]
+// A leaf: its line, and the line of an empty range at its end.
 struct Row<'a> {
     name: &'a str,
     depth: usize,
     kind: SyntaxKind,
     range: (u32, u32),
     line: &'a str,
+    next_line: &'a str,
 }
 
-impl<'a> Row<'a> {
-    // A semicolon.
-    fn new(name: &'a str, depth: usize, range: (u32, u32), line: &'a str) -> Row<'a> {
-        Row {
-            name,
-            depth,
-            kind: SyntaxKind::SEMICOLON,
-            range,
-            line,
-        }
-    }
-}
+const ROWS: [Row; 12] = [
+    Row {
+        name: "zeros",
+        depth: 0,
+        kind: SyntaxKind::SEMICOLON,
+        range: (0, 0),
+        line: "0 T `;` 0..0\n",
+        next_line: "0 T `;` 0..0\n",
+    },
+    Row {
+        name: "depth_nine",
+        depth: 9,
+        kind: SyntaxKind::SEMICOLON,
+        range: (9, 10),
+        line: "9 T `;` 9..10\n",
+        next_line: "9 T `;` 10..10\n",
+    },
+    Row {
+        name: "depth_ten",
+        depth: 10,
+        kind: SyntaxKind::SEMICOLON,
+        range: (99, 100),
+        line: "10 T `;` 99..100\n",
+        next_line: "10 T `;` 100..100\n",
+    },
+    Row {
+        name: "depth_ninety_nine",
+        depth: 99,
+        kind: SyntaxKind::SEMICOLON,
+        range: (999, 1000),
+        line: "99 T `;` 999..1000\n",
+        next_line: "99 T `;` 1000..1000\n",
+    },
+    Row {
+        name: "depth_hundred",
+        depth: 100,
+        kind: SyntaxKind::SEMICOLON,
+        range: (9999, 10_000),
+        line: "100 T `;` 9999..10000\n",
+        next_line: "100 T `;` 10000..10000\n",
+    },
+    Row {
+        name: "depth_thousand",
+        depth: 1000,
+        kind: SyntaxKind::SEMICOLON,
+        range: (99_999_999, 100_000_000),
+        line: "1000 T `;` 99999999..100000000\n",
+        next_line: "1000 T `;` 100000000..100000000\n",
+    },
+    Row {
+        name: "zeros_in_each_group",
+        depth: 20_000,
+        kind: SyntaxKind::SEMICOLON,
+        range: (1_000_010_000, 1_000_010_002),
+        line: "20000 T `;` 1000010000..1000010002\n",
+        next_line: "20000 T `;` 1000010002..1000010002\n",
+    },
+    Row {
+        name: "largest_number",
+        depth: 9_999_999_999,
+        kind: SyntaxKind::SEMICOLON,
+        range: (4_294_967_294, 4_294_967_295),
+        line: "9999999999 T `;` 4294967294..4294967295\n",
+        next_line: "9999999999 T `;` 4294967295..4294967295\n",
+    },
+    Row {
+        name: "too_deep_for_a_window",
+        depth: 10_000_000_000,
+        kind: SyntaxKind::SEMICOLON,
+        range: (3, 4),
+        line: "10000000000 T `;` 3..4\n",
+        next_line: "10000000000 T `;` 4..4\n",
+    },
+    Row {
+        name: "longest_text_in_a_window",
+        depth: 7,
+        kind: SyntaxKind::PUBLICATION_OBJECT_TABLES_IN_SCHEMA,
+        range: (1_000_000_000, 4_294_967_295),
+        line: "7 T publication object tables in schema 1000000000..4294967295\n",
+        next_line: "7 T publication object tables in schema 4294967295..4294967295\n",
+    },
+    Row {
+        name: "longest_text",
+        depth: 7,
+        kind: SyntaxKind::PLPGSQL_COMP_OPTION_PRINT_STRICT_PARAMS,
+        range: (1, 2),
+        line: "7 T plpgsql comp option print strict params 1..2\n",
+        next_line: "7 T plpgsql comp option print strict params 2..2\n",
+    },
+    Row {
+        name: "kind_without_window",
+        depth: 12,
+        kind: SyntaxKind::TOMBSTONE,
+        range: (1, 2),
+        line: "12 T tombstone 1..2\n",
+        next_line: "12 T tombstone 2..2\n",
+    },
+];
 
-// A line is the same with tables of digits and without.
+// Checks the line of a row, and then the line that starts where this one ends: with tables of
+// digits it reuses those of the end.
 fn check_row(
     rt: &impl Abort,
     alloc: Global,
@@ -44,76 +131,30 @@ fn check_row(
         &mut line, tables, zero, row.depth, b'T', row.kind, row.range,
     )?;
     assert_eq!(rt; line.as_slice(), row.line.as_bytes(), "{}", row.name);
-    let mut again = Vec::new(alloc);
+    let mut next_line = Vec::new(alloc);
+    let range = (row.range.1, row.range.1);
     push_line(
-        &mut again, tables, last, row.depth, b'T', row.kind, row.range,
+        &mut next_line,
+        tables,
+        last,
+        row.depth,
+        b'T',
+        row.kind,
+        range,
     )?;
-    assert_eq!(rt; again.as_slice(), row.line.as_bytes(), "{} again", row.name);
+    assert_eq!(rt;
+        next_line.as_slice(),
+        row.next_line.as_bytes(),
+        "{} next",
+        row.name
+    );
     Ok(())
 }
 
 #[test]
 fn writes_depths_and_numbers_of_each_length(rt: HostRuntime) -> Result<(), Fail> {
-    let rows = [
-        Row::new("zeros", 0, (0, 0), "0 T `;` 0..0\n"),
-        Row::new("depth_nine", 9, (9, 10), "9 T `;` 9..10\n"),
-        Row::new("depth_ten", 10, (99, 100), "10 T `;` 99..100\n"),
-        Row::new("depth_ninety_nine", 99, (999, 1000), "99 T `;` 999..1000\n"),
-        Row::new(
-            "depth_hundred",
-            100,
-            (9999, 10_000),
-            "100 T `;` 9999..10000\n",
-        ),
-        Row::new(
-            "depth_thousand",
-            1000,
-            (99_999_999, 100_000_000),
-            "1000 T `;` 99999999..100000000\n",
-        ),
-        Row::new(
-            "zeros_in_each_group",
-            20_000,
-            (1_000_010_000, 1_000_010_002),
-            "20000 T `;` 1000010000..1000010002\n",
-        ),
-        Row::new(
-            "largest_number",
-            9_999_999_999,
-            (4_294_967_294, 4_294_967_295),
-            "9999999999 T `;` 4294967294..4294967295\n",
-        ),
-        Row::new(
-            "too_deep_for_a_window",
-            10_000_000_000,
-            (3, 4),
-            "10000000000 T `;` 3..4\n",
-        ),
-        Row {
-            kind: SyntaxKind::PUBLICATION_OBJECT_TABLES_IN_SCHEMA,
-            ..Row::new(
-                "longest_text_in_a_window",
-                7,
-                (1_000_000_000, 4_294_967_295),
-                "7 T publication object tables in schema 1000000000..4294967295\n",
-            )
-        },
-        Row {
-            kind: SyntaxKind::PLPGSQL_COMP_OPTION_PRINT_STRICT_PARAMS,
-            ..Row::new(
-                "longest_text",
-                7,
-                (1, 2),
-                "7 T plpgsql comp option print strict params 1..2\n",
-            )
-        },
-        Row {
-            kind: SyntaxKind::TOMBSTONE,
-            ..Row::new("kind_without_window", 12, (1, 2), "12 T tombstone 1..2\n")
-        },
-    ];
     let tables = Some(DigitTables::new(rt.alloc())?);
-    for row in &rows {
+    for row in &ROWS {
         check_row(&rt, rt.alloc(), &tables, row)?;
         check_row(&rt, rt.alloc(), &None, row)?;
     }
