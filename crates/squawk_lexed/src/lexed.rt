@@ -23,8 +23,8 @@ use std::alloc::Global;
 use std::marker::Model;
 use std::ops::Range;
 
-// The mean length of a token in most SQL, trivia counted: `new_in` reserves room for one token in so
-// many bytes.
+// The mean length of a token in most SQL, trivia counted: `new_in` reserves room for one token in
+// so many bytes.
 const BYTES_PER_TOKEN: usize = 4;
 
 // The lists of a lexed text while it grows.
@@ -36,8 +36,8 @@ struct Lists {
 }
 
 impl Lists {
-    // Empty lists with room for this many tokens and the end of the last. If that much memory cannot
-    // be had, they grow as needed.
+    // Empty lists with room for this many tokens and the end of the last. If that much memory
+    // cannot be had, they grow as needed.
     fn with_room(alloc: Global, tokens: usize) -> Lists
         ensures kinds { result.kinds.items ≡ [] }
         ensures starts { result.starts.items ≡ [] }

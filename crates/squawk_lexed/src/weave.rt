@@ -102,7 +102,8 @@ fn emit_token<K: StepSink>(
     requires position { spec.IsPosition lexed.now.tokens steps.now from }
     requires step { from.step < length steps.now }
     requires token { spec.IsTokenNext steps.now from }
-    ensures ok { IfOk result (λ to. K.steps sink.new ++ spec.weave_left lexed.now.tokens steps.now to
+    ensures ok { IfOk result (λ to.
+        K.steps sink.new ++ spec.weave_left lexed.now.tokens steps.now to
         ≡ K.steps sink.old ++ spec.weave_left lexed.now.tokens steps.now from) }
     ensures after { IfOk result (spec.IsAfter lexed.now.tokens steps.now from) }
     ensures err { OnErr result (K.steps sink.new ≡ K.steps sink.old) }
@@ -136,7 +137,8 @@ fn emit_next<K: StepSink>(
     requires small { total_len lexed.now.tokens < 2 ^ 32 }
     requires position { spec.IsPosition lexed.now.tokens steps.now from }
     requires step { from.step < length steps.now }
-    ensures ok { IfOk result (λ to. K.steps sink.new ++ spec.weave_left lexed.now.tokens steps.now to
+    ensures ok { IfOk result (λ to.
+        K.steps sink.new ++ spec.weave_left lexed.now.tokens steps.now to
         ≡ K.steps sink.old ++ spec.weave_left lexed.now.tokens steps.now from) }
     ensures after { IfOk result (spec.IsAfter lexed.now.tokens steps.now from) }
     ensures prefix { OnErr result (AppendsPrefix (K.steps sink.old) (K.steps sink.new)
