@@ -89,6 +89,8 @@ fn push_fault(errors: &mut Vec<LexError>, at: u32, fault: Option<Fault>) -> Resu
 }
 
 // Appends the faults of a token that begins at byte `at`.
+// Documents call it too: without the attribute it would stay a call.
+#[inline(always)]
 pub(crate) fn push_faults(
     errors: &mut Vec<LexError>,
     at: u32,

@@ -56,6 +56,8 @@ impl Lists {
 }
 
 // Appends a token with this text, which begins at byte `at`.
+// Documents call it too: without the attribute it would stay a call.
+#[inline(always)]
 fn push_token(lists: &mut Lists, at: u32, token: Token, text: &str) -> Result<(), FrontError>
     requires cut { IsCut token }
     requires fits { at + token.len < 2 ^ 32 }

@@ -109,6 +109,8 @@ impl<'a> Cursor<'a> {
     }
 
     // Consumes the next token, and returns its kind.
+    // Documents call it too: without the attribute it would stay a call.
+    #[inline(always)]
     #[tactic(auto, using(crate::proofs::FormSteps::form_steps))]
     fn advance_token(&mut self, strings: Strings) -> TokenKind
         requires at { self.old.at ≡ 0 }
@@ -165,6 +167,8 @@ impl<'a> Cursor<'a> {
 
 // Cuts the first token off `text`, and returns it with the rest. `at_start` says that the input
 // begins here, so that a byte order mark is white space.
+// Documents call it too: without the attribute it would stay a call.
+#[inline(always)]
 pub(crate) fn cut(text: &str, at_start: bool, strings: Strings) -> (Token, &str)
     requires not_empty { 0 < length text.now }
     requires fits { length text.now < 2 ^ 32 }

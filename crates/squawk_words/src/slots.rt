@@ -8,8 +8,8 @@
 //! a length and first letter without words start.
 //!
 //! `scripts/find_slots.py` finds these numbers and prints this file. That the slot of each word has
-//! its index is proved by computation (`proofs/HashTests.antt`). PostgreSQL looks its keywords up by
-//! a perfect hash too (`src/tools/PerfectHash.pm`).
+//! its index is proved by computation (`proofs/HashTests.antt`). PostgreSQL too looks its keywords
+//! up by a perfect hash (`src/tools/PerfectHash.pm`).
 
 // The starts of the keywords: 32 for each length from 0 on, by the first letter.
 #[rattlefmt::skip]
