@@ -1,17 +1,18 @@
 -- The tokens that are read off the stored lists are those that were stored.
 use Rattle.std.proofs.Common.{◌≡◌, ℕ, zero, suc, ◌+◌, ◌-◌, ◌<◌, ◌≤◌, ◌^◌, true, false, ◌&&◌, List, [], ◌∷◌, ◌++◌, length, take, drop, get_or, nat_lt, refl, ap, sym, subst, ◌∙◌, arith}
 use Rattle.std.proofs.lemmas.Bool.{and_parts}
-use Rattle.std.proofs.lemmas.List.{append-nil}
+use Rattle.std.proofs.lemmas.List.{append-nil, get_or_default}
 use Rattle.std.proofs.lemmas.Bool.Decides.{nat_tests}
 use Rattle.std.specs.Str.{IsCharBoundary}
 use Rattle.squawk_events.specs.declared.steps.ParseError.{ParseError}
+use Rattle.squawk_events.specs.declared.steps.StrStep.TheVariants as step
 use Rattle.squawk_lexer.specs.declared.token.Token.{Token}
 use Rattle.squawk_lexer.specs.Cut.{Tiles}
 use Rattle.squawk_lexer.specs.Flags.{FlagsLieWithin, AreCut}
 use Rattle.squawk_lexed.specs.declared.fault.Fault.{Fault}
 use Rattle.squawk_lexed.specs.LexedToken.{LexedToken}
 use Rattle.squawk_lexed.specs.Faults.{fault_within, faults_within}
-use Rattle.squawk_lexed.specs.LexedText.{LexedText, lexed_tokens, total_len, are_sound}
+use Rattle.squawk_lexed.specs.LexedText.{LexedText, lexed_tokens, token_start, total_len, are_sound}
 use Rattle.squawk_lexed.specs.Stored.{kinds_of, starts_of, errors_at, errors_of, faults_before, errors_from, lexed_tokens_from, faults_at, AreBoundaries, IsStoredAs, IsStored}
 use Rattle.squawk_lexed.proofs.FaultLemmas.{flagged, faults_lie_within}
 
@@ -256,6 +257,21 @@ pub token_at_index : (text kinds starts : List ℕ) (errors : List ParseError) (
 token_at_index text kinds starts errors ts is i k s e h p q r =
     rw (next i) (token_in 0 ts i k s e h (rw is.kinds_are at p) (rw is.starts_are at q)
     (rw (is.starts_are, next i) at r))
+
+-- the `Token` step of the token at an index, by its kind and by the two starts around it
+pub step_of_token : (text kinds starts : List ℕ) (errors : List ParseError) (ts : List LexedToken)
+    → IsStoredAs text kinds starts errors ts
+    → (i k s e : ℕ) → i < length ts → k ≡ get_or kinds i k → s ≡ get_or starts i s
+    → e ≡ get_or starts (i + 1) e
+    → step.Token k s e
+    ≡ step.Token (get_or (kinds_of ts) i 0) (token_start ts i) (token_start ts (i + 1))
+step_of_token text kinds starts errors ts is i k s e h p q r =
+    let size = length_kinds ts in
+    let kind : k ≡ get_or (kinds_of ts) i 0 =
+    rw is.kinds_are at p ∙ get_or_default (kinds_of ts) i k 0 (omega arith) in
+    let start = q ∙ start_of_token text kinds starts errors ts is i s (omega arith) in
+    let end = r ∙ start_of_token text kinds starts errors ts is (i + 1) e (omega arith) in
+    rw (kind, start, end) refl
 
 -- two adjacent starts do not decrease
 pub starts_rise : (text kinds starts : List ℕ) (errors : List ParseError) (ts : List LexedToken)

@@ -5,6 +5,7 @@ ghost use Rattle.squawk_kinds.specs.declared.numbers.TheConstants.Number.{EOF};
 ghost use Rattle.squawk_events.specs.Limit.{limit};
 ghost use Rattle.squawk_events.specs.Refusals.{IsOutOfMemory, MayRefuse};
 ghost use Rattle.squawk_events.specs.Kinds.{has_no_trivia, without_trivia};
+ghost use Rattle.squawk_events.specs.declared.steps.StrStep.TheVariants as Step;
 ghost use Rattle.squawk_lexed.specs.Weave.{kinds_without_trivia};
 ghost use Rattle.squawk_lexer.specs.Flags.{IsCut, AreCut};
 ghost use Rattle.squawk_lexer.specs.declared.token.Strings.TheVariants.{Standard};
@@ -15,7 +16,7 @@ ghost use Rattle.squawk_lexed.specs.Stored.{kinds_of, starts_of, errors_of, erro
 
 use crate::error::{LexError, push_faults};
 use crate::kind::kind_of;
-use squawk_events::{FrontError, Input, LIMIT, is_trivia};
+use squawk_events::{FrontError, Input, LIMIT, StrStep, is_trivia};
 use squawk_kinds::SyntaxKind;
 use squawk_lexer::laws::flags_lie_within;
 use squawk_lexer::{Strings, Token, tokenize_in};
@@ -240,6 +241,28 @@ impl<'a> LexedStr<'a> {
             self.kinds[i]
         } else {
             SyntaxKind::EOF
+        }
+    }
+
+    /// Returns the kinds of the tokens, in order.
+    pub fn kinds(&self) -> &[SyntaxKind]
+        ensures { result.now ≡ kinds_of self.now.tokens }
+    {
+        &self.kinds
+    }
+
+    /// Returns the `Token` step of token `i`: its kind and its range in bytes. `i` must be below
+    /// `len`.
+    #[inline(always)]
+    pub fn token_step(&self, i: usize) -> StrStep
+        requires { i < length self.now.tokens }
+        ensures { result ≡ Step.Token (slice_index (kinds_of self.now.tokens) i)
+            (token_start self.now.tokens i) (token_start self.now.tokens (i + 1)) }
+    {
+        StrStep::Token {
+            kind: self.kinds[i],
+            start: self.starts[i],
+            end: self.starts[i + 1],
         }
     }
 

@@ -147,6 +147,9 @@ fn lexed_text(rt: HostRuntime) {
     assert_eq!(rt; lexed.text_range(1).start, 1);
     assert_eq!(rt; lexed.text_range(1).end, 2);
     assert_eq!(rt; lexed.text_start(4), 4);
+    assert_eq!(rt; lexed.token_step(1), token(SyntaxKind::IDENT, 1, 2));
+    assert_eq!(rt; lexed.kinds().len(), 4);
+    assert_eq!(rt; lexed.kinds()[3], SyntaxKind::SEMICOLON);
     assert_eq!(rt; lexed.errors().len(), 0);
     let input = lexed.to_input(rt.alloc()).expect(&rt, "memory");
     assert_eq!(rt; input.len(), 2);

@@ -25,10 +25,12 @@ use Rattle.squawk_tree.specs.Join.{woven_child, shifted_step, shifted_error}
 use Rattle.squawk_tree.specs.ParseOf.{lexed_role}
 use Rattle.squawk_tree.proofs.CutLemmas.{trivia_role, first_cut}
 use Rattle.squawk_tree.specs.Errors.{errors}
+use Rattle.squawk_tree.specs.ChildSteps.{woven_children}
 use Rattle.squawk_tree.proofs.JoinLemmas.{joined_errors}
 use Rattle.squawk_statements.specs.Plain.{plain}
 use Rattle.squawk_tree.proofs.ErrorLemmas.{read_trivia_step, split, same_offset, by_token_is_by_step}
-use Rattle.squawk_tree.proofs.JoinLemmas.{placed as placed_law, fits, both, placed_from, fits_child, leaf_woven, node_woven, shift_child, further}
+use Rattle.squawk_tree.specs.ChildSteps.{woven_children}
+use Rattle.squawk_tree.proofs.JoinLemmas.{placed as placed_law, fits, both, fits_child, leaf_woven, node_woven, shift_child, further}
 
 -- whether steps contain all of the tokens, each `Error` at the start of one of them
 abbrev inner : ℕ → List LexedToken → List StrStep → Bool
@@ -125,21 +127,21 @@ inner_node d at t ts is h = ap (inner at (t ∷ ts)) (node_woven d at t ts is)
 -- the errors of the first child, and those of the others
 one_part : (d : Division) (at : ℕ) (p r : List LexedToken) (ps : List (List LexedToken))
     → inner at p (woven_child d at p) ≡ true
-    → errors_by_step (at + total_len p) r (placed_from d (at + total_len p) ps ++ out.Exit ∷ [])
+    → errors_by_step (at + total_len p) r (woven_children d (at + total_len p) ps ++ out.Exit ∷ [])
     ≡ errors_of_parts d (at + total_len p) ps
-    → errors_by_step at (p ++ r) (placed_from d at (p ∷ ps) ++ out.Exit ∷ [])
+    → errors_by_step at (p ++ r) (woven_children d at (p ∷ ps) ++ out.Exit ∷ [])
     ≡ errors_of_parts d at (p ∷ ps)
 one_part d at p r ps h rest =
     ap (errors_by_step at (p ++ r))
-    (append_assoc (woven_child d at p) (placed_from d (at + total_len p) ps)
+    (append_assoc (woven_child d at p) (woven_children d (at + total_len p) ps)
     (out.Exit ∷ []))
-    ∙ by_step_append at p r (woven_child d at p) (placed_from d (at + total_len p) ps ++ out.Exit
+    ∙ by_step_append at p r (woven_child d at p) (woven_children d (at + total_len p) ps ++ out.Exit
     ∷ []) h
     ∙ ap (λ es. errors_by_step at p (woven_child d at p) ++ es) rest
 
 -- the errors of the steps of all children are those of each
 pub errors_placed : (n : ℕ) (d : Division) (at : ℕ) (ts : List LexedToken) → length ts ≤ n
-    → errors_by_step at ts (placed_from d at (parts lexed_role d ts) ++ out.Exit ∷ [])
+    → errors_by_step at ts (woven_children d at (parts lexed_role d ts) ++ out.Exit ∷ [])
     ≡ errors_of_parts d at (parts lexed_role d ts)
 errors_placed n d at [] h = refl
 errors_placed zero d at (t ∷ ts) h = absurd (omega arith)
@@ -164,12 +166,12 @@ errors_placed (suc n) d at (t ∷ ts) h =
 
     by : errors_by_step (at + total_len (t ∷ take (more_of lexed_role d t ts) ts))
         (drop (more_of lexed_role d t ts) ts)
-        (placed_from d (at + total_len (t ∷ take (more_of lexed_role d t ts) ts))
+        (woven_children d (at + total_len (t ∷ take (more_of lexed_role d t ts) ts))
         (parts lexed_role d (drop (more_of lexed_role d t ts) ts)) ++ out.Exit ∷ [])
         ≡ errors_of_parts d (at + total_len (t ∷ take (more_of lexed_role d t ts) ts))
         (parts lexed_role d (drop (more_of lexed_role d t ts) ts))
         → errors_by_step at (t ∷ ts)
-        (placed_from d at (parts lexed_role d (t ∷ ts)) ++ out.Exit ∷ [])
+        (woven_children d at (parts lexed_role d (t ∷ ts)) ++ out.Exit ∷ [])
         ≡ errors_of_parts d at (parts lexed_role d (t ∷ ts))
     by rest =
         let m = more_of lexed_role d t ts in
@@ -178,8 +180,8 @@ errors_placed (suc n) d at (t ∷ ts) h =
         first_part lexed_role d t ts in
         let all : t ∷ ts ≡ (t ∷ take m ts) ++ drop m ts =
         ap (λ us. t ∷ us) (sym (take-append-drop m ts)) in
-        ap (λ ps. errors_by_step at (t ∷ ts) (placed_from d at ps ++ out.Exit ∷ [])) tokens
-        ∙ ap (λ us. errors_by_step at us (placed_from d at ((t ∷ take m ts)
+        ap (λ ps. errors_by_step at (t ∷ ts) (woven_children d at ps ++ out.Exit ∷ [])) tokens
+        ∙ ap (λ us. errors_by_step at us (woven_children d at ((t ∷ take m ts)
         ∷ parts lexed_role d (drop m ts)) ++ out.Exit ∷ [])) all
         ∙ one_part d at (t ∷ take m ts) (drop m ts) (parts lexed_role d (drop m ts))
         (whole (is_trivia_kind t.kind) refl) rest

@@ -23,6 +23,7 @@ use Rattle.squawk_statements.specs.declared.division.Division.TheVariants.{Flat,
 use Rattle.squawk_tree.specs.Errors.{errors}
 use Rattle.squawk_tree.specs.Join.{woven_child, shifted_step, shifted_error, child_of, children_len}
 use Rattle.squawk_tree.specs.ParseOf.{lexed_role}
+use Rattle.squawk_tree.specs.ChildSteps.{woven_children}
 use Rattle.squawk_tree.proofs.CutLemmas.{trivia_role, is_trimmed, first_cut}
 
 -- ---- children one after another, each of its own tokens
@@ -272,11 +273,6 @@ fits_child d t ts is trimmed =
 
 -- ---- the text
 
--- the steps of children, each woven at its own offset
-abbrev pub placed_from : Division → ℕ → List (List LexedToken) → List StrStep
-placed_from d at [] = []
-placed_from d at (part ∷ rest) = woven_child d at part ++ placed_from d (at + total_len part) rest
-
 -- weaving of a trivia token before a child or the end
 leaf_first : (d : Division) (at : ℕ) (t : LexedToken) (ts : List LexedToken) (ps : List (List ℕ))
     → is_trivia_kind t.kind ≡ true
@@ -303,7 +299,7 @@ child_first d at p r ks (q ∷ ps) h =
 -- the woven steps of all children are those of each at its own offset
 pub placed : (n : ℕ) (d : Division) (at : ℕ) (ts : List LexedToken) → length ts ≤ n
     → weave_from at ts (children_steps d (parts role d (kinds_without_trivia ts)) ++ Exit ∷ [])
-    ≡ placed_from d at (parts lexed_role d ts) ++ out.Exit ∷ []
+    ≡ woven_children d at (parts lexed_role d ts) ++ out.Exit ∷ []
 placed n d at [] h = refl
 placed zero d at (t ∷ ts) h = absurd (omega arith)
 placed (suc n) d at (t ∷ ts) h =
@@ -314,15 +310,15 @@ placed (suc n) d at (t ∷ ts) h =
   where
     by : (b : Bool) → is_trivia_kind t.kind ≡ b
         → weave_from (at + t.len) ts (children_steps d (parts role d (kinds_without_trivia ts))
-        ++ Exit ∷ []) ≡ placed_from d (at + t.len) (parts lexed_role d ts) ++ out.Exit ∷ []
+        ++ Exit ∷ []) ≡ woven_children d (at + t.len) (parts lexed_role d ts) ++ out.Exit ∷ []
         → weave_from (at + total_len (t ∷ take (more_of lexed_role d t ts) ts))
         (drop (more_of lexed_role d t ts) ts)
         (children_steps d (parts role d (kinds_without_trivia
         (drop (more_of lexed_role d t ts) ts))) ++ Exit ∷ [])
-        ≡ placed_from d (at + total_len (t ∷ take (more_of lexed_role d t ts) ts))
+        ≡ woven_children d (at + total_len (t ∷ take (more_of lexed_role d t ts) ts))
         (parts lexed_role d (drop (more_of lexed_role d t ts) ts)) ++ out.Exit ∷ []
         → weave_from at (t ∷ ts) (children_steps d (parts role d (kinds_without_trivia (t ∷ ts)))
-        ++ Exit ∷ []) ≡ placed_from d at (parts lexed_role d (t ∷ ts)) ++ out.Exit ∷ []
+        ++ Exit ∷ []) ≡ woven_children d at (parts lexed_role d (t ∷ ts)) ++ out.Exit ∷ []
     by true is leaf child =
         let here : kinds_without_trivia (t ∷ ts) ≡ kinds_without_trivia ts = rw is refl in
         let f = trivia_role (role t.kind) (role_trivia t.kind ∙ is) in
@@ -333,13 +329,13 @@ placed (suc n) d at (t ∷ ts) h =
         ∙ ap (λ m. (t ∷ take m ts) ∷ parts lexed_role d (drop m ts)) none in
         let sum : at + (t.len + 0) ≡ at + t.len = omega arith in
         let this : woven_child d at (t ∷ []) ≡ out.Token t.kind at (at + t.len) ∷ [] = rw is refl in
-        let right : placed_from d at (parts lexed_role d (t ∷ ts))
+        let right : woven_children d at (parts lexed_role d (t ∷ ts))
         ≡ out.Token t.kind at (at + t.len)
-        ∷ placed_from d (at + t.len) (parts lexed_role d ts) =
-        ap (placed_from d at) ps ∙ ap (λ zs. zs
-        ++ placed_from d (at + (t.len + 0)) (parts lexed_role d ts)) this
+        ∷ woven_children d (at + t.len) (parts lexed_role d ts) =
+        ap (woven_children d at) ps ∙ ap (λ zs. zs
+        ++ woven_children d (at + (t.len + 0)) (parts lexed_role d ts)) this
         ∙ ap (λ m. out.Token t.kind at (at + t.len)
-        ∷ placed_from d m (parts lexed_role d ts)) sum in
+        ∷ woven_children d m (parts lexed_role d ts)) sum in
         ap (λ ks. weave_from at (t ∷ ts) (children_steps d (parts role d ks) ++ Exit ∷ [])) here
         ∙ leaf_first d at t ts (parts role d (kinds_without_trivia ts)) is
         ∙ ap (λ zs. out.Token t.kind at (at + t.len) ∷ zs) leaf
@@ -373,12 +369,12 @@ placed (suc n) d at (t ∷ ts) h =
         ∙ ap (λ zs. weave_from at (t ∷ take m ts)
         (child_steps d (kinds_without_trivia (t ∷ take m ts))) ++ zs) child
         ∙ ap (λ zs. zs
-        ++ (placed_from d (at + total_len (t ∷ take m ts)) (parts lexed_role d (drop m ts))
+        ++ (woven_children d (at + total_len (t ∷ take m ts)) (parts lexed_role d (drop m ts))
         ++ out.Exit ∷ [])) (sym this)
         ∙ sym (append_assoc (woven_child d at (t ∷ take m ts))
-        (placed_from d (at + total_len (t ∷ take m ts)) (parts lexed_role d (drop m ts)))
+        (woven_children d (at + total_len (t ∷ take m ts)) (parts lexed_role d (drop m ts)))
         (out.Exit ∷ []))
-        ∙ ap (λ ps. placed_from d at ps ++ out.Exit ∷ []) (sym tokens)
+        ∙ ap (λ ps. woven_children d at ps ++ out.Exit ∷ []) (sym tokens)
 
 -- ---- shifts
 
@@ -480,7 +476,7 @@ shift_child d n (t ∷ ts) = by (is_trivia_kind t.kind) refl
         ∙ ap (map (shifted_step n)) (sym there)
 
 pub shift_all : (d : Division) (at : ℕ) (ps : List (List LexedToken))
-    → placed_from d at ps ≡ joined_from d at ps
+    → woven_children d at ps ≡ joined_from d at ps
 shift_all d at [] = refl
 shift_all d at (p ∷ ps) = rw (shift_child d at p, shift_all d (at + total_len p) ps) refl
 

@@ -14,5 +14,6 @@ pub mod StepRangesModel
 pub mod Spans
 pub mod ChildPass
 pub mod Walk
+pub mod ChildSteps
 -- what the contracts of tests cite
 pub mod UngroupedGrammar

@@ -1,16 +1,18 @@
 //! Parses of texts and of their tokens.
-ghost use Rattle.std.specs.Prelude.{◌≡◌, ◌<◌, ◌↔◌, length, IfOk, IfErr, OnOk, IsErrOf, IsTrue};
-ghost use Rattle.squawk_events.specs.Lawful.{IsLawful};
+ghost use Rattle.std.specs.Prelude.{◌≡◌, ◌<◌, ◌↔◌, length, IfOk, IfErr, IsErrOf, IsTrue, List, ℕ};
 ghost use Rattle.squawk_events.specs.Limit.{limit};
+ghost use Rattle.squawk_events.specs.declared.steps.Step.{Step};
 ghost use Rattle.squawk_events.specs.Refusals.{IsOutOfMemory, MayRefuse};
 ghost use Rattle.squawk_lexed.specs.LexedText.{are_sound, lexed_text};
-ghost use Rattle.squawk_lexed.specs.Weave.{kinds_without_trivia, weave};
+ghost use Rattle.squawk_lexed.specs.Weave.{kinds_without_trivia};
 ghost use Rattle.squawk_lexer.specs.declared.token.Strings.TheVariants.{Standard};
 ghost use Rattle.squawk_statements.specs.Plain.{plain};
 ghost use Rattle.squawk_statements.specs.declared.division.Division.TheVariants.{Flat};
+ghost use Rattle.squawk_tree.specs.ChildSteps.{IsWeaveOf, IsWoven};
 ghost use Rattle.squawk_tree.specs.Parses.{ParsesText, ParsesTokens};
 ghost use Rattle.squawk_tree.specs.Walk.{covers, errors_by_step};
 
+use crate::child_steps::statement_steps;
 use crate::errors::{errors_of_steps, lexical_errors};
 use crate::laws::{children_join, parses_are_trees};
 use crate::parse::TreeParts;
@@ -19,7 +21,7 @@ use squawk_events::{EntryPoint, FrontError, Grammar, ParseError};
 use squawk_lexed::LexedStr;
 use squawk_lexed::laws::leaves_keep_roles;
 use squawk_lexer::Strings;
-use squawk_statements::{Division, GroupedGrammar, PlainGrammar};
+use squawk_statements::Division;
 use std::alloc::Global;
 
 // Weaves these tokens and the output of a grammar for them into a sink.
@@ -28,10 +30,8 @@ fn weave_into_sink<G: Grammar>(
     lexed: &LexedStr<'_>,
     grammar: &G,
 ) -> Result<TreeSink, FrontError>
-    ensures steps { IfOk result (λ sink. sink.steps
-        ≡ weave lexed.now.tokens (G.told grammar.now (kinds_without_trivia lexed.now.tokens))) }
-    ensures lawful { OnOk result (IsLawful (kinds_without_trivia lexed.now.tokens)
-        (G.told grammar.now (kinds_without_trivia lexed.now.tokens))) }
+    ensures steps { IfOk result (λ sink. IsWeaveOf lexed.now.tokens
+        (G.told grammar.now (kinds_without_trivia lexed.now.tokens)) sink.steps) }
     ensures refusals { IfErr result IsOutOfMemory }
 {
     let input = lexed.to_input(alloc)?;
@@ -61,18 +61,16 @@ fn errors_in(
     }
 }
 
-// The steps, the errors and the length of the parse of these tokens by a grammar.
-fn tree_parts<G: Grammar>(
-    alloc: Global,
-    lexed: &LexedStr<'_>,
-    grammar: &G,
-) -> Result<TreeParts, FrontError>
-    ensures parse { ParsesTokens (G.told grammar.now) lexed.now result }
+// The steps, the errors and the length of the parse of these tokens whose steps a sink has received.
+fn tree_parts(alloc: Global, lexed: &LexedStr<'_>, sink: TreeSink) -> Result<TreeParts, FrontError>
+    requires { IsWoven lexed.now.tokens sink.steps }
+    ensures parse { (told : List ℕ → List Step)
+        → IsWeaveOf lexed.now.tokens (told (kinds_without_trivia lexed.now.tokens)) sink.steps
+        → ParsesTokens told lexed.now result }
     ensures sound { IsTrue (are_sound lexed.now.tokens) }
     ensures refusals { IfErr result IsOutOfMemory }
 {
     let len = lexed.text_start(lexed.len()) as u32;
-    let sink = weave_into_sink(alloc, lexed, grammar)?;
     let errors = errors_in(alloc, lexed, &sink)?;
     let steps = sink.into_steps();
     // Each token has a step.
@@ -85,19 +83,32 @@ fn tree_parts<G: Grammar>(
     })
 }
 
-// Parses these tokens by a grammar, and frees them before the ranges are found.
-fn parse_and_free<G: Grammar>(
+// The parts of the parse of these tokens by a grammar.
+fn parts_by<G: Grammar>(
     alloc: Global,
-    lexed: LexedStr<'_>,
+    lexed: &LexedStr<'_>,
     grammar: &G,
-) -> Result<Parse, FrontError>
-    ensures parse { ParsesTokens (G.told grammar.now) lexed.entry result }
-    ensures sound { IsTrue (are_sound lexed.entry.tokens) }
+) -> Result<TreeParts, FrontError>
+    ensures parse { ParsesTokens (G.told grammar.now) lexed.now result }
+    ensures sound { IsTrue (are_sound lexed.now.tokens) }
     ensures refusals { IfErr result IsOutOfMemory }
 {
-    let parts = tree_parts(alloc, &lexed, grammar)?;
-    drop(lexed);
-    Ok(Parse::new(alloc, parts)?)
+    let sink = weave_into_sink(alloc, lexed, grammar)?;
+    tree_parts(alloc, lexed, sink)
+}
+
+// The parts of the parse of these tokens into statements.
+fn statement_parts(
+    alloc: Global,
+    lexed: &LexedStr<'_>,
+    division: Division,
+) -> Result<TreeParts, FrontError>
+    ensures parse { ParsesTokens (plain division) lexed.now result }
+    ensures sound { IsTrue (are_sound lexed.now.tokens) }
+    ensures refusals { IfErr result IsOutOfMemory }
+{
+    let sink = statement_steps(alloc, lexed, division)?;
+    tree_parts(alloc, lexed, sink)
 }
 
 /// Parses the tokens of a text by a grammar. The only error is `OutOfMemory`.
@@ -115,7 +126,7 @@ pub fn parse_lexed<G: Grammar>(
     ensures sound { IsTrue (are_sound lexed.now.tokens) }
     ensures refusals { IfErr result IsOutOfMemory }
 {
-    let parts = tree_parts(alloc, lexed, grammar)?;
+    let parts = parts_by(alloc, lexed, grammar)?;
     Ok(Parse::new(alloc, parts)?)
 }
 
@@ -134,7 +145,10 @@ pub fn parse_with_in<G: Grammar>(
     ensures refusals { IfErr result (MayRefuse text.now) }
 {
     let lexed = LexedStr::new_in(alloc, text, strings)?;
-    parse_and_free(alloc, lexed, grammar)
+    let parts = parts_by(alloc, &lexed, grammar)?;
+    // The tokens are freed before the ranges are found.
+    drop(lexed);
+    Ok(Parse::new(alloc, parts)?)
 }
 
 /// Parses a text by a grammar, where a backslash in a plain string is an ordinary character.
@@ -147,16 +161,15 @@ pub fn parse_with<G: Grammar>(alloc: Global, text: &str, grammar: &G) -> Result<
     parse_with_in(alloc, text, Strings::Standard, grammar)
 }
 
-// The parse of the tokens of a text into statements.
+// The parse of the tokens of a text into statements, which are freed before the ranges are found.
 fn parse_tokens(alloc: Global, lexed: LexedStr<'_>, division: Division) -> Result<Parse, FrontError>
     ensures parse { ParsesTokens (plain division) lexed.entry result }
     ensures sound { IsTrue (are_sound lexed.entry.tokens) }
     ensures refusals { IfErr result IsOutOfMemory }
 {
-    match division {
-        Division::Flat => parse_and_free(alloc, lexed, &PlainGrammar),
-        Division::Grouped => parse_and_free(alloc, lexed, &GroupedGrammar),
-    }
+    let parts = statement_parts(alloc, &lexed, division)?;
+    drop(lexed);
+    Ok(Parse::new(alloc, parts)?)
 }
 
 /// Parses a text into statements (`docs/STATEMENTS.md`). `strings` says how plain strings are read,
