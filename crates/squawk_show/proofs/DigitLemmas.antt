@@ -6,7 +6,7 @@ use Rattle.std.proofs.lemmas.List.{take_at, drop_at, take-append-le, take-take, 
 use Rattle.std.proofs.lemmas.Bool.{cases_lt}
 use Rattle.std.proofs.Math.Seq.{take-add, take-append-add}
 use borrow.Rule.Slice.PartMut.{put_mid, post_of}
-use Rattle.squawk_show.specs.Digits.{last_four_digits, u32_bytes, SpellsNumber, StartsWithDigits, IsLastFourDigits, IsTable}
+use Rattle.squawk_show.specs.Digits.{last_four_digits, u32_bytes, u64_bytes, SpellsNumber, StartsPacked, StartsWithDigits, IsLastFourDigits, IsTable}
 
 -- `decimal_one` to `decimal_four`: the digits of a number with so many digits
 pub decimal_one : (n : ℕ) → n < 10 → decimal n ≡ (48 + n) ∷ []
@@ -99,76 +99,48 @@ table_push Is n x xs so_far is = record {
   each = λ k below. entry_push Is n x xs so_far is k below (cases_lt k n);
 }
 
--- the digits of a number with more than eight are those of n / 10000 / 10000, and then the last
--- eight
-pub decimal_most : (n : ℕ) → 100000000 ≤ n → n < 2 ^ 32 → decimal n
-    ≡ decimal (n / 10000 / 10000)
-    ++ (last_four_digits (n / 10000 % 10000) ++ last_four_digits (n % 10000))
-decimal_most n low high =
-    decimal_more n (omega arith) high
-    ∙ ap (λ ds. ds ++ last_four_digits (n % 10000))
-    (decimal_more (n / 10000) (omega arith) (omega arith))
-    ∙ append_assoc (decimal (n / 10000 / 10000)) _ _
+-- the digits of a number of at most four, packed with four bytes after them
+pub packed_few : (n leading packed width rest : ℕ) → width ≡ length (decimal n) → width ≤ 4
+    → StartsWithDigits n leading
+    → take (width + 4) (u64_bytes packed) ≡ take width (u32_bytes leading) ++ u32_bytes rest
+    → StartsPacked n packed width
+packed_few n leading packed width rest wide narrow starts joined = record {
+  narrow = let h : width ≤ 6 = omega (arith, narrow) in h;
+  written = sym (take-take width (width + 4) (u64_bytes packed) (omega arith))
+      ∙ ap (take width) joined
+      ∙ take_at (take width (u32_bytes leading)) (u32_bytes rest) width
+      (length-take-le width (u32_bytes leading) narrow)
+      ∙ ap (λ m. take m (u32_bytes leading)) wide ∙ starts;
+}
 
--- packed bytes that are the last four digits of a number are four
-four_bytes : (n packed : ℕ) → IsLastFourDigits n packed → length (u32_bytes packed) ≡ 4
-four_bytes n packed is = ap length is
+-- the digits of a number of five or six, packed with the last four after the others
+pub packed_more : (n leading packed lower width : ℕ) → 10000 ≤ n → n < 2 ^ 32
+    → width ≡ length (decimal (n / 10000)) → width ≤ 2 → StartsWithDigits (n / 10000) leading
+    → IsLastFourDigits (n % 10000) lower
+    → take (width + 4) (u64_bytes packed) ≡ take width (u32_bytes leading) ++ u32_bytes lower
+    → StartsPacked n packed (width + 4)
+packed_more n leading packed lower width low high wide narrow starts ends joined = record {
+  narrow = let h : width + 4 ≤ 6 = omega (arith, narrow) in h;
+  written = joined ∙ ap (λ m. take m (u32_bytes leading) ++ u32_bytes lower) wide
+      ∙ ap (λ xs. xs ++ u32_bytes lower) starts ∙ ap (λ xs. decimal (n / 10000) ++ xs) ends
+      ∙ sym (decimal_more n low high);
+}
 
--- the groups of a number with five to eight digits spell it
-pub spells_two_groups : (n leading middle width : ℕ) → 10000 ≤ n → n < 2 ^ 32
-    → width ≡ length (decimal (n / 10000)) → width ≤ 4 → StartsWithDigits (n / 10000) leading
-    → IsLastFourDigits (n % 10000) middle → SpellsNumber n (record {
-      leading = leading;
-      middle = middle;
-      trailing = 0;
-      width = width;
-      len = width + 4;
-    })
-spells_two_groups n leading middle width low high wide narrow starts ends =
-    let all : width + 4 - width ≡ 4 = omega arith in
-    let rest : take (width + 4 - width) (u32_bytes middle ++ u32_bytes 0)
-    ≡ last_four_digits (n % 10000) = ap (λ m. take m (u32_bytes middle ++ u32_bytes 0)) all
-    ∙ take_at (u32_bytes middle) (u32_bytes 0) 4 (four_bytes (n % 10000) middle ends) ∙ ends in
+-- all digits of a number but the last four, and then the last four, spell it
+pub spells_more : (n high upper lower width len : ℕ) → 10000 ≤ n → n < 2 ^ 32 → high ≡ n / 10000
+    → StartsPacked high upper width → IsLastFourDigits (n % 10000) lower → len ≡ width + 4
+    → SpellsNumber n (record { upper = upper; lower = lower; width = width; len = len; })
+spells_more n high upper lower width len low bound is_high starts ends is_len =
+    let all : len - width ≡ 4 = omega (arith, is_len) in
     record {
-      narrow = narrow;
-      ordered = let h : width ≤ width + 4 = omega arith in h;
-      short = let h : width + 4 ≤ width + 8 = omega arith in h;
-      within = let h : width + 4 ≤ 10 = omega (arith, narrow) in h;
-      written = ap (λ m. take m (u32_bytes leading)
-          ++ take (width + 4 - width) (u32_bytes middle ++ u32_bytes 0)) wide
-          ∙ ap (λ xs. xs ++ take (width + 4 - width) (u32_bytes middle ++ u32_bytes 0)) starts
-          ∙ ap (λ xs. decimal (n / 10000) ++ xs) rest ∙ sym (decimal_more n low high);
-    }
-
--- the groups of a number with nine or ten digits spell it
-pub spells_three_groups : (n leading middle trailing width : ℕ) → 100000000 ≤ n → n < 2 ^ 32
-    → width ≡ length (decimal (n / 10000 / 10000)) → width ≤ 2
-    → StartsWithDigits (n / 10000 / 10000) leading → IsLastFourDigits (n / 10000 % 10000) middle
-    → IsLastFourDigits (n % 10000) trailing → SpellsNumber n (record {
-      leading = leading;
-      middle = middle;
-      trailing = trailing;
-      width = width;
-      len = width + 8;
-    })
-spells_three_groups n leading middle trailing width low high wide narrow starts goes ends =
-    let rest = u32_bytes middle ++ u32_bytes trailing in
-    let all : width + 8 - width ≡ 8 = omega arith in
-    let eight : length rest ≡ 8 = ap (λ xs. length (xs ++ u32_bytes trailing)) goes
-    ∙ ap (λ xs. length (last_four_digits (n / 10000 % 10000) ++ xs)) ends in
-    let whole : take (width + 8 - width) rest
-    ≡ last_four_digits (n / 10000 % 10000) ++ last_four_digits (n % 10000) =
-    ap (λ m. take m rest) all ∙ take_all 8 rest (omega (arith, eight))
-    ∙ ap (λ xs. xs ++ u32_bytes trailing) goes
-    ∙ ap (λ xs. last_four_digits (n / 10000 % 10000) ++ xs) ends in
-    record {
-      narrow = let h : width ≤ 4 = omega (arith, narrow) in h;
-      ordered = let h : width ≤ width + 8 = omega arith in h;
-      short = let h : width + 8 ≤ width + 8 = omega arith in h;
-      within = let h : width + 8 ≤ 10 = omega (arith, narrow) in h;
-      written = ap (λ m. take m (u32_bytes leading) ++ take (width + 8 - width) rest) wide
-          ∙ ap (λ xs. xs ++ take (width + 8 - width) rest) starts
-          ∙ ap (λ xs. decimal (n / 10000 / 10000) ++ xs) whole ∙ sym (decimal_most n low high);
+      narrow = starts.narrow;
+      ordered = let h : width ≤ len = omega (arith, is_len) in h;
+      short = let h : len ≤ width + 4 = omega (arith, is_len) in h;
+      written = ap (λ xs. xs ++ take (len - width) (u32_bytes lower)) starts.written
+          ∙ ap (λ m. decimal high ++ take m (u32_bytes lower)) all
+          ∙ ap (λ xs. decimal high ++ xs) ends
+          ∙ ap (λ m. decimal m ++ last_four_digits (n % 10000)) is_high
+          ∙ sym (decimal_more n low bound);
     }
 
 -- after bytes were written at an offset: what was before it, and a prefix of what was written
@@ -184,28 +156,24 @@ take_put at k n xs ys zs within same short =
     (drop_at (take at xs) (ys ++ post) at size ∙ ap (λ ws. ws ++ post) same)
     ∙ ap (λ ws. take at xs ++ ws) (take-append-le n zs post short)
 
--- After three groups of four bytes were written one after another, each as `take_put` says: the
--- first `len` bytes from the first group on, of which it has `width`.
-pub groups_written : (at width len : ℕ) (old one two all first middle last : List ℕ)
+-- After two groups of bytes were written one after another, each as `take_put` says: the first
+-- `len` bytes from the first group on, of which it has `width`.
+pub groups_written : (at width len : ℕ) (old one all first last : List ℕ)
     → take (at + width) one ≡ take at old ++ take width first
-    → take (at + width + 4) two ≡ take (at + width) one ++ take 4 middle
-    → take (at + width + 4 + 4) all ≡ take (at + width + 4) two ++ take 4 last
-    → take 4 middle ≡ middle → take 4 last ≡ last
-    → length (take at old) ≡ at → length (take width first) ≡ width
-    → width ≤ len → len ≤ width + 8
-    → take (at + len) all ≡ take at old ++ (take width first ++ take (len - width) (middle ++ last))
-groups_written at width len old one two all first middle last is_one is_two is_all four_middle
-    four_last size_old size_first ordered short =
+    → take (at + width + 4) all ≡ take (at + width) one ++ take 4 last
+    → take 4 last ≡ last → length (take at old) ≡ at → length (take width first) ≡ width
+    → width ≤ len → len ≤ width + 4
+    → take (at + len) all ≡ take at old ++ (take width first ++ take (len - width) last)
+groups_written at width len old one all first last is_one is_all four_last size_old size_first
+    ordered short =
     let start = take at old ++ take width first in
     let size : length start ≡ at + width = length-append (take at old) (take width first)
     ∙ ap (λ n. n + length (take width first)) size_old ∙ ap (λ n. at + n) size_first in
-    let full : take (at + width + 4 + 4) all ≡ start ++ (middle ++ last) = is_all
-    ∙ ap (λ xs. xs ++ take 4 last) (is_two ∙ ap (λ xs. xs ++ take 4 middle) is_one)
-    ∙ ap (λ xs. (start ++ xs) ++ take 4 last) four_middle
-    ∙ ap (λ xs. (start ++ middle) ++ xs) four_last ∙ append_assoc start middle last in
+    let full : take (at + width + 4) all ≡ start ++ last = is_all
+    ∙ ap (λ xs. xs ++ take 4 last) is_one ∙ ap (λ xs. start ++ xs) four_last in
     let split : at + len ≡ length start + (len - width) = omega (arith, size, ordered) in
-    sym (take-take (at + len) (at + width + 4 + 4) all (omega (arith, short)))
+    sym (take-take (at + len) (at + width + 4) all (omega (arith, short)))
     ∙ ap (take (at + len)) full
-    ∙ ap (λ n. take n (start ++ (middle ++ last))) split
-    ∙ take-append-add start (middle ++ last) (len - width)
-    ∙ append_assoc (take at old) (take width first) (take (len - width) (middle ++ last))
+    ∙ ap (λ n. take n (start ++ last)) split
+    ∙ take-append-add start last (len - width)
+    ∙ append_assoc (take at old) (take width first) (take (len - width) last)

@@ -1,11 +1,15 @@
--- The decimal digits of numbers as bytes, in groups of four, each group packed in a `u32`.
+-- The decimal digits of numbers as bytes, packed in integers.
 use Rattle.std.specs.Prelude.{ℕ, ◌≡◌, ◌+◌, ◌-◌, ◌<◌, ◌≤◌, ◌/◌, ◌%◌, List, [], ◌∷◌, ◌++◌, length, take, decimal, slice_index}
-use Rattle.std.specs.Int.{w32, to_le_bytes}
+use Rattle.std.specs.Int.{w32, w64, to_le_bytes}
 use Rattle.squawk_lexer.specs.Classes.{digit_0}
 
 -- the four bytes of a `u32`, the lowest first
 abbrev pub u32_bytes : ℕ → List ℕ
 u32_bytes packed = to_le_bytes w32 packed
+
+-- the eight bytes of a `u64`, the lowest first
+abbrev pub u64_bytes : ℕ → List ℕ
+u64_bytes packed = to_le_bytes w64 packed
 
 -- the last four digits of a number, with leading zeros
 abbrev pub last_four_digits : ℕ → List ℕ
@@ -34,20 +38,29 @@ IsLeadingTable bound entries = IsTable StartsWithDigits bound entries
 abbrev pub IsTrailingTable : ℕ → List ℕ → Type 0
 IsTrailingTable bound entries = IsTable IsLastFourDigits bound entries
 
--- the digits of a number in three packed groups: `width` bytes of the first, and then bytes of the
--- others up to `len` bytes in all
+-- the first `width` of eight packed bytes are all digits of a number of at most six
+pub record StartsPacked (number packed width : ℕ) : Type 0 where
+  pub narrow : width ≤ 6
+  pub written : take width (u64_bytes packed) ≡ decimal number
+
+-- the digits of a number in two packed groups: `width` bytes of the upper, and then bytes of the
+-- lower up to `len` bytes in all
 pub record DigitGroups : Type 0 where
-  pub leading : ℕ
-  pub middle : ℕ
-  pub trailing : ℕ
+  pub upper : ℕ
+  pub lower : ℕ
   pub width : ℕ
   pub len : ℕ
 
 -- the groups spell a number of at most ten digits
 pub record SpellsNumber (number : ℕ) (groups : DigitGroups) : Type 0 where
-  pub narrow : groups.width ≤ 4
+  pub narrow : groups.width ≤ 6
   pub ordered : groups.width ≤ groups.len
-  pub short : groups.len ≤ groups.width + 8
-  pub within : groups.len ≤ 10
-  pub written : take groups.width (u32_bytes groups.leading) ++ take (groups.len - groups.width)
-      (u32_bytes groups.middle ++ u32_bytes groups.trailing) ≡ decimal number
+  pub short : groups.len ≤ groups.width + 4
+  pub written : take groups.width (u64_bytes groups.upper)
+      ++ take (groups.len - groups.width) (u32_bytes groups.lower) ≡ decimal number
+
+-- `high` is 0, or what all digits of a number but the last four spell, and these are in the upper
+-- group
+abbrev pub SpellsUpper : (number high : ℕ) → DigitGroups → Type 0
+SpellsUpper number high groups = 0 < high → (high ≡ number / 10000)
+    × StartsPacked high groups.upper groups.width × (groups.len ≡ groups.width + 4)

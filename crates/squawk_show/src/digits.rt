@@ -7,11 +7,8 @@ use std::alloc::{AllocError, Global};
 // The numbers of at most four digits, one group, are those below.
 const GROUP: u32 = 10_000;
 
-// The numbers of at most eight digits, two groups, are those below.
-const TWO_GROUPS: u32 = GROUP * GROUP;
-
-// The bytes that `put_number` writes, three groups. No more than the first ten have a meaning.
-pub(crate) const NUMBER_ROOM: usize = 12;
+// The bytes that `put_number` writes at most. A number has no more digits.
+pub(crate) const NUMBER_ROOM: usize = 10;
 
 // The ASCII code of a digit.
 fn digit(n: u32) -> u8
@@ -72,7 +69,7 @@ fn trailing_bytes(n: u32) -> [u8; 4]
 }
 
 // Packs four bytes in a `u32`.
-fn pack(bytes: [u8; 4]) -> u32
+fn pack_u32(bytes: [u8; 4]) -> u32
     ensures { spec.u32_bytes result ≡ bytes }
 {
     u32::from_le_bytes(bytes)
@@ -84,7 +81,7 @@ fn make_leading(alloc: Global) -> Result<Vec<u32>, AllocError>
 {
     let mut table = Vec::new(alloc);
     for n in 0..GROUP {
-        table.push(pack(leading_bytes(n)))?;
+        table.push(pack_u32(leading_bytes(n)))?;
     }
     Ok(table)
 }
@@ -95,7 +92,7 @@ fn make_trailing(alloc: Global) -> Result<Vec<u32>, AllocError>
 {
     let mut table = Vec::new(alloc);
     for n in 0..GROUP {
-        table.push(pack(trailing_bytes(n)))?;
+        table.push(pack_u32(trailing_bytes(n)))?;
     }
     Ok(table)
 }
@@ -109,20 +106,26 @@ pub(crate) struct DigitTables {
     ghost trailing_digits: { spec.IsTrailingTable 10000 trailing.items },
 }
 
-// A number with its digits in packed bytes: `width` digits from `leading`, and then digits from
-// `middle` and `trailing` up to `len` digits in all.
+// A number with its digits in packed bytes: `width` digits from `upper`, and then digits from
+// `lower` up to `len` digits in all. A number of five digits or more has its last four in `lower`,
+// and `high` is what the others spell; else `high` is 0.
 #[derive(Clone, Copy)]
 pub(crate) struct Number {
     pub(crate) value: u32,
-    leading: u32,
-    middle: u32,
-    trailing: u32,
+    high: u32,
+    upper: u64,
+    lower: u32,
     width: usize,
     len: usize,
     ghost digits: { spec.SpellsNumber value (record {
-      leading = leading;
-      middle = middle;
-      trailing = trailing;
+      upper = upper;
+      lower = lower;
+      width = width;
+      len = len;
+    }) },
+    ghost upper_digits: { spec.SpellsUpper value high (record {
+      upper = upper;
+      lower = lower;
       width = width;
       len = len;
     }) },
@@ -134,104 +137,12 @@ impl Number {
     {
         Number {
             value: 0,
-            leading: b'0' as u32,
-            middle: 0,
-            trailing: 0,
+            high: 0,
+            upper: b'0' as u64,
+            lower: 0,
             width: 1,
             len: 1,
         }
-    }
-}
-
-impl DigitTables {
-    pub(crate) fn new(alloc: Global) -> Result<DigitTables, AllocError> {
-        let leading = make_leading(alloc)?;
-        let trailing = make_trailing(alloc)?;
-        Ok(DigitTables { leading, trailing })
-    }
-
-    // A number of at most four digits.
-    #[inline(always)]
-    fn one_group(&self, value: u32) -> Number
-        requires { value < 10000 }
-        ensures { result.value ≡ value }
-    {
-        let width = digit_count(value);
-        let leading = self.leading[value as usize];
-        Number {
-            value,
-            leading,
-            middle: 0,
-            trailing: 0,
-            width,
-            len: width,
-        }
-    }
-
-    // A number of five to eight digits.
-    #[inline(always)]
-    fn two_groups(&self, value: u32) -> Number
-        requires { (10000 ≤ value) × (value < 100000000) }
-        ensures { result.value ≡ value }
-    {
-        let high = value / GROUP;
-        let width = digit_count(high);
-        let leading = self.leading[high as usize];
-        let middle = self.trailing[(value % GROUP) as usize];
-        Number {
-            value,
-            leading,
-            middle,
-            trailing: 0,
-            width,
-            len: width + 4,
-        }
-    }
-
-    // A number of nine or ten digits.
-    fn three_groups(&self, value: u32) -> Number
-        requires { 100000000 ≤ value }
-        ensures { result.value ≡ value }
-    {
-        let upper = value / GROUP;
-        let high = upper / GROUP;
-        let width = digit_count(high);
-        let leading = self.leading[high as usize];
-        let middle = self.trailing[(upper % GROUP) as usize];
-        let trailing = self.trailing[(value % GROUP) as usize];
-        Number {
-            value,
-            leading,
-            middle,
-            trailing,
-            width,
-            len: width + 8,
-        }
-    }
-
-    // A number with its digits.
-    #[inline(always)]
-    pub(crate) fn number(&self, value: u32) -> Number
-        ensures { result.value ≡ value }
-    {
-        if value < GROUP {
-            self.one_group(value)
-        } else if value < TWO_GROUPS {
-            self.two_groups(value)
-        } else {
-            self.three_groups(value)
-        }
-    }
-
-    // As `number`, but reuses the digits of `last` if that is the same number.
-    #[inline(always)]
-    pub(crate) fn number_after(&self, last: Number, value: u32) -> Number
-        ensures { result.value ≡ value }
-    {
-        if last.value == value {
-            return last;
-        }
-        self.number(value)
     }
 }
 
@@ -247,17 +158,130 @@ fn put_u32(text: &mut [u8], at: usize, packed: u32)
     text[at..at + 4].copy_from_slice(&packed.to_le_bytes());
 }
 
-// Writes the digits of a number at an offset, and returns the offset after them. It writes
-// `NUMBER_ROOM` bytes whatever the number: copies of a fixed size are faster than one of any size.
+// Writes eight packed bytes at an offset, as `put_u32` does four.
+#[inline(always)]
+fn put_u64(text: &mut [u8], at: usize, packed: u64)
+    requires { at + 8 ≤ length text.old }
+    ensures written { (n : ℕ) → n ≤ 8
+        → take (at + n) text.new ≡ take at text.old ++ take n (spec.u64_bytes packed) }
+    ensures same_length { length text.new ≡ length text.old }
+{
+    text[at..at + 8].copy_from_slice(&packed.to_le_bytes());
+}
+
+// Packs eight bytes in a `u64`.
+fn pack_u64(bytes: [u8; 8]) -> u64
+    ensures { spec.u64_bytes result ≡ bytes }
+{
+    u64::from_le_bytes(bytes)
+}
+
+// Packs the first `width` of four bytes, and then four bytes.
+fn join_groups(first: u32, width: usize, second: u32) -> u64
+    requires { width ≤ 4 }
+    ensures { take (width + 4) (spec.u64_bytes result)
+        ≡ take width (spec.u32_bytes first) ++ spec.u32_bytes second }
+{
+    let mut bytes = [0u8; 8];
+    put_u32(&mut bytes, 0, first);
+    put_u32(&mut bytes, width, second);
+    pack_u64(bytes)
+}
+
+impl DigitTables {
+    pub(crate) fn new(alloc: Global) -> Result<DigitTables, AllocError> {
+        let leading = make_leading(alloc)?;
+        let trailing = make_trailing(alloc)?;
+        Ok(DigitTables { leading, trailing })
+    }
+
+    // Packed bytes that start with all digits of a number of at most six digits, and the number of
+    // its digits.
+    fn upper_digits(&self, value: u32) -> (u64, usize)
+        requires { value < 1000000 }
+        ensures { spec.StartsPacked value result.0 result.1 }
+    {
+        if value < GROUP {
+            let width = digit_count(value);
+            return (join_groups(self.leading[value as usize], width, 0), width);
+        }
+        let high = value / GROUP;
+        let width = digit_count(high);
+        let lower = self.trailing[(value % GROUP) as usize];
+        let upper = join_groups(self.leading[high as usize], width, lower);
+        (upper, width + 4)
+    }
+
+    // A number with its digits.
+    pub(crate) fn number(&self, value: u32) -> Number
+        ensures { result.value ≡ value }
+    {
+        if value < GROUP {
+            let (upper, width) = self.upper_digits(value);
+            return Number {
+                value,
+                high: 0,
+                upper,
+                lower: 0,
+                width,
+                len: width,
+            };
+        }
+        let high = value / GROUP;
+        let (upper, width) = self.upper_digits(high);
+        Number {
+            value,
+            high,
+            upper,
+            lower: self.trailing[(value % GROUP) as usize],
+            width,
+            len: width + 4,
+        }
+    }
+
+    // As `number`. Offsets differ little from line to line: all digits but the last four are those
+    // of `near` if they spell the same.
+    #[inline(always)]
+    pub(crate) fn number_near(&self, near: Number, value: u32) -> Number
+        ensures { result.value ≡ value }
+    {
+        let high = value / GROUP;
+        if high == near.high && high > 0 {
+            return Number {
+                value,
+                high,
+                upper: near.upper,
+                lower: self.trailing[(value % GROUP) as usize],
+                width: near.width,
+                len: near.len,
+            };
+        }
+        self.number(value)
+    }
+
+    // As `number`. Most lines start where the line before ended: the digits are those of `last` if
+    // that is the same number.
+    #[inline(always)]
+    pub(crate) fn number_after(&self, last: Number, value: u32) -> Number
+        ensures { result.value ≡ value }
+    {
+        if last.value == value {
+            return last;
+        }
+        self.number(value)
+    }
+}
+
+// Writes the digits of a number at an offset, and returns the offset after them. It writes bytes
+// after them too: copies of a fixed size are faster than one of any size.
 #[inline(always)]
 pub(crate) fn put_number(text: &mut [u8], at: usize, number: Number) -> usize
-    requires { at + 12 ≤ length text.old }
+    requires { at + 10 ≤ length text.old }
     ensures near { (at ≤ result) × (result ≤ at + 10) }
     ensures written { take result text.new ≡ take at text.old ++ decimal number.value }
     ensures same_length { length text.new ≡ length text.old }
 {
-    put_u32(text, at, number.leading);
-    put_u32(text, at + number.width, number.middle);
-    put_u32(text, at + number.width + 4, number.trailing);
+    put_u64(text, at, number.upper);
+    put_u32(text, at + number.width, number.lower);
     at + number.len
 }

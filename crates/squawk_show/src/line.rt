@@ -171,7 +171,7 @@ pub(crate) fn push_line(
     if let (Some(tables), Some((window, len))) = (tables, name_window(kind.to_raw())) {
         if len <= MAX_SHORT_TEXT && depth < SHORT_DEPTH_LIMIT {
             let start = tables.number_after(last, range.0);
-            let end = tables.number(range.1);
+            let end = tables.number_near(start, range.1);
             let digit = push_upper_digits(out, tables, depth)?;
             push_short_line(out, window, digit, letter, len, start, end)?;
             return Ok(end);

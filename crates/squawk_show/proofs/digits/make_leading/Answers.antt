@@ -6,7 +6,7 @@ use Rattle.squawk_show.proofs.digits.make_leading.Goals as goal
 
 pub loop-n-preserved : goal.loop-n-preserved
 loop-n-preserved c =
-    let is : StartsWithDigits c.loop-n.n c.pack.result =
-    ap (take (length (decimal c.loop-n.n))) c.pack.ensures ∙ c.leading_bytes.ensures in
-    rw c.in_ok-push.ensures.items (table_push StartsWithDigits c.loop-n.n c.pack.result
+    let is : StartsWithDigits c.loop-n.n c.pack_u32.result =
+    ap (take (length (decimal c.loop-n.n))) c.pack_u32.ensures ∙ c.leading_bytes.ensures in
+    rw c.in_ok-push.ensures.items (table_push StartsWithDigits c.loop-n.n c.pack_u32.result
     c.loop-n.table.items c.loop-n.invariant is)

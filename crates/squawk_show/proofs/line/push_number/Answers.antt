@@ -8,9 +8,9 @@ returns c =
     let out = c.args.out.now in
     let grown = c.in_ok-extend_from_slice.ensures.items in
     let old : c.len-old.result ≡ length out.items = c.len-old.ensures ∙ out.ok.0 in
-    let total : c.extend_from_slice.new.self.len ≡ c.len-old.result + 12 =
+    let total : c.extend_from_slice.new.self.len ≡ c.len-old.result + 10 =
     omega (arith, c.in_ok-extend_from_slice.ensures.len, c.len-old.ensures) in
-    window_overwritten (λ xs. decimal c.args.number.value) out.items _ _ _ _ _ _ _ _ _ 12
+    window_overwritten (λ xs. decimal c.args.number.value) out.items _ _ _ _ _ _ _ _ _ 10
     c.truncate.ensures.items (c.as_mut_slice.ensures.value ∙ grown) old total refl
     c.put_number-count.ensures.same_length (omega (arith, c.put_number-count.ensures.near))
     c.put_number-count.ensures.written
