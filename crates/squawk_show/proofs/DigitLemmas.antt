@@ -129,7 +129,7 @@ packed_more n leading packed lower width low high wide narrow starts ends joined
 -- all digits of a number but the last four, and then the last four, spell it
 pub spells_more : (n high upper lower width len : ℕ) → 10000 ≤ n → n < 2 ^ 32 → high ≡ n / 10000
     → StartsPacked high upper width → IsLastFourDigits (n % 10000) lower → len ≡ width + 4
-    → SpellsNumber n (record { upper = upper; lower = lower; width = width; len = len; })
+    → SpellsNumber n (record { upper = upper; lower = lower; width = width; len = len })
 spells_more n high upper lower width len low bound is_high starts ends is_len =
     let all : len - width ≡ 4 = omega (arith, is_len) in
     record {

@@ -1,5 +1,5 @@
 //! Decimal digits by table look-up, four at a time: numbers are the larger part of a report.
-ghost use Rattle.std.specs.Prelude.{◌≡◌, ℕ, ◌≤◌, ◌<◌, ◌+◌, ◌++◌, ◌∷◌, [], length, take, decimal, IfOk};
+ghost use Rattle.std.specs.Prelude.{◌≡◌, ℕ, ◌≤◌, ◌<◌, ◌+◌, ◌++◌, ◌∷◌, [], length, take, decimal, IfOk, IfSome};
 ghost use Rattle.squawk_show.specs.Digits as spec;
 
 use std::alloc::{AllocError, Global};
@@ -239,36 +239,24 @@ impl DigitTables {
         }
     }
 
-    // As `number`. Offsets differ little from line to line: all digits but the last four are those
-    // of `near` if they spell the same.
+    // A number with its digits, if all but the last four are those of `near`.
     #[inline(always)]
-    pub(crate) fn number_near(&self, near: Number, value: u32) -> Number
-        ensures { result.value ≡ value }
+    pub(crate) fn number_sharing(&self, near: Number, value: u32) -> Option<Number>
+        ensures { IfSome result (λ number. number.value ≡ value) }
     {
         let high = value / GROUP;
         if high == near.high && high > 0 {
-            return Number {
+            let lower = self.trailing[(value % GROUP) as usize];
+            return Some(Number {
                 value,
                 high,
                 upper: near.upper,
-                lower: self.trailing[(value % GROUP) as usize],
+                lower,
                 width: near.width,
                 len: near.len,
-            };
+            });
         }
-        self.number(value)
-    }
-
-    // As `number`. Most lines start where the line before ended: the digits are those of `last` if
-    // that is the same number.
-    #[inline(always)]
-    pub(crate) fn number_after(&self, last: Number, value: u32) -> Number
-        ensures { result.value ≡ value }
-    {
-        if last.value == value {
-            return last;
-        }
-        self.number(value)
+        None
     }
 }
 

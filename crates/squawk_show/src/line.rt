@@ -153,10 +153,11 @@ fn push_upper_digits(
     Ok(depth % 10)
 }
 
-// Appends the line of a node or a leaf. `last` is the number where the line before ended: most
-// lines start there and reuse its digits. Returns the number for the next line.
-#[inline(always)]
-pub(crate) fn push_line(
+// Appends a line as `push_line` does, whatever its depth and its range. Lines that most reports
+// have few of come here.
+#[cold]
+#[inline(never)]
+fn push_rare_line(
     out: &mut Vec<u8>,
     tables: &Option<DigitTables>,
     last: Number,
@@ -170,8 +171,8 @@ pub(crate) fn push_line(
 {
     if let (Some(tables), Some((window, len))) = (tables, name_window(kind.to_raw())) {
         if len <= MAX_SHORT_TEXT && depth < SHORT_DEPTH_LIMIT {
-            let start = tables.number_after(last, range.0);
-            let end = tables.number_near(start, range.1);
+            let start = tables.number(range.0);
+            let end = tables.number(range.1);
             let digit = push_upper_digits(out, tables, depth)?;
             push_short_line(out, window, digit, letter, len, start, end)?;
             return Ok(end);
@@ -179,6 +180,33 @@ pub(crate) fn push_line(
     }
     push_any_line(out, depth, letter, kind, range)?;
     Ok(last)
+}
+
+// Appends the line of a node or a leaf. `last` is the number where the line before ended. Most
+// lines start there, and end at a number of which all digits but the last four are the same; these
+// are written here. Returns the number for the next line.
+#[inline(always)]
+pub(crate) fn push_line(
+    out: &mut Vec<u8>,
+    tables: &Option<DigitTables>,
+    last: Number,
+    depth: usize,
+    letter: u8,
+    kind: SyntaxKind,
+    range: (u32, u32),
+) -> Result<Number, AllocError>
+    ensures { OnOk result (out.new.items
+        ≡ out.old.items ++ spec.report_line depth letter kind range) }
+{
+    if let (Some(digits), Some((window, len))) = (tables, name_window(kind.to_raw())) {
+        if len <= MAX_SHORT_TEXT && depth < 10 && last.value == range.0 {
+            if let Some(end) = digits.number_sharing(last, range.1) {
+                push_short_line(out, window, depth, letter, len, last, end)?;
+                return Ok(end);
+            }
+        }
+    }
+    push_rare_line(out, tables, last, depth, letter, kind, range)
 }
 
 // Appends the line of an error in the text.

@@ -1,7 +1,7 @@
 use Rattle.std.proofs.Common.{◌≡◌, ◌++◌, rules}
 use Rattle.squawk_show.proofs.LineLemmas.{depth_completed}
 use Rattle.squawk_show.specs.Report.{kind_text, line_with_text}
-use Rattle.squawk_show.proofs.line.push_line.Goals as goal
+use Rattle.squawk_show.proofs.line.push_rare_line.Goals as goal
 
 pub returns-then-depth-lt-SHORT_DEPTH_LIMIT : goal.returns-then-depth-lt-SHORT_DEPTH_LIMIT
 returns-then-depth-lt-SHORT_DEPTH_LIMIT c =
