@@ -153,14 +153,13 @@ fn push_upper_digits(
     Ok(depth % 10)
 }
 
-// Appends a line as `push_line` does, whatever its depth and its range. Lines that most reports
-// have few of come here.
+// Appends a line as `push_line` does, whatever its depth and its range. Most reports have few of the
+// lines that come here.
 #[cold]
 #[inline(never)]
 fn push_rare_line(
     out: &mut Vec<u8>,
     tables: &Option<DigitTables>,
-    last: Number,
     depth: usize,
     letter: u8,
     kind: SyntaxKind,
@@ -179,12 +178,14 @@ fn push_rare_line(
         }
     }
     push_any_line(out, depth, letter, kind, range)?;
-    Ok(last)
+    Ok(Number::zero())
 }
 
-// Appends the line of a node or a leaf. `last` is the number where the line before ended. Most
-// lines start there, and end at a number of which all digits but the last four are the same; these
-// are written here. Returns the number for the next line.
+// Appends the line of a node or a leaf. Returns a number for the next line, which most often starts
+// where this one ends.
+//
+// `last` is the number that the line before returned. Most lines start at that number, and end at
+// one of which all digits but the last four are the same: they are written here.
 #[inline(always)]
 pub(crate) fn push_line(
     out: &mut Vec<u8>,
@@ -206,7 +207,7 @@ pub(crate) fn push_line(
             }
         }
     }
-    push_rare_line(out, tables, last, depth, letter, kind, range)
+    push_rare_line(out, tables, depth, letter, kind, range)
 }
 
 // Appends the line of an error in the text.
