@@ -17,3 +17,7 @@ pub mod OrderLemmas
 pub mod TextLaws
 pub mod SpanChildren
 pub mod SinkLemmas
+pub mod ChildTokenLemmas
+pub mod ChildBodyLemmas
+pub mod ChildShapeLemmas
+pub mod ChildLoopLemmas

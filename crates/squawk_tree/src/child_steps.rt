@@ -1,6 +1,6 @@
 //! The parse into statements: the steps of a text, child by child, without the steps of a grammar
 //! or a list of the kinds that are not trivia.
-ghost use Rattle.std.specs.Prelude.{◌≡◌, ◌≤◌, ◌<◌, ◌+◌, ◌^◌, ◌++◌, ◌∷◌, [], length, map, slice_range, OnOk, IfOk, IfErr};
+ghost use Rattle.std.specs.Prelude.{◌≡◌, ◌≤◌, ◌<◌, ◌+◌, ◌-◌, ◌^◌, ◌++◌, if◌then◌else◌, length, map, take, slice_range, OnOk, IfOk, IfErr};
 ghost use Rattle.squawk_events.specs.Refusals.{IsOutOfMemory};
 ghost use Rattle.squawk_kinds.specs.Role.{role};
 ghost use Rattle.squawk_lexed.specs.LexedText.{token_start};
@@ -69,6 +69,7 @@ fn emit_in_groups(
 
 // Emits the tokens from `from` up to `to` with the groups among them. None of the tokens ends the
 // statement.
+#[tactic(auto, using(crate::proofs::ChildTokenLemmas::kinds_len))]
 fn emit_nested(
     lexed: &LexedStr<'_>,
     from: usize,
@@ -110,12 +111,15 @@ fn emit_tokens(
     Ok(())
 }
 
-// The number of these kinds up to the last that is not trivia.
-fn body_len(kinds: &[SyntaxKind]) -> usize
-    ensures len { result ≡ trimmed_len (map role kinds.now) }
+// The number of tokens of a child of these kinds before the token that ends it and the trivia there.
+// A child that is not closed has neither.
+fn body_len(kinds: &[SyntaxKind], closed: bool) -> usize
+    requires { 0 < length kinds.now }
+    ensures len { result ≡ trimmed_len (map role
+        (take (length kinds.now - (if closed then 1 else 0)) kinds.now)) }
     ensures within { result ≤ length kinds.now }
 {
-    let mut len = kinds.len();
+    let mut len = kinds.len() - usize::from(closed);
     while len > 0 && is_trivia(kinds[len - 1]) {
         len -= 1;
     }
@@ -143,53 +147,57 @@ fn emit_unknown_error(
     Ok(())
 }
 
-// Emits a node of this kind with `shape.tokens` tokens, of which the first is at index `from`. Groups
-// that are open at its end end before the token that ends the statement and the trivia before it.
+// Emits a node of this kind with the tokens from `from` up to `to`. Groups that are open at its end
+// end before the token that ends the statement and the trivia before it.
+#[tactic(auto, using(crate::proofs::ChildTokenLemmas::kinds_len))]
 fn emit_node(
     lexed: &LexedStr<'_>,
     from: usize,
+    to: usize,
     shape: ChildShape,
     node: SyntaxKind,
     sink: &mut TreeSink,
 ) -> Result<(), FrontError>
-    requires some { 0 < shape.tokens }
-    requires within { from + shape.tokens ≤ length lexed.now.tokens }
+    requires ordered { from < to }
+    requires within { to ≤ length lexed.now.tokens }
     ensures steps { OnOk result (sink.new.steps ≡ sink.old.steps
         ++ node_steps node shape.closed (token_start lexed.now.tokens from)
-        (slice_range lexed.now.tokens from (from + shape.tokens))) }
+        (slice_range lexed.now.tokens from to)) }
     ensures refusals { IfErr result IsOutOfMemory }
 {
-    let end = from + shape.tokens;
-    let body_end = from + body_len(&lexed.kinds()[from..end - usize::from(shape.closed)]);
+    let kinds = lexed.kinds();
+    let body_end = from + body_len(&kinds[from..to], shape.closed);
     sink.step(StrStep::Enter { kind: node })?;
     emit_unknown_error(lexed, from, node, sink)?;
     emit_nested(lexed, from, body_end, sink)?;
-    emit_tokens(lexed, body_end, end, sink)?;
+    emit_tokens(lexed, body_end, to, sink)?;
     sink.step(StrStep::Exit)
 }
 
-// Emits the child of this shape, of which the first token is at index `from`.
+// Emits the child of this shape with the tokens from `from` up to `to`.
 fn emit_child(
     lexed: &LexedStr<'_>,
     from: usize,
+    to: usize,
     shape: ChildShape,
     sink: &mut TreeSink,
 ) -> Result<(), FrontError>
-    requires some { 0 < shape.tokens }
-    requires within { from + shape.tokens ≤ length lexed.now.tokens }
+    requires ordered { from < to }
+    requires within { to ≤ length lexed.now.tokens }
     ensures steps { OnOk result (sink.new.steps ≡ sink.old.steps
         ++ steps_of_shape shape (token_start lexed.now.tokens from)
-        (slice_range lexed.now.tokens from (from + shape.tokens))) }
+        (slice_range lexed.now.tokens from to)) }
     ensures refusals { IfErr result IsOutOfMemory }
 {
     match shape.node {
-        None => emit_tokens(lexed, from, from + shape.tokens, sink),
-        Some(node) => emit_node(lexed, from, shape, node, sink),
+        None => emit_tokens(lexed, from, to, sink),
+        Some(node) => emit_node(lexed, from, to, shape, node, sink),
     }
 }
 
 // The steps of a text that is divided into statements, `Error` steps among them: the steps of the
 // plain grammar with the trivia between them.
+#[tactic(auto, using(crate::proofs::ChildTokenLemmas::kinds_len))]
 pub(crate) fn statement_steps(
     alloc: Global,
     lexed: &LexedStr<'_>,
@@ -207,8 +215,9 @@ pub(crate) fn statement_steps(
     let mut at = 0;
     while at < kinds.len() {
         let shape = first_child_in(&kinds[at..], division);
-        emit_child(lexed, at, shape, &mut sink)?;
-        at += shape.tokens;
+        let end = at + shape.tokens;
+        emit_child(lexed, at, end, shape, &mut sink)?;
+        at = end;
     }
     sink.step(StrStep::Exit)?;
     Ok(sink)
