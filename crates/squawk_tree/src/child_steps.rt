@@ -171,7 +171,8 @@ fn emit_node(
     emit_unknown_error(lexed, from, node, sink)?;
     emit_nested(lexed, from, body_end, sink)?;
     emit_tokens(lexed, body_end, to, sink)?;
-    sink.step(StrStep::Exit)
+    sink.step(StrStep::Exit)?;
+    Ok(())
 }
 
 // Emits the child of this shape with the tokens from `from` up to `to`.

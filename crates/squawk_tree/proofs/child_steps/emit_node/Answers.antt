@@ -1,0 +1,5 @@
+use Rattle.squawk_tree.proofs.ChildBodyLemmas.{closed_woven}
+use Rattle.squawk_tree.proofs.child_steps.emit_node.Goals as goal
+
+pub returns-clause-steps : goal.returns-clause-steps
+returns-clause-steps c = ?
