@@ -342,7 +342,7 @@ alone_woven d at t is single =
 -- ---- parts of a list in which no token ends the statement
 
 -- the statement stays open in a prefix
-open_prefix : (d : Division) (n : ℕ) (xs ys : List LexedToken)
+pub open_prefix : (d : Division) (n : ℕ) (xs ys : List LexedToken)
     → stays_open d n (kinds_of (xs ++ ys)) ≡ true → stays_open d n (kinds_of xs) ≡ true
 open_prefix d n [] ys h = refl
 open_prefix d n (x ∷ xs) ys h =

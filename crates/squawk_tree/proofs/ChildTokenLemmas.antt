@@ -1,6 +1,5 @@
 -- Tokens at an index, and the loops that emit them.
 use Rattle.std.proofs.Common.{◌≡◌, ℕ, zero, suc, ◌+◌, ◌-◌, ◌==◌, ◌<◌, ◌≤◌, ◌&&◌, Bool, true, false, cond, List, [], ◌∷◌, ◌++◌, length, take, drop, map, get_or, slice_range, append_assoc, refl, ap, sym, ◌∙◌, arith}
-use Rattle.std.proofs.lemmas.Bool.Decides.{nat_tests}
 use Rattle.std.proofs.lemmas.List.{get_or_default}
 use Rattle.squawk_events.specs.declared.steps.StrStep.{StrStep}
 use Rattle.squawk_events.specs.declared.steps.StrStep.TheVariants as out
@@ -11,6 +10,7 @@ use Rattle.squawk_lexed.specs.Stored.{kinds_of}
 use Rattle.squawk_statements.specs.Children.{open_groups_after, trimmed_len}
 use Rattle.squawk_tree.specs.ChildSteps.{nested_steps, steps_in_groups}
 use Rattle.squawk_tree.specs.ParseOf.{lexed_role, token_steps}
+use Rattle.squawk_tree.proofs.CutLemmas.{not_zero}
 
 -- ---- the kinds of tokens
 
@@ -123,10 +123,6 @@ tokens_more ts i to before after start step h within s so_far more =
     rw (more, step_is, next.end) (append_assoc before (one ∷ []) rest) ∙ (rw next.left at so_far)
 
 -- ---- the number of kinds up to the last that is not trivia
-
--- a successor is not 0
-not_zero : (n : ℕ) → (suc n == 0) ≡ false
-not_zero n = grind (arith, nat_tests)
 
 -- a trivia kind at the end does not count
 pub trim_one : (n : ℕ) (kinds : List ℕ) → n < length kinds

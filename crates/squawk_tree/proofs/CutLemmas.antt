@@ -122,7 +122,7 @@ statement_end_cut d g (t ∷ ts) =
         (kinds_without_trivia ts) t ts is after)
 
 -- a successor is not 0
-not_zero : (n : ℕ) → (suc n == 0) ≡ false
+pub not_zero : (n : ℕ) → (suc n == 0) ≡ false
 not_zero n = grind (arith, nat_tests)
 
 -- kinds without trivia have no trivia at their end
