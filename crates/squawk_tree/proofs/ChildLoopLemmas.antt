@@ -1,5 +1,6 @@
 -- The loops that emit a node and all children.
 use Rattle.std.proofs.Common.{◌≡◌, ℕ, zero, suc, ◌+◌, ◌-◌, ◌<◌, ◌≤◌, Bool, cond, List, [], ◌∷◌, ◌++◌, length, take, drop, map, slice_range, append_assoc, refl, ap, sym, ◌∙◌, arith}
+use Rattle.std.proofs.Math.Seq.{take-add}
 use Rattle.std.proofs.lemmas.List.{take-append-drop, append-nil, drop-drop, drop-take, take_rest, drop_all, length-drop, length-take-le}
 use Rattle.squawk_events.specs.declared.steps.StrStep.{StrStep}
 use Rattle.squawk_events.specs.declared.steps.StrStep.TheVariants as out
@@ -37,9 +38,32 @@ take_within (suc n) (suc m) (t ∷ ts) h =
 -- where the tokens begin that are n after others
 start_after : (i n : ℕ) (ts : List LexedToken)
     → token_start ts (i + n) ≡ token_start ts i + total_len (take n (drop i ts))
-start_after zero n ts = refl
-start_after (suc i) n [] = ?
-start_after (suc i) n (t ∷ ts) = ?
+start_after i n ts =
+    ap total_len (take-add i n ts) ∙ total_append (take i ts) (take n (drop i ts))
+
+-- the tokens from an index up to another, cut after n of them
+record CutAt (ts : List LexedToken) (from to n : ℕ) : Type 0 where
+  prefix : slice_range ts from (from + n) ≡ take n (slice_range ts from to)
+  left : slice_range ts (from + n) to ≡ drop n (slice_range ts from to)
+  start : token_start ts (from + n)
+      ≡ token_start ts from + total_len (take n (slice_range ts from to))
+
+cut_at : (ts : List LexedToken) (from to n : ℕ) → n ≤ to - from → CutAt ts from to n
+cut_at ts from to n h =
+    let all = drop from ts in
+    let count : from + n - from ≡ n = omega arith in
+    let inside = take_within n (to - from) all h in
+    let others : to - (from + n) ≡ to - from - n = omega arith in
+    let whole : to - from ≡ n + (to - from - n) = omega arith in
+    record {
+      prefix = ap (λ m. take m all) count ∙ sym inside;
+      left = ap (λ m. take m (drop (from + n) ts)) others
+          ∙ ap (take (to - from - n)) (sym (drop-drop n from ts))
+          ∙ sym (drop-take n (to - from - n) all)
+          ∙ ap (λ m. drop n (take m all)) (sym whole);
+      start = start_after from n ts
+          ∙ ap (λ us. token_start ts from + total_len us) (sym inside);
+    }
 
 -- ---- a node
 
@@ -49,3 +73,111 @@ appended : (s e u n t x : List StrStep)
 appended [] [] u n t x = refl
 appended [] (y ∷ e) u n t x = ap (λ zs. y ∷ zs) (appended [] e u n t x)
 appended (y ∷ s) e u n t x = ap (λ zs. y ∷ zs) (appended s e u n t x)
+
+-- the steps of a node, emitted one after another
+pub node_emitted : (ts : List LexedToken) (kinds : List ℕ) (from to n node : ℕ) (closed : Bool)
+    (s0 s1 s2 s3 s4 s5 : List StrStep) → from < to → to ≤ length ts → kinds ≡ kinds_of ts
+    → n ≡ trimmed_len (map role (take (length (slice_range kinds from to) - cond closed 1 0)
+    (slice_range kinds from to)))
+    → n ≤ length (slice_range kinds from to)
+    → s1 ≡ s0 ++ out.Enter node ∷ [] → s2 ≡ s1 ++ unknown_error (token_start ts from) node
+    → s3 ≡ s2 ++ nested_steps 0 (token_start ts from) (slice_range ts from (from + n))
+    → s4 ≡ s3 ++ token_steps (token_start ts (from + n)) (slice_range ts (from + n) to)
+    → s5 ≡ s4 ++ out.Exit ∷ []
+    → s5 ≡ s0 ++ node_steps node closed (token_start ts from) (slice_range ts from to)
+node_emitted ts kinds from to n node closed s0 s1 s2 s3 s4 s5 some within ks n_is le e1 e2 e3 e4
+    e5 =
+    let part = slice_range ts from to in
+    let at = token_start ts from in
+    let same : slice_range kinds from to ≡ kinds_of part =
+    ap (λ ks. slice_range ks from to) ks ∙ ap (take (to - from)) (kinds_drop from ts)
+    ∙ kinds_take (to - from) (drop from ts) in
+    let size = ap length same ∙ kinds_len part in
+    let few = length-drop from ts in
+    let len = length-take-le (to - from) (drop from ts) (omega arith) in
+    let body : n ≡ body_len closed part = n_is
+    ∙ ap (λ ks. trimmed_len (map role (take (length ks - cond closed 1 0) ks))) same
+    ∙ ap (λ m. trimmed_len (map role (take (m - cond closed 1 0) (kinds_of part))))
+    (kinds_len part)
+    ∙ ap (λ ks. trimmed_len (map role ks)) (kinds_take (length part - cond closed 1 0) part)
+    ∙ ap trimmed_len (kinds_roles (take (length part - cond closed 1 0) part)) in
+    let cut = cut_at ts from to n (omega arith) in
+    let nested = ap (nested_steps 0 at) cut.prefix in
+    let tokens = ap (λ m. token_steps m (slice_range ts (from + n) to)) cut.start
+    ∙ ap (token_steps (at + total_len (take n part))) cut.left in
+    rw (e5, e4, e3, e2, e1, nested, tokens, ← body)
+    (appended s0 (out.Enter node ∷ []) (unknown_error at node) (nested_steps 0 at (take n part))
+    (token_steps (at + total_len (take n part)) (drop n part)) (out.Exit ∷ []))
+
+-- ---- all children
+
+-- the steps of all children are those of the first and of the others
+first_woven : (d : Division) (at : ℕ) (ts : List LexedToken) (n : ℕ) → 0 < length ts
+    → n ≡ (first_child d (map lexed_role ts)).tokens
+    → woven_children d at (parts lexed_role d ts)
+    ≡ woven_child d at (take n ts)
+    ++ woven_children d (at + total_len (take n ts)) (parts lexed_role d (drop n ts))
+first_woven d at [] n some n_is = absurd (omega arith)
+first_woven d at (t ∷ ts) n some n_is =
+    let m = more_of lexed_role d t ts in
+    let count : n ≡ suc m = n_is ∙ first_tokens d (lexed_role t) (map lexed_role ts) in
+    rw count (ap (woven_children d at) (first_part lexed_role d t ts))
+
+-- a child extends no further than the tokens
+pub child_within : (ts : List LexedToken) (kinds rest : List ℕ) (at n : ℕ) → kinds ≡ kinds_of ts
+    → at < length kinds → rest ≡ take (length kinds - at) (drop at kinds) → n ≤ length rest
+    → at + n ≤ length ts
+child_within ts kinds rest at n ks some rest_is within =
+    let count = ap length ks ∙ kinds_len ts in
+    let left = ap length (rest_is ∙ take_rest kinds at) ∙ length-drop at kinds in
+    omega arith
+
+-- one more child
+pub children_more : (d : Division) (ts : List LexedToken) (kinds rest : List ℕ) (at end : ℕ)
+    (shape : ChildShape) (before after start : List StrStep) → kinds ≡ kinds_of ts
+    → at < length kinds → rest ≡ take (length kinds - at) (drop at kinds)
+    → shape ≡ first_shape d rest → end ≡ at + shape.tokens
+    → before ++ woven_children d (token_start ts at) (parts lexed_role d (drop at ts)) ≡ start
+    → after ≡ before ++ steps_of_shape shape (token_start ts at) (slice_range ts at end)
+    → after ++ woven_children d (token_start ts end) (parts lexed_role d (drop end ts)) ≡ start
+children_more d ts kinds rest at end shape before after start ks some rest_is shape_of end_is so_far
+    more =
+    let all = drop at ts in
+    let n = shape.tokens in
+    let from = token_start ts at in
+    let rest_of : rest ≡ kinds_of all = rest_is ∙ take_rest kinds at ∙ ap (drop at) ks
+    ∙ kinds_drop at ts in
+    let size = length-drop at ts in
+    let count = ap length ks ∙ kinds_len ts in
+    let is : shape ≡ first_shape d (kinds_of all) = shape_of ∙ ap (first_shape d) rest_of in
+    let tokens : n ≡ (first_child d (map lexed_role all)).tokens =
+    ap (λ (s : ChildShape). s.tokens) is
+    ∙ ap (λ fs. (first_child d fs).tokens) (kinds_roles all) in
+    let here : slice_range ts at end ≡ take n all = ap (λ m. take m all) (omega arith) in
+    let child = ap (steps_of_shape shape from) here ∙ shape_is d from all shape (omega arith) is in
+    let next : token_start ts end ≡ from + total_len (take n all) =
+    ap (token_start ts) end_is ∙ start_after at n ts in
+    let others : drop end ts ≡ drop n all = ap (λ m. drop m ts) end_is ∙ sym (drop-drop n at ts) in
+    let left = woven_children d (from + total_len (take n all)) (parts lexed_role d (drop n all)) in
+    rw (more, child, next, others) (append_assoc before (woven_child d from (take n all)) left)
+    ∙ ap (λ ys. before ++ ys) (sym (first_woven d from all n (omega arith) tokens)) ∙ so_far
+
+-- the steps of all children under the root are the weave of the plain grammar's steps
+pub children_done : (d : Division) (ts : List LexedToken) (kinds : List ℕ) (at : ℕ)
+    (before after : List StrStep) → kinds ≡ kinds_of ts → length kinds ≤ at
+    → before ++ woven_children d (token_start ts at) (parts lexed_role d (drop at ts))
+    ≡ out.Enter SOURCE_FILE ∷ woven_children d 0 (parts lexed_role d ts)
+    → after ≡ before ++ out.Exit ∷ []
+    → IsWeaveOf ts (plain d (kinds_without_trivia ts)) after
+children_done d ts kinds at before after ks past so_far more =
+    let count = ap length ks ∙ kinds_len ts in
+    let none = drop_all at ts (omega arith) in
+    let made : before ≡ out.Enter SOURCE_FILE ∷ woven_children d 0 (parts lexed_role d ts) =
+    sym (append-nil before)
+    ∙ ap (λ us. before ++ woven_children d (token_start ts at) (parts lexed_role d us)) (sym none)
+    ∙ so_far in
+    record {
+      lawful = plain_lawful d (kinds_without_trivia ts) (has_no_trivia_kept ts);
+      steps_are = rw (more, made)
+          (ap (λ ys. out.Enter SOURCE_FILE ∷ ys) (sym (placed (length ts) d 0 ts (omega arith))));
+    }

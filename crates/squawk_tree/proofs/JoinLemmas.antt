@@ -46,7 +46,7 @@ joined_errors d at (part ∷ rest) =
     ++ joined_errors d (at + total_len part) rest
 
 -- the length of an appended list of tokens
-total_append : (xs ys : List LexedToken) → total_len (xs ++ ys) ≡ total_len xs + total_len ys
+pub total_append : (xs ys : List LexedToken) → total_len (xs ++ ys) ≡ total_len xs + total_len ys
 total_append [] ys = omega arith
 total_append (x ∷ xs) ys = let rest = total_append xs ys in omega arith
 
