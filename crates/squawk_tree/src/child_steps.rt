@@ -1,9 +1,9 @@
 //! The parse into statements: the steps of a text, child by child, without the steps of a grammar
 //! or a list of the kinds that are not trivia.
-ghost use Rattle.std.specs.Prelude.{◌≡◌, ◌≤◌, ◌<◌, ◌+◌, ◌-◌, ◌^◌, ◌++◌, if◌then◌else◌, length, map, take, slice_range, OnOk, IfOk, IfErr};
+ghost use Rattle.std.specs.Prelude.{◌≡◌, ◌≤◌, ◌<◌, ◌+◌, ◌-◌, ◌^◌, ◌++◌, if◌then◌else◌, length, map, take, slice_range, OnOk, IfOk, IfErr, IsTrue};
 ghost use Rattle.squawk_events.specs.Refusals.{IsOutOfMemory};
 ghost use Rattle.squawk_kinds.specs.Role.{role};
-ghost use Rattle.squawk_lexed.specs.LexedText.{token_start};
+ghost use Rattle.squawk_lexed.specs.LexedText.{are_sound, token_start};
 ghost use Rattle.squawk_lexed.specs.Weave.{kinds_without_trivia};
 ghost use Rattle.squawk_statements.specs.Children.{open_groups_after, trimmed_len};
 ghost use Rattle.squawk_statements.specs.Plain.{plain};
@@ -206,13 +206,15 @@ pub(crate) fn statement_steps(
 ) -> Result<TreeSink, FrontError>
     ensures steps { IfOk result (λ sink. IsWeaveOf lexed.now.tokens
         (plain division (kinds_without_trivia lexed.now.tokens)) sink.steps) }
+    ensures sound { IsTrue (are_sound lexed.now.tokens) }
     ensures refusals { IfErr result IsOutOfMemory }
 {
-    let kinds = lexed.kinds();
-    let mut sink = TreeSink::with_room(alloc, kinds.len().saturating_add(kinds.len() / 4));
+    let count = lexed.len();
+    let mut sink = TreeSink::with_room(alloc, count.saturating_add(count / 4));
     sink.step(StrStep::Enter {
         kind: SyntaxKind::SOURCE_FILE,
     })?;
+    let kinds = lexed.kinds();
     let mut at = 0;
     while at < kinds.len() {
         let shape = first_child_in(&kinds[at..], division);

@@ -32,12 +32,14 @@ fn weave_into_sink<G: Grammar>(
 ) -> Result<TreeSink, FrontError>
     ensures steps { IfOk result (λ sink. IsWeaveOf lexed.now.tokens
         (G.told grammar.now (kinds_without_trivia lexed.now.tokens)) sink.steps) }
+    ensures sound { IsTrue (are_sound lexed.now.tokens) }
     ensures refusals { IfErr result IsOutOfMemory }
 {
+    let count = lexed.len();
     let input = lexed.to_input(alloc)?;
     let output = EntryPoint::SourceFile.parse(alloc, &input, grammar)?;
     // No more than one step for each of the grammar and one for each token.
-    let mut sink = TreeSink::with_room(alloc, lexed.len().saturating_add(output.steps().len()));
+    let mut sink = TreeSink::with_room(alloc, count.saturating_add(output.steps().len()));
     let _ = lexed.intersperse_trivia(&output, &mut sink)?;
     Ok(sink)
 }
