@@ -24,7 +24,8 @@ use Rattle.squawk_statements.specs.declared.division.Division.{Division}
 use Rattle.squawk_tree.proofs.Balanced.{closes_woven}
 use Rattle.squawk_tree.proofs.CutLemmas.{trivia_role}
 use Rattle.squawk_tree.proofs.JoinIsParse.{without_errors_append}
-use Rattle.squawk_tree.proofs.JoinLemmas.{placed, placed_from, node_woven, leaf_woven}
+use Rattle.squawk_tree.specs.ChildSteps.{woven_children}
+use Rattle.squawk_tree.proofs.JoinLemmas.{placed, node_woven, leaf_woven}
 use Rattle.squawk_tree.proofs.LeavesLemmas.{leaves_woven, leaves_kept}
 
 -- the number of tokens of a node, by the steps up to its `Exit`
@@ -171,7 +172,7 @@ child_root d at t ts rest = by (is_trivia_kind t.kind) refl
 
 -- the children of the root are those of the roles of the tokens: of a suffix, and of all tokens
 placed_children : (d : Division) (skip at : ℕ) (ts : List LexedToken)
-    → root_children_from 0 0 (without_errors (placed_from d at (parts_from lexed_role skip d ts))
+    → root_children_from 0 0 (without_errors (woven_children d at (parts_from lexed_role skip d ts))
     ++ out.Exit ∷ []) ≡ map root_child (children_from skip d (map lexed_role ts))
 placed_children d zero at [] = refl
 placed_children d (suc skip) at [] = refl
@@ -182,9 +183,9 @@ placed_children d zero at (t ∷ ts) =
     let part_is : take len (t ∷ ts) ≡ part =
     ap (λ n. take n (t ∷ ts)) (first_tokens d (role t.kind) (map lexed_role ts)) in
     let next = at + total_len part in
-    let others = placed_from d next (parts_from lexed_role (len - 1) d ts) in
+    let others = woven_children d next (parts_from lexed_role (len - 1) d ts) in
     ap (λ p. root_children_from 0 0 (without_errors
-    (placed_from d at (p ∷ parts_from lexed_role (len - 1) d ts)) ++ out.Exit ∷ [])) part_is
+    (woven_children d at (p ∷ parts_from lexed_role (len - 1) d ts)) ++ out.Exit ∷ [])) part_is
     ∙ ap (λ zs. root_children_from 0 0 (zs ++ out.Exit ∷ []))
     (without_errors_append (woven_child d at part) others)
     ∙ ap (root_children_from 0 0) (append_assoc (without_errors (woven_child d at part))
@@ -198,7 +199,7 @@ pub root_children_woven : (d : Division) (ts : List LexedToken)
     ≡ map root_child (children d (map lexed_role ts))
 root_children_woven d ts =
     ap (λ zs. root_children_from 0 0 (without_errors zs)) (placed (length ts) d 0 ts (omega arith))
-    ∙ ap (root_children_from 0 0) (without_errors_append (placed_from d 0 (parts lexed_role d ts))
+    ∙ ap (root_children_from 0 0) (without_errors_append (woven_children d 0 (parts lexed_role d ts))
     (out.Exit ∷ []))
     ∙ placed_children d 0 0 ts
 
