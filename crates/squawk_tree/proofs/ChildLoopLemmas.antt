@@ -1,7 +1,7 @@
 -- The loops that emit a node and all children.
 use Rattle.std.proofs.Common.{◌≡◌, ℕ, zero, suc, ◌+◌, ◌-◌, ◌<◌, ◌≤◌, Bool, cond, List, [], ◌∷◌, ◌++◌, length, take, drop, map, slice_range, append_assoc, refl, ap, sym, ◌∙◌, arith}
 use Rattle.std.proofs.Math.Seq.{take-add}
-use Rattle.std.proofs.lemmas.List.{take-append-drop, append-nil, drop-drop, drop-take, take_rest, drop_all, length-drop, length-take-le}
+use Rattle.std.proofs.lemmas.List.{append-nil, drop-drop, drop-take, take_rest, drop_all, length-drop, length-take-le}
 use Rattle.squawk_events.specs.declared.steps.StrStep.{StrStep}
 use Rattle.squawk_events.specs.declared.steps.StrStep.TheVariants as out
 use Rattle.squawk_kinds.specs.Role.{role}

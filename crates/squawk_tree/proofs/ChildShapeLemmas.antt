@@ -1,11 +1,10 @@
 -- The steps of a child by its shape are its woven steps.
 use Rattle.std.proofs.Common.{◌≡◌, ℕ, zero, suc, ◌+◌, ◌-◌, ◌==◌, ◌<◌, ◌≤◌, Bool, true, false, not, ◌&&◌, cond, List, [], ◌∷◌, ◌++◌, length, take, drop, map, append_assoc, refl, ap, sym, subst, ◌∙◌, arith}
-use Rattle.std.proofs.lemmas.List.{take-append-drop, append-nil, take-append-le, drop-append-le, length-append, take_all, drop_all}
+use Rattle.std.proofs.lemmas.List.{take-append-drop, take-append-le, drop-append-le, length-append, take_all, drop_all}
 use Rattle.std.specs.Prelude.{Option, Some, None, option_map, unwrap_or}
 use Rattle.squawk_events.specs.Kinds.{is_trivia_kind, without_trivia}
 use Rattle.squawk_events.specs.declared.steps.Step.{Step}
-use Rattle.squawk_events.specs.declared.steps.Step.TheVariants.{Enter, Token, Exit, Error}
-use Rattle.squawk_events.specs.declared.steps.StrStep.{StrStep}
+use Rattle.squawk_events.specs.declared.steps.Step.TheVariants.{Exit, Error}
 use Rattle.squawk_events.specs.declared.steps.StrStep.TheVariants as out
 use Rattle.squawk_kinds.specs.Role.{Role, role, is_trivia, Trivia, Semicolon, Terminator, Command, Open, Close, Other}
 use Rattle.squawk_kinds.specs.declared.numbers.TheConstants.Number.{ERROR}
@@ -18,7 +17,7 @@ use Rattle.squawk_statements.specs.First.{node_by, child_node, first_shape}
 use Rattle.squawk_statements.specs.Groups.{stays_open}
 use Rattle.squawk_statements.specs.Kinds.{role_trivia}
 use Rattle.squawk_statements.specs.Laws.{groups_left_open}
-use Rattle.squawk_statements.specs.Plain.{node_of, body_steps, unknown_statement_error, child_steps}
+use Rattle.squawk_statements.specs.Plain.{node_of, body_steps, unknown_statement_error}
 use Rattle.squawk_statements.specs.declared.division.Division.{Division}
 use Rattle.squawk_statements.specs.declared.first.ChildShape.{ChildShape}
 use Rattle.squawk_tree.specs.ChildSteps.{nested_steps, unknown_error, body_len, steps_of_node, node_steps, child_steps_by, steps_of_shape}
