@@ -23,7 +23,7 @@ pub use edge::{Failed, MemorySink, MemorySource, ReadSource, Sink, Source, Write
 pub use error::RunError;
 pub use program::{Shown, run};
 pub use reading::read_all;
-pub use report::make_report;
+pub use report::append_report;
 use std::alloc::Global;
 use std::env;
 use std::io::{ErrorKind, Read, Write};

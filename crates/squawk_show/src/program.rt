@@ -12,7 +12,7 @@ use crate::command::parse_command;
 use crate::made::make_text;
 use crate::refusal::write_error_line;
 use crate::summary::make_summary;
-use crate::{Command, RunError, Sink, Source, make_report, read_all, write_whole};
+use crate::{Command, RunError, Sink, Source, append_report, read_all, write_whole};
 use squawk_events::{FrontError, LIMIT};
 use squawk_tree::{Parse, parse_source};
 use std::alloc::Global;
@@ -50,12 +50,12 @@ fn prepare_report<S: Source>(alloc: Global, source: &mut S) -> Result<(Parse, Ve
     ensures taken { result ≢ Err (RunError.Front FrontError.TooLong)
         → TakesAtMost (S.view source.old) (S.view source.new) limit }
 {
-    let bytes = read_all(alloc, source, LIMIT)?;
+    let mut bytes = read_all(alloc, source, LIMIT)?;
     let parse = parse_bytes(alloc, &bytes)?;
 
-    // The tree does not borrow from the bytes: without them the report needs less memory.
-    drop(bytes);
-    let report = make_report(alloc, &parse)?;
+    // The tree does not borrow from the bytes: the report is made in their memory.
+    bytes.clear();
+    let report = append_report(alloc, bytes, &parse)?;
     Ok((parse, report))
 }
 

@@ -1,5 +1,5 @@
 //! The report of a tree.
-ghost use Rattle.std.specs.Prelude.{◌≡◌, ◌++◌, [], ◌+◌, ◌^◌, ◌<◌, length, zip, IfOk, OnOk};
+ghost use Rattle.std.specs.Prelude.{◌≡◌, ◌++◌, ◌+◌, ◌^◌, ◌<◌, length, zip, IfOk, OnOk};
 ghost use Rattle.squawk_show.specs.Report.{report_of, step_line, step_lines, depth_after};
 ghost use Rattle.squawk_tree.specs.Ranges.{ranges};
 
@@ -44,11 +44,11 @@ fn push_step(
     }
 }
 
-// An empty report with room for its lines. If that much memory cannot be had, it grows as needed.
-fn make_room(alloc: Global, steps: usize) -> Vec<u8>
-    ensures { result.items ≡ [] }
+// A text with room for the lines of a report. If that much memory cannot be had, it grows as needed.
+fn make_room(text: Vec<u8>, steps: usize) -> Vec<u8>
+    ensures { result.items ≡ text.items }
 {
-    let mut out = Vec::new(alloc);
+    let mut out = text;
     let _ = out.reserve(steps.saturating_mul(AVERAGE_LINE_LEN));
     out
 }
@@ -61,14 +61,14 @@ fn make_tables(alloc: Global, steps: usize) -> Result<Option<DigitTables>, Alloc
     Ok(Some(DigitTables::new(alloc)?))
 }
 
-// The lines of the nodes and the leaves.
-fn make_step_lines(alloc: Global, parse: &Parse) -> Result<Vec<u8>, AllocError>
-    ensures { IfOk result (λ text.
-        text.items ≡ step_lines 0 (zip parse.now.steps (ranges parse.now.steps))) }
+// Appends the lines of the nodes and the leaves to a text.
+fn append_step_lines(alloc: Global, text: Vec<u8>, parse: &Parse) -> Result<Vec<u8>, AllocError>
+    ensures { IfOk result (λ out.
+        out.items ≡ text.items ++ step_lines 0 (zip parse.now.steps (ranges parse.now.steps))) }
 {
     let steps = parse.steps().len();
     let tables = make_tables(alloc, steps)?;
-    let mut out = make_room(alloc, steps);
+    let mut out = make_room(text, steps);
     let mut depth = 0usize;
     let mut last = Number::zero();
     for (step, range) in parse.steps_with_ranges() {
@@ -77,12 +77,13 @@ fn make_step_lines(alloc: Global, parse: &Parse) -> Result<Vec<u8>, AllocError>
     Ok(out)
 }
 
-/// Returns the report of a tree as UTF-8 (`docs/PROGRAM.md`, "The report"): a line for each node
-/// and leaf, in order, and then a line for each error. Fails only if memory runs out.
-pub fn make_report(alloc: Global, parse: &Parse) -> Result<Vec<u8>, AllocError>
-    ensures { IfOk result (λ text. text.items ≡ report_of parse.now) }
+/// Appends the report of a tree to a text and returns both, in the text's memory where that is
+/// large enough (`docs/PROGRAM.md`, "The report"): a line for each node and leaf, in order, and then
+/// a line for each error. The report is UTF-8. Fails only if memory runs out.
+pub fn append_report(alloc: Global, text: Vec<u8>, parse: &Parse) -> Result<Vec<u8>, AllocError>
+    ensures { IfOk result (λ out. out.items ≡ text.items ++ report_of parse.now) }
 {
-    let mut out = make_step_lines(alloc, parse)?;
+    let mut out = append_step_lines(alloc, text, parse)?;
     for error in parse.errors() {
         push_error(&mut out, *error)?;
     }

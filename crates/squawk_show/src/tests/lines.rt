@@ -1,7 +1,7 @@
 //! The lines of a report, at depths and with numbers of each length.
+use crate::append_report;
 use crate::digits::{DigitTables, Number};
 use crate::line::push_line;
-use crate::make_report;
 use squawk_kinds::SyntaxKind;
 use squawk_tree::parse_source;
 use std::alloc::Global;
@@ -178,7 +178,7 @@ fn reports_a_deep_tree(rt: HostRuntime) -> Result<(), Fail> {
         )?)?;
     }
     let parse = parse_source(rt.alloc(), &text)?;
-    let report = make_report(rt.alloc(), &parse)?;
+    let report = append_report(rt.alloc(), Vec::new(rt.alloc()), &parse)?;
     assert_eq!(rt; report.as_slice(), expected.as_bytes());
     Ok(())
 }
