@@ -32,7 +32,7 @@ fn digit_count(bytes: &[u8], at: usize) -> usize
 // Reads the number that begins at an offset, and the ASCII byte that must follow it.
 pub(crate) fn read_number(text: &str, at: usize, byte: u8) -> Option<Number>
     requires boundary { IsCharBoundary text.now at }
-    requires ascii { byte < 128 }
+    requires ascii { (0 < byte) × (byte < 128) }
     ensures number { result ≡ number_at byte text.now at }
     ensures within { IfSome result (λ n. (at < n.after) × IsCharBoundary text.now n.after) }
 {

@@ -57,7 +57,7 @@ fn read_header(text: &str) -> Option<Header>
 
 // Reads the record that begins a text.
 pub(crate) fn read_record<'a>(text: &'a str) -> Option<FirstRecord<'a>>
-    ensures record { option_map record_value result ≡ first_record text.now }
+    ensures first { option_map record_value result ≡ first_record text.now }
     ensures within { IfSome result (λ r. (0 < r.len) × IsCharBoundary text.now r.len) }
 {
     let line = read_header(text)?;

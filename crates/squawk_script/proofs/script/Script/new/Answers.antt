@@ -1,0 +1,9 @@
+use Rattle.std.proofs.Common.{◌≡◌, sym, ◌∙◌}
+use Rattle.std.proofs.lemmas.Str.{is_utf8-from_IsUtf8}
+use Rattle.squawk_script.proofs.script.Script.new.Goals as goal
+
+pub invariant_of-result : goal.invariant_of-result
+invariant_of-result c = record {
+  utf8 = is_utf8-from_IsUtf8 c.args.text.now c.utf8.text;
+  script = sym c.records_len-at.ensures ∙ c.if-at-text.true;
+}
