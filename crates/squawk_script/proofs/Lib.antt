@@ -1,3 +1,4 @@
 pub mod NumberSteps
 pub mod RecordSteps
 pub mod ScriptSteps
+pub mod RecordLaws

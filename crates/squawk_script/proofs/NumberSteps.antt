@@ -1,5 +1,5 @@
 -- A number, by what the code finds about it.
-use Rattle.std.proofs.Common.{◌≡◌, ◌≢◌, ℕ, suc, ◌+◌, ◌-◌, ◌^◌, ◌<◌, ◌≤◌, Bool, true, false, ◌&&◌, List, [], ◌∷◌, take, drop, length, slice_index, Option, Some, None, Ok, Err, Result, refl, sym, ap, subst, ◌∙◌, eqb, eqb-true, cond, arith, rules}
+use Rattle.std.proofs.Common.{◌≡◌, ℕ, suc, ◌+◌, ◌-◌, ◌^◌, ◌<◌, ◌≤◌, Bool, true, false, ◌&&◌, List, [], ◌∷◌, take, drop, length, slice_index, Some, None, Ok, Err, Result, refl, sym, ap, ◌∙◌, eqb, eqb-true, cond, arith, rules}
 use Rattle.std.proofs.lemmas.Bool.Decides.{nat_tests}
 use Rattle.std.proofs.lemmas.List.{get_or_past}
 use Rattle.std.proofs.lemmas.List.Folds.{length-prefix_len}
@@ -64,6 +64,7 @@ no_number byte bytes at count is never =
       value = digits_value 10 (digits_at bytes at);
       after = at + prefix_len is_ascii_digit (drop at bytes) + 1;
     }
+
     by : (a b : Bool) → is_number (digits_at bytes at) ≡ a
         → eqb (slice_index bytes (at + prefix_len is_ascii_digit (drop at bytes))) byte ≡ b
         → None ≡ cond (a && b) (Some found) None

@@ -1,10 +1,10 @@
 -- The first line of a record, and a record, by what the code reads.
-use Rattle.std.proofs.Common.{◌≡◌, ◌≢◌, ℕ, ◌+◌, ◌-◌, ◌<◌, ◌≤◌, Bool, true, false, List, [], ◌∷◌, take, drop, length, slice_index, Option, Some, None, refl, sym, ap, subst, ◌∙◌, eqb, eqb-true, cond, arith, rules}
+use Rattle.std.proofs.Common.{◌≡◌, ◌≢◌, ℕ, ◌+◌, ◌-◌, ◌<◌, ◌≤◌, true, false, List, [], ◌∷◌, take, drop, length, slice_index, Some, None, refl, ap, ◌∙◌, eqb, eqb-true, arith}
 use Rattle.std.proofs.lemmas.Bool.Decides.{nat_tests}
 use Rattle.std.proofs.lemmas.List.{get_or-drop}
 use Rattle.squawk_script.proofs.NumberSteps.{none_past_end}
 use Rattle.std.specs.List.{slice_range}
-use Rattle.squawk_script.specs.Script.{number_at, header, record_after, first_record, ScriptEdit, Record}
+use Rattle.squawk_script.specs.Script.{number_at, header, record_after, first_record}
 use Rattle.squawk_script.specs.declared.number.Number.{Number}
 use Rattle.squawk_script.specs.declared.record.Header.{Header}
 

@@ -1,6 +1,6 @@
 -- The records of a script, one after another.
-use Rattle.std.proofs.Common.{◌≡◌, ℕ, zero, suc, ◌+◌, ◌-◌, ◌<◌, ◌≤◌, List, [], ◌∷◌, take, drop, length, map, Option, Some, None, refl, sym, ap, subst, ◌∙◌, arith, rules}
-use Rattle.squawk_script.specs.Script.{first_record, then_records, records_after, total_len, records, records_len, ScriptEdit, Record}
+use Rattle.std.proofs.Common.{◌≡◌, ℕ, zero, suc, ◌+◌, ◌-◌, ◌<◌, ◌≤◌, List, [], ◌∷◌, drop, length, map, Some, None, refl, ap, ◌∙◌, arith}
+use Rattle.squawk_script.specs.Script.{first_record, records_after, total_len, records, records_len, Record}
 
 -- no record begins in another
 records_skip : (n : ℕ) (bytes : List ℕ) → records_after n bytes ≡ records_after 0 (drop n bytes)

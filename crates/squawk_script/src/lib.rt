@@ -1,6 +1,7 @@
 //! Reads scripts of edits.
 #![tactic(auto)]
 
+mod form;
 /// Laws of the definitions of scripts: for proofs.
 pub mod laws;
 mod number;

@@ -6,8 +6,7 @@ ghost use Rattle.std.specs.Str.{IsCharBoundary};
 ghost use Rattle.squawk_script.specs.Script.{number_at};
 ghost use Rattle.squawk_script.specs.Models.{IfSome};
 
-// The most digits of a number.
-const MAX_DIGITS: usize = 10;
+use crate::form::MAX_DIGITS;
 
 // A number of a record, and the offset after the byte that follows it.
 #[derive(Clone, Copy)]

@@ -4,6 +4,7 @@ ghost use Rattle.std.specs.Str.{IsCharBoundary};
 ghost use Rattle.squawk_script.specs.Script.{header, first_record};
 ghost use Rattle.squawk_script.specs.Models.{IfSome, record_value};
 
+use crate::form::{AT_SIGN, LINE_FEED, SPACE};
 use crate::number::read_number;
 
 /// An edit of a text: the bytes from `start` to `end` are replaced by `new`.
@@ -41,12 +42,12 @@ fn read_header(text: &str) -> Option<Header>
     ensures header { result ≡ header text.now }
     ensures within { IfSome result (λ line. (1 < line.after) × IsCharBoundary text.now line.after) }
 {
-    if text.is_empty() || text.as_bytes()[0] != b'@' {
+    if text.is_empty() || text.as_bytes()[0] != AT_SIGN {
         return None;
     }
-    let start = read_number(text, 1, b' ')?;
-    let end = read_number(text, start.after, b' ')?;
-    let len = read_number(text, end.after, b'\n')?;
+    let start = read_number(text, 1, SPACE)?;
+    let end = read_number(text, start.after, SPACE)?;
+    let len = read_number(text, end.after, LINE_FEED)?;
     Some(Header {
         start: start.value,
         end: end.value,
@@ -62,7 +63,7 @@ pub(crate) fn read_record<'a>(text: &'a str) -> Option<FirstRecord<'a>>
 {
     let line = read_header(text)?;
     let rest = &text[line.after..];
-    if line.new_len >= rest.len() || rest.as_bytes()[line.new_len] != b'\n' {
+    if line.new_len >= rest.len() || rest.as_bytes()[line.new_len] != LINE_FEED {
         return None;
     }
     let edit = Edit {

@@ -1,7 +1,5 @@
-use Rattle.std.proofs.Common.{◌≡◌, ◌+◌, ◌<◌, ◌≤◌, ℕ, arith, true, false, slice_index, slice_index_or, sym, subst, length}
+use Rattle.std.proofs.Common.{◌+◌, ◌<◌, arith, slice_index_or}
 use Rattle.std.proofs.lemmas.Str.{IsCharBoundary-after_ascii}
-use Rattle.std.specs.Char.{is_ascii_digit}
-use Rattle.std.specs.List.{prefix_len}
 use Rattle.squawk_script.proofs.NumberSteps as steps
 use Rattle.squawk_script.proofs.number.read_number.Goals as goal
 
@@ -33,8 +31,9 @@ returns-then-end-at-gt-MAX_DIGITS-clause-number c =
     let none = steps.no_number c.args.byte c.args.text.now c.args.at c.digit_count.result count in
     elim c.then-end-at-gt-MAX_DIGITS.branch [
       | goal.then-end-at-gt-MAX_DIGITS-via-then-end-at-gt-MAX_DIGITS w ↦
-        none (λ number follows. steps.too_many c.args.text.now c.args.at c.digit_count.result count (omega (arith, w.if-end-at-gt-MAX_DIGITS.true)) number)
+          none (λ number follows. steps.too_many c.args.text.now c.args.at c.digit_count.result count (omega (arith, w.if-end-at-gt-MAX_DIGITS.true)) number)
       | goal.then-end-at-gt-MAX_DIGITS-via-else-end-at-gt-MAX_DIGITS+then-end-bytes w ↦
-        none (λ number follows. steps.none_past_end c.args.text.now c.args.byte (c.args.at + c.digit_count.result) (omega arith) (rw value at w.if-end-bytes.true) follows)
+          none (λ number follows. steps.none_past_end c.args.text.now c.args.byte (c.args.at + c.digit_count.result) (omega arith) (rw value at w.if-end-bytes.true) follows)
       | goal.then-end-at-gt-MAX_DIGITS-via-else-end-at-gt-MAX_DIGITS+else-end-bytes+then-bytes-end w ↦
-        none (λ number follows. (rw value at w.if-bytes-end.true) follows) ]
+          none (λ number follows. (rw value at w.if-bytes-end.true) follows)
+    ]
