@@ -4,5 +4,6 @@ pub mod LineLemmas
 pub mod MadeLemmas
 pub mod ParseLemmas
 pub mod RefusalLemmas
+pub mod ReplayLemmas
 pub mod SummaryLemmas
 pub mod TransferLemmas

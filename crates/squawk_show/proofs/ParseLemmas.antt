@@ -1,10 +1,21 @@
--- What `parse_source` says of a text, over the bytes of the text.
-use Rattle.std.proofs.Common.{◌≡◌, subst, List, ℕ, Result, Ok}
+-- What calls below say of a text, over the bytes of the text, and what a command prepares.
+use Rattle.std.proofs.Common.{◌≡◌, subst, List, ℕ, Result, Ok, Err, refl, sym, ap, ◌∙◌, map}
+use Rattle.std.specs.Prelude.{IfOk}
+use Rattle.std.specs.Str.{chars}
 use Rattle.squawk_events.specs.declared.error.FrontError.{FrontError}
+use Rattle.squawk_lexer.specs.Cut.{tokens, token_ends}
+use Rattle.squawk_lexer.specs.declared.token.Strings.{Strings}
 use Rattle.squawk_lexer.specs.declared.token.Strings.TheVariants.{Standard}
-use Rattle.squawk_show.specs.Run.{IsText, IsParsed, tree_of, LeavesAreTokens, ChildrenAreStatements}
+use Rattle.squawk_show.specs.Edge.{SourceView}
+use Rattle.squawk_show.specs.Made.{made}
+use Rattle.squawk_show.specs.Run.{IsText, IsParsed, IsPrepared, IsSummarized, tree_of, LeavesAreTokens, ChildrenAreStatements}
+use Rattle.squawk_show.specs.declared.command.Command.TheVariants.{Make}
+use Rattle.squawk_statements.specs.Children.{children}
+use Rattle.squawk_statements.specs.declared.division.Division.{Division}
 use Rattle.squawk_statements.specs.declared.division.Division.TheVariants.{Flat}
+use Rattle.squawk_tree.specs.ParseOf.{parse_of, roles_of}
 use Rattle.squawk_tree.specs.Parses.{ParsesText}
+use Rattle.squawk_tree.specs.Steps.{leaves, ranges_through, root_children, root_child}
 use Rattle.squawk_tree.specs.Tree.{Tree}
 
 -- the tree of bytes that are a text
@@ -25,3 +36,41 @@ pub is_parsed : (bytes text : List ℕ) (tree : Tree) (result : Result Tree Fron
 is_parsed bytes text tree result same is valid parses = parsed bytes tree valid
     (subst (λ u. ParsesText Standard Flat u (Ok tree)) same
     (subst (ParsesText Standard Flat text) is parses))
+
+-- a parse of a text has the tokens of the text
+module _ (leaves_are : (strings : Strings) (division : Division) (text : List ℕ)
+    → leaves (parse_of strings division text).steps
+    ≡ ranges_through 0 (token_ends 0 (tokens strings (chars text))))
+    (children_are : (strings : Strings) (division : Division) (text : List ℕ)
+    → root_children (parse_of strings division text).steps
+    ≡ map root_child (children division (roles_of (tokens strings (chars text))))) where
+  -- the tree that is the parse of bytes that are a text
+  pub is_parse : (text : List ℕ) (tree : Tree) → IsText text → tree ≡ parse_of Standard Flat text
+      → IsParsed text tree
+  unfolding tree_of LeavesAreTokens ChildrenAreStatements
+  is_parse text tree valid is = record {
+    text = valid;
+    parsed = is;
+    leaves = ap (λ (t : Tree). leaves t.steps) is ∙ leaves_are Standard Flat text;
+    children = ap (λ (t : Tree). root_children t.steps) is ∙ children_are Standard Flat text;
+  }
+
+-- what follows from a fact of a result holds of it
+pub if_ok : {T E : Type 0} (P Q : T → Type 0) → ((t : T) → P t → Q t) → (r : Result T E)
+    → IfOk r P → IfOk r Q
+if_ok P Q next (Ok t) h = next t h
+if_ok P Q next (Err e) h = tt
+
+-- the summary of a made text is what `make` prepares, whatever the source
+pub summary_prepared : (pieces : ℕ) (source : SourceView) (tree : Tree) (output : List ℕ)
+    → IsSummarized pieces tree output → IsPrepared (Make pieces) source source tree output
+summary_prepared pieces source tree output h = record {
+  output_of = (
+    made pieces,
+    refl,
+    record { accepted = tt; parsed = h.parsed },
+    h.summary,
+  );
+  balanced = h.balanced;
+  end = tt;
+}

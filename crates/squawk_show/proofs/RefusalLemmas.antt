@@ -5,11 +5,11 @@ use Rattle.std.proofs.lemmas.List.{length-append}
 use Rattle.std.specs.Io.KnownBytes.{Consumes}
 use Rattle.squawk_events.specs.Limit.{limit}
 use Rattle.squawk_events.specs.declared.error.FrontError.TheVariants.{TooLong, OutOfMemory, BadRange}
-use Rattle.squawk_show.specs.Edge.{SourceView, SinkFaultRose}
+use Rattle.squawk_show.specs.Edge.{SourceView, SourceFaultRose, SinkFaultRose}
 use Rattle.squawk_show.specs.Outcome.{status_of_error}
-use Rattle.squawk_show.specs.Run.{Run, IsRunRefusal, IsText, IsInvalidText, IsOverLimit, IsAll, IsInput, Reads, ReadsSource, HasText, OnInput, SourceFailed, IsTreeOf}
+use Rattle.squawk_show.specs.Run.{Run, IsRunRefusal, IsText, IsInvalidText, IsOverLimit, IsBadScript, HasBadRange, IsAcceptedScript, IsAll, IsInput, Accepts, parsed_text, Reads, ReadsSource, HasAcceptedInput, OnParsedText, SourceFailed, IsTreeOf, IsMalformedAt, MeetsBadRange, IsCutOff, text_of_script}
 use Rattle.squawk_show.specs.declared.command.Command.{Command}
-use Rattle.squawk_show.specs.declared.command.Command.TheVariants.{Report, Make}
+use Rattle.squawk_show.specs.declared.command.Command.TheVariants.{Report, Make, Replay}
 use Rattle.squawk_show.specs.declared.error.RunError.{RunError}
 use Rattle.squawk_show.specs.declared.error.RunError.TheVariants.{BadWords, ReadFault, NotUtf8, Front, BadScript, WriteFault}
 use Rattle.squawk_tree.specs.Tree.{Tree}
@@ -19,41 +19,64 @@ pub reads_source : (P : List ℕ → Type 0) (command : Result Command RunError)
     → Reads P command source → ReadsSource command
 reads_source P (Ok Report) source h = tt
 reads_source P (Ok (Make pieces)) source h = absurd h
+reads_source P (Ok Replay) source h = tt
 reads_source P (Err e) source h = absurd h
 
 -- words that name no command read nothing
 no_command : (command : Result Command RunError) → ReadsSource command → IsErr command → ⊥
 no_command (Ok Report) reads bad = cc
 no_command (Ok (Make pieces)) reads bad = absurd reads
+no_command (Ok Replay) reads bad = cc
 no_command (Err e) reads bad = absurd reads
 
--- words that name no command have no text
-no_text : (command : Result Command RunError) (source : SourceView) → HasText command source
-    → IsErr command → ⊥
-no_text (Ok Report) source h bad = cc
-no_text (Ok (Make pieces)) source h bad = cc
-no_text (Err e) source h bad = absurd h
+-- words that name no command have no input
+no_input : (command : Result Command RunError) (source : SourceView)
+    → HasAcceptedInput command source → IsErr command → ⊥
+no_input (Ok Report) source h bad = cc
+no_input (Ok (Make pieces)) source h bad = cc
+no_input (Ok Replay) source h bad = cc
+no_input (Err e) source h bad = absurd h
 
 -- P holds of all that is left to a command that reads it
 left_read : (P : List ℕ → Type 0) (command : Result Command RunError) (source : SourceView)
     → Reads P command source → IsSomeAnd source.left P
 left_read P (Ok Report) source h = h
 left_read P (Ok (Make pieces)) source h = absurd h
+left_read P (Ok Replay) source h = h
 left_read P (Err e) source h = absurd h
 
--- all that is left to a command that reads it is a text, if it has one
-text_read : (command : Result Command RunError) (source : SourceView) → ReadsSource command
-    → HasText command source → IsSomeAnd source.left IsText
-text_read (Ok Report) source reads h = h
-text_read (Ok (Make pieces)) source reads h = absurd reads
-text_read (Err e) source reads h = absurd reads
+-- a command that reads the source accepts all that is left, if it accepts its input
+accepted_left : (command : Result Command RunError) (source : SourceView) → ReadsSource command
+    → HasAcceptedInput command source → IsSomeAnd source.left (Accepts command)
+accepted_left (Ok Report) source reads h = h
+accepted_left (Ok (Make pieces)) source reads h = absurd reads
+accepted_left (Ok Replay) source reads h = h
+accepted_left (Err e) source reads h = absurd reads
 
--- the text of a command that reads the source is all that was left
+-- the input of a command that reads the source is all that was left
 input_is_all : (command : Result Command RunError) (source : SourceView) (bytes : List ℕ)
     → ReadsSource command → IsInput command source bytes → IsAll source.left bytes
 input_is_all (Ok Report) source bytes reads h = h
 input_is_all (Ok (Make pieces)) source bytes reads h = absurd reads
+input_is_all (Ok Replay) source bytes reads h = h
 input_is_all (Err e) source bytes reads h = absurd reads
+
+-- what a command that reads the source accepts is a text
+accepted_text : (command : Result Command RunError) (bytes : List ℕ) → ReadsSource command
+    → Accepts command bytes → IsText bytes
+accepted_text (Ok Report) bytes reads h = h
+accepted_text (Ok (Make pieces)) bytes reads h = absurd reads
+accepted_text (Ok Replay) bytes reads h = h.good.text
+accepted_text (Err e) bytes reads h = absurd reads
+
+-- `replay` reads the source
+replay_reads : (command : Result Command RunError) → command ≡ Ok Replay → ReadsSource command
+replay_reads command is = subst ReadsSource (sym is) tt
+
+-- what `replay` accepts is a script of lawful edits
+replay_accepts : (command : Result Command RunError) (bytes : List ℕ) → command ≡ Ok Replay
+    → Accepts command bytes → IsAcceptedScript bytes
+replay_accepts command bytes is h = subst (λ c. Accepts c bytes) is h
 
 -- two properties of all bytes left, which no bytes have both
 both_left : (P Q : List ℕ → Type 0) (left : Option (List ℕ)) (bytes : List ℕ)
@@ -73,46 +96,88 @@ over_taken P (Some left) (Some rest) taken within known h size =
     let f = length-append taken rest in
     absurd (omega arith)
 
--- `invalid_no_tree`, `over_no_tree`: such an input has no tree
-pub invalid_no_tree : (command : Result Command RunError) (source : SourceView) (tree : Tree)
-    → IsTreeOf command source tree → Reads IsInvalidText command source → ⊥
-invalid_no_tree command source tree t input =
-    both_left IsInvalidText IsText source.left t.0 (λ bs bad text. bad.invalid text.valid)
-    (left_read IsInvalidText command source input)
-    (input_is_all command source t.0 (reads_source IsInvalidText command source input) t.1)
-    t.2.text
+-- The bytes left are of a class P. For each cause of a refusal, and for the trees, none of the
+-- class has it.
+module _ (P : List ℕ → Type 0) (command : Result Command RunError) (old : SourceView)
+    (left : IsSomeAnd old.left P) where
+  no_tree : (tree : Tree) → ((bs : List ℕ) → P bs → Accepts command bs → ⊥) → ReadsSource command
+      → IsTreeOf command old tree → ⊥
+  no_tree tree apart reads t = both_left P (Accepts command) old.left t.0 apart left
+      (input_is_all command old t.0 reads t.1) t.2.accepted
 
+  no_bad_script : (at : ℕ) (new : SourceView) → ((bs : List ℕ) → P bs → IsBadScript bs → ⊥)
+      → IsMalformedAt at command old new → ⊥
+  no_bad_script at new apart h = both_left P IsBadScript old.left h.input.0 apart left
+      (input_is_all command old h.input.0 (replay_reads command h.replay) h.input.1) h.input.2
+
+  no_bad_range : (new : SourceView) → ((bs : List ℕ) → P bs → HasBadRange bs → ⊥)
+      → MeetsBadRange command old new → ⊥
+  no_bad_range new apart h = both_left P HasBadRange old.left h.input.0 apart left
+      (input_is_all command old h.input.0 (replay_reads command h.replay) h.input.1) h.input.2
+
+-- `over_no_tree` to `bad_range_no_tree`: an input of such a class has no tree
 pub over_no_tree : (command : Result Command RunError) (source : SourceView) (tree : Tree)
     → IsTreeOf command source tree → Reads IsOverLimit command source → ⊥
 over_no_tree command source tree t input =
-    both_left IsOverLimit IsText source.left t.0
-    (λ bs over text. let small = text.within in omega arith)
-    (left_read IsOverLimit command source input)
-    (input_is_all command source t.0 (reads_source IsOverLimit command source input) t.1)
-    t.2.text
+    let reads = reads_source IsOverLimit command source input in
+    no_tree IsOverLimit command source (left_read IsOverLimit command source input) tree
+    (λ bs over ok. let small = (accepted_text command bs reads ok).within in omega arith) reads t
 
--- `text_status`, `invalid_status`, `over_status`: the status of a refused run by its input
-pub text_status : (run : Run) (e : RunError) → IsRunRefusal run e
-    → HasText run.command run.source_before
+pub invalid_no_tree : (command : Result Command RunError) (source : SourceView) (tree : Tree)
+    → IsTreeOf command source tree → Reads IsInvalidText command source → ⊥
+invalid_no_tree command source tree t input =
+    let reads = reads_source IsInvalidText command source input in
+    no_tree IsInvalidText command source (left_read IsInvalidText command source input) tree
+    (λ bs bad ok. bad.invalid (accepted_text command bs reads ok).valid) reads t
+
+pub bad_script_no_tree : (command : Result Command RunError) (source : SourceView) (tree : Tree)
+    → IsTreeOf command source tree → command ≡ Ok Replay → IsSomeAnd source.left IsBadScript → ⊥
+bad_script_no_tree command source tree t is left = no_tree IsBadScript command source left tree
+    (λ bs bad ok. bad.bad (replay_accepts command bs is ok).good.script)
+    (replay_reads command is) t
+
+pub bad_range_no_tree : (command : Result Command RunError) (source : SourceView) (tree : Tree)
+    → IsTreeOf command source tree → command ≡ Ok Replay → IsSomeAnd source.left HasBadRange → ⊥
+bad_range_no_tree command source tree t is left = no_tree HasBadRange command source left tree
+    (λ bs bad ok. bad.range (replay_accepts command bs is ok).ranges)
+    (replay_reads command is) t
+
+-- the tree whose output was cut off
+cut_off_tree : (run : Run) → IsCutOff run
+    → (tree : Tree) × IsTreeOf run.command run.source_before tree
+cut_off_tree run h = (h.prefix.0, (h.prefix.2.0, h.prefix.2.1, h.prefix.2.2))
+
+-- `accepted_status` to `bad_range_status`: the status of a refused run by its input
+pub accepted_status : (run : Run) (e : RunError) → IsRunRefusal run e
+    → HasAcceptedInput run.command run.source_before
     → ¬ (SourceFailed run.command run.source_before run.source_after)
     → ¬ (SinkFaultRose run.out_before run.out_after)
     → (status_of_error e ≡ 0) ⊎ (status_of_error e ≡ 6)
-text_status run BadWords h text no_read_fault no_write_fault =
-    absurd (no_text run.command run.source_before text h)
-text_status run ReadFault h text no_read_fault no_write_fault = absurd (no_read_fault h)
-text_status run (NotUtf8 at) h text no_read_fault no_write_fault =
-    absurd (both_left IsText IsInvalidText run.source_before.left h.input.0
-    (λ bs valid bad. bad.invalid valid.valid)
-    (text_read run.command run.source_before h.reads text)
+accepted_status run BadWords h input no_read_fault no_write_fault =
+    absurd (no_input run.command run.source_before input h)
+accepted_status run ReadFault h input no_read_fault no_write_fault = absurd (no_read_fault h)
+accepted_status run (NotUtf8 at) h input no_read_fault no_write_fault =
+    absurd (both_left (Accepts run.command) IsInvalidText run.source_before.left h.input.0
+    (λ bs ok bad. bad.invalid (accepted_text run.command bs h.reads ok).valid)
+    (accepted_left run.command run.source_before h.reads input)
     (input_is_all run.command run.source_before h.input.0 h.reads h.input.1) h.input.2)
-text_status run (Front TooLong) h text no_read_fault no_write_fault =
-    absurd (over_taken IsText run.source_before.left run.source_after.left h.1.0
-    (λ bs valid. valid.within) (text_read run.command run.source_before h.0 text)
-    h.1.1.consumed h.1.2)
-text_status run (Front OutOfMemory) h text no_read_fault no_write_fault = inr refl
-text_status run (Front BadRange) h text no_read_fault no_write_fault = absurd h
-text_status run (BadScript at) h text no_read_fault no_write_fault = absurd h
-text_status run WriteFault h text no_read_fault no_write_fault = absurd (no_write_fault h.fault)
+accepted_status run (Front TooLong) h input no_read_fault no_write_fault =
+    absurd (over_taken (Accepts run.command) run.source_before.left run.source_after.left h.1.0
+    (λ bs ok. (accepted_text run.command bs h.0 ok).within)
+    (accepted_left run.command run.source_before h.0 input) h.1.1.consumed h.1.2)
+accepted_status run (Front OutOfMemory) h input no_read_fault no_write_fault = inr refl
+accepted_status run (Front BadRange) h input no_read_fault no_write_fault =
+    absurd (no_bad_range (Accepts run.command) run.command run.source_before
+    (accepted_left run.command run.source_before (replay_reads run.command h.replay) input)
+    run.source_after
+    (λ bs ok bad. bad.range (replay_accepts run.command bs h.replay ok).ranges) h)
+accepted_status run (BadScript at) h input no_read_fault no_write_fault =
+    absurd (no_bad_script (Accepts run.command) run.command run.source_before
+    (accepted_left run.command run.source_before (replay_reads run.command h.replay) input)
+    at run.source_after
+    (λ bs ok bad. bad.bad (replay_accepts run.command bs h.replay ok).good.script) h)
+accepted_status run WriteFault h input no_read_fault no_write_fault =
+    absurd (no_write_fault h.fault)
 
 pub invalid_status : (run : Run) (e : RunError) → IsRunRefusal run e
     → Reads IsInvalidText run.command run.source_before
@@ -127,10 +192,16 @@ invalid_status run (Front TooLong) h input no_read_fault =
     (λ bs bad. bad.within) (left_read IsInvalidText run.command run.source_before input)
     h.1.1.consumed h.1.2)
 invalid_status run (Front OutOfMemory) h input no_read_fault = inr refl
-invalid_status run (Front BadRange) h input no_read_fault = absurd h
-invalid_status run (BadScript at) h input no_read_fault = absurd h
-invalid_status run WriteFault h input no_read_fault =
-    absurd (invalid_no_tree run.command run.source_before h.prefix.0 h.prefix.1 input)
+invalid_status run (Front BadRange) h input no_read_fault =
+    absurd (no_bad_range IsInvalidText run.command run.source_before
+    (left_read IsInvalidText run.command run.source_before input) run.source_after
+    (λ bs bad other. bad.invalid other.good.text.valid) h)
+invalid_status run (BadScript at) h input no_read_fault =
+    absurd (no_bad_script IsInvalidText run.command run.source_before
+    (left_read IsInvalidText run.command run.source_before input) at run.source_after
+    (λ bs bad other. bad.invalid other.text.valid) h)
+invalid_status run WriteFault h input no_read_fault = let t = cut_off_tree run h in
+    absurd (invalid_no_tree run.command run.source_before t.0 t.1 input)
 
 pub over_status : (run : Run) (e : RunError) → IsRunRefusal run e
     → Reads IsOverLimit run.command run.source_before
@@ -146,20 +217,73 @@ over_status run (NotUtf8 at) h input no_read_fault =
     (input_is_all run.command run.source_before h.input.0 h.reads h.input.1) h.input.2)
 over_status run (Front TooLong) h input no_read_fault = inl refl
 over_status run (Front OutOfMemory) h input no_read_fault = inr refl
-over_status run (Front BadRange) h input no_read_fault = absurd h
-over_status run (BadScript at) h input no_read_fault = absurd h
-over_status run WriteFault h input no_read_fault =
-    absurd (over_no_tree run.command run.source_before h.prefix.0 h.prefix.1 input)
+over_status run (Front BadRange) h input no_read_fault =
+    absurd (no_bad_range IsOverLimit run.command run.source_before
+    (left_read IsOverLimit run.command run.source_before input) run.source_after
+    (λ bs over bad. let small = bad.good.text.within in omega arith) h)
+over_status run (BadScript at) h input no_read_fault =
+    absurd (no_bad_script IsOverLimit run.command run.source_before
+    (left_read IsOverLimit run.command run.source_before input) at run.source_after
+    (λ bs over bad. let small = bad.text.within in omega arith) h)
+over_status run WriteFault h input no_read_fault = let t = cut_off_tree run h in
+    absurd (over_no_tree run.command run.source_before t.0 t.1 input)
 
--- what holds of the text of a tree holds of all bytes left
-on_left : (P : List ℕ → Type 0) (left : Option (List ℕ)) (text : List ℕ) → IsAll left text
-    → P text → IfSome left P
-on_left P None text all h = tt
-on_left P (Some left) text all h = subst P (sym all) h
+pub bad_script_status : (run : Run) (e : RunError) → IsRunRefusal run e → run.command ≡ Ok Replay
+    → IsSomeAnd run.source_before.left IsBadScript
+    → ¬ (SourceFaultRose run.source_before run.source_after)
+    → (status_of_error e ≡ 8) ⊎ (status_of_error e ≡ 6)
+bad_script_status run BadWords h is left no_read_fault =
+    absurd (no_command run.command (replay_reads run.command is) h)
+bad_script_status run ReadFault h is left no_read_fault = absurd (no_read_fault h.1)
+bad_script_status run (NotUtf8 at) h is left no_read_fault =
+    absurd (both_left IsBadScript IsInvalidText run.source_before.left h.input.0
+    (λ bs bad other. other.invalid bad.text.valid) left
+    (input_is_all run.command run.source_before h.input.0 h.reads h.input.1) h.input.2)
+bad_script_status run (Front TooLong) h is left no_read_fault =
+    absurd (over_taken IsBadScript run.source_before.left run.source_after.left h.1.0
+    (λ bs bad. bad.text.within) left h.1.1.consumed h.1.2)
+bad_script_status run (Front OutOfMemory) h is left no_read_fault = inr refl
+bad_script_status run (Front BadRange) h is left no_read_fault =
+    absurd (no_bad_range IsBadScript run.command run.source_before left run.source_after
+    (λ bs bad other. bad.bad other.good.script) h)
+bad_script_status run (BadScript at) h is left no_read_fault = inl refl
+bad_script_status run WriteFault h is left no_read_fault = let t = cut_off_tree run h in
+    absurd (bad_script_no_tree run.command run.source_before t.0 t.1 is left)
 
--- what holds of the text of a command holds on its input
-pub on_input : (P : List ℕ → Type 0) (command : Result Command RunError) (source : SourceView)
-    (text : List ℕ) → IsInput command source text → P text → OnInput P command source
-on_input P (Ok Report) source text input h = on_left P source.left text input h
-on_input P (Ok (Make pieces)) source text input h = subst P (sym input) h
-on_input P (Err e) source text input h = absurd input
+pub bad_range_status : (run : Run) (e : RunError) → IsRunRefusal run e → run.command ≡ Ok Replay
+    → IsSomeAnd run.source_before.left HasBadRange
+    → ¬ (SourceFaultRose run.source_before run.source_after)
+    → (status_of_error e ≡ 9) ⊎ (status_of_error e ≡ 6)
+bad_range_status run BadWords h is left no_read_fault =
+    absurd (no_command run.command (replay_reads run.command is) h)
+bad_range_status run ReadFault h is left no_read_fault = absurd (no_read_fault h.1)
+bad_range_status run (NotUtf8 at) h is left no_read_fault =
+    absurd (both_left HasBadRange IsInvalidText run.source_before.left h.input.0
+    (λ bs bad other. other.invalid bad.good.text.valid) left
+    (input_is_all run.command run.source_before h.input.0 h.reads h.input.1) h.input.2)
+bad_range_status run (Front TooLong) h is left no_read_fault =
+    absurd (over_taken HasBadRange run.source_before.left run.source_after.left h.1.0
+    (λ bs bad. bad.good.text.within) left h.1.1.consumed h.1.2)
+bad_range_status run (Front OutOfMemory) h is left no_read_fault = inr refl
+bad_range_status run (Front BadRange) h is left no_read_fault = inl refl
+bad_range_status run (BadScript at) h is left no_read_fault =
+    absurd (no_bad_script HasBadRange run.command run.source_before left at run.source_after
+    (λ bs bad other. other.bad bad.good.script) h)
+bad_range_status run WriteFault h is left no_read_fault = let t = cut_off_tree run h in
+    absurd (bad_range_no_tree run.command run.source_before t.0 t.1 is left)
+
+-- what holds of an input holds of all bytes left
+on_left : (P : List ℕ → Type 0) (left : Option (List ℕ)) (input : List ℕ) → IsAll left input
+    → P input → IfSome left P
+on_left P None input all h = tt
+on_left P (Some left) input all h = subst P (sym all) h
+
+-- what holds of the text that a command parses for its input holds where that is observable
+pub on_parsed_text : (P : List ℕ → Type 0) (command : Result Command RunError)
+    (source : SourceView) (input : List ℕ) → IsInput command source input
+    → P (parsed_text command input) → OnParsedText P command source
+on_parsed_text P (Ok Report) source input is h = on_left P source.left input is h
+on_parsed_text P (Ok (Make pieces)) source input is h = subst P (sym is) h
+on_parsed_text P (Ok Replay) source input is h =
+    on_left (λ script. P (text_of_script script)) source.left input is h
+on_parsed_text P (Err e) source input is h = absurd is

@@ -7,7 +7,7 @@ use Rattle.std.specs.declared.alloc.Global.{Global}
 use Rattle.squawk_lexer.specs.Classes.{digit_0}
 use Rattle.squawk_show.specs.Made.{most_pieces}
 use Rattle.squawk_show.specs.declared.command.Command.{Command}
-use Rattle.squawk_show.specs.declared.command.Command.TheVariants.{Report, Make}
+use Rattle.squawk_show.specs.declared.command.Command.TheVariants.{Report, Make, Replay}
 use Rattle.squawk_show.specs.declared.error.RunError.{RunError}
 use Rattle.squawk_show.specs.declared.error.RunError.TheVariants.{BadWords}
 
@@ -25,7 +25,8 @@ make_command count =
 -- the command that the words of a command line name
 abbrev pub command_of : List (String Global) → Result Command RunError
 command_of [] = Ok Report
-command_of (word ∷ []) = Err BadWords
+command_of (word ∷ []) =
+    if bytes_eq (string_bytes word) (codes "replay") then Ok Replay else Err BadWords
 command_of (word ∷ count ∷ []) = if bytes_eq (string_bytes word) (codes "make")
     then make_command (string_bytes count) else Err BadWords
 command_of (word ∷ count ∷ other ∷ words) = Err BadWords
@@ -34,3 +35,4 @@ command_of (word ∷ count ∷ other ∷ words) = Err BadWords
 abbrev pub IsWithinPieces : Command → Type 0
 IsWithinPieces Report = ⊤
 IsWithinPieces (Make pieces) = pieces ≤ most_pieces
+IsWithinPieces Replay = ⊤

@@ -1,18 +1,21 @@
 -- How a run of the program ends, and when it ends with each error.
-use Rattle.std.specs.Prelude.{ℕ, ◌≡◌, ◌≤◌, ◌<◌, ◌+◌, List, [], length, map, Option, Some, None, Result, Ok, Err, IsOk, IsErr, IfOk, IfErr, OnOk, IfSome, IsSomeAnd, IsUtf8, chars, ⊤}
+use Rattle.std.specs.Prelude.{ℕ, ◌≡◌, ◌≤◌, ◌<◌, ◌+◌, List, [], ◌++◌, length, map, Option, Some, None, Result, Ok, Err, IsOk, IsErr, IfOk, IfErr, OnOk, IfSome, IsSomeAnd, IsUtf8, chars, ⊤}
 use Rattle.std.specs.Io.KnownBytes.{IsAtEnd}
 use Rattle.std.specs.Str.{IsValidUpTo}
+use Rattle.squawk_cut.specs.PlainTells.{plain_tells}
 use Rattle.squawk_events.specs.Limit.{limit}
 use Rattle.squawk_events.specs.declared.error.FrontError.TheVariants.{TooLong, OutOfMemory, BadRange}
 use Rattle.squawk_lexer.specs.Cut.{tokens, token_ends}
 use Rattle.squawk_lexer.specs.declared.token.Strings.TheVariants.{Standard}
+use Rattle.squawk_replay.specs.Replay.{AreRanges, edit_lines, last_text}
+use Rattle.squawk_script.specs.Script.{records, records_len, IsScript}
 use Rattle.squawk_show.specs.Edge.{SourceView, SinkView, SourceFaultRose, SinkFaultRose, TakesExactly, AppendsAll, AppendsPrefix}
 use Rattle.squawk_show.specs.Outcome.{status_of_error, error_line}
 use Rattle.squawk_show.specs.Made.{made}
 use Rattle.squawk_show.specs.Report.{report_of}
 use Rattle.squawk_show.specs.Summary.{summary_line}
 use Rattle.squawk_show.specs.declared.command.Command.{Command}
-use Rattle.squawk_show.specs.declared.command.Command.TheVariants.{Report, Make}
+use Rattle.squawk_show.specs.declared.command.Command.TheVariants.{Report, Make, Replay}
 use Rattle.squawk_show.specs.declared.error.RunError.{RunError}
 use Rattle.squawk_show.specs.declared.error.RunError.TheVariants.{BadWords, ReadFault, NotUtf8, Front, BadScript, WriteFault}
 use Rattle.squawk_statements.specs.Children.{children}
@@ -58,75 +61,143 @@ pub record IsParsed (bytes : List ℕ) (tree : Tree) : Type 0 where
   pub leaves : LeavesAreTokens bytes tree
   pub children : ChildrenAreStatements bytes tree
 
+-- Scripts of edits
+
+-- a text that is no script
+pub record IsBadScript (bytes : List ℕ) : Type 0 where
+  pub text : IsText bytes
+  pub bad : ¬ (IsScript bytes)
+
+-- a text that is a script
+pub record IsGoodScript (bytes : List ℕ) : Type 0 where
+  pub text : IsText bytes
+  pub script : IsScript bytes
+
+-- the text after the last edit of a script; the first edit meets the empty text
+abbrev pub text_of_script : List ℕ → List ℕ
+text_of_script bytes = last_text (records bytes)
+
+-- the lines of the edits of a script
+unfoldable pub lines_of_script : List ℕ → List ℕ
+lines_of_script bytes = edit_lines (plain_tells Standard Flat) (records bytes)
+
+-- the range of each edit of a script is lawful for the text that it meets
+abbrev pub RangesAreLawful : List ℕ → Type 0
+RangesAreLawful bytes = AreRanges [] (records bytes)
+
+-- a script in which each range is lawful
+pub record IsAcceptedScript (bytes : List ℕ) : Type 0 where
+  pub good : IsGoodScript bytes
+  pub ranges : RangesAreLawful bytes
+
+-- a script in which a range is unlawful
+pub record HasBadRange (bytes : List ℕ) : Type 0 where
+  pub good : IsGoodScript bytes
+  pub range : ¬ (RangesAreLawful bytes)
+
 -- Commands: each definition by cases on what the words name
 
--- what a command writes to `out` for its tree
-abbrev pub output_of : Result Command RunError → Tree → List ℕ
-output_of (Ok Report) tree = report_of tree
-output_of (Ok (Make pieces)) tree = summary_line tree
-output_of (Err e) tree = []
-
--- a sink took exactly the output of a command for its tree
-abbrev pub Writes : Result Command RunError → (old new : SinkView) → Tree → Type 0
-Writes command old new tree = AppendsAll old new (output_of command tree)
+-- the words name a command that reads the source
+abbrev pub ReadsSource : Result Command RunError → Type 0
+ReadsSource (Ok Report) = ⊤
+ReadsSource (Ok (Make pieces)) = ⊥
+ReadsSource (Ok Replay) = ⊤
+ReadsSource (Err e) = ⊥
 
 -- these bytes are all that a source had left, where it is observable
 abbrev pub IsAll : Option (List ℕ) → List ℕ → Type 0
 IsAll None bytes = ⊤
 IsAll (Some left) bytes = left ≡ bytes
 
--- the words name a command that reads the source
-abbrev pub ReadsSource : Result Command RunError → Type 0
-ReadsSource (Ok Report) = ⊤
-ReadsSource (Ok (Make pieces)) = ⊥
-ReadsSource (Err e) = ⊥
-
--- the text that a command parses has these bytes
+-- the input of a command has these bytes: all that it reads, or its made text
 abbrev pub IsInput : Result Command RunError → SourceView → List ℕ → Type 0
 IsInput (Ok Report) source bytes = IsAll source.left bytes
 IsInput (Ok (Make pieces)) source bytes = made pieces ≡ bytes
+IsInput (Ok Replay) source bytes = IsAll source.left bytes
 IsInput (Err e) source bytes = ⊥
+
+-- a command accepts an input: a text, or a script of lawful edits
+abbrev pub Accepts : Result Command RunError → List ℕ → Type 0
+Accepts (Ok Report) input = IsText input
+Accepts (Ok (Make pieces)) input = ⊤
+Accepts (Ok Replay) input = IsAcceptedScript input
+Accepts (Err e) input = ⊥
+
+-- the text that a command parses for its input
+abbrev pub parsed_text : Result Command RunError → List ℕ → List ℕ
+parsed_text (Ok Report) input = input
+parsed_text (Ok (Make pieces)) input = input
+parsed_text (Ok Replay) input = text_of_script input
+parsed_text (Err e) input = []
+
+-- what a command writes to `out` for its input and its tree
+abbrev pub output_of : Result Command RunError → List ℕ → Tree → List ℕ
+output_of (Ok Report) input tree = report_of tree
+output_of (Ok (Make pieces)) input tree = summary_line tree
+output_of (Ok Replay) input tree = lines_of_script input ++ report_of tree
+output_of (Err e) input tree = []
 
 -- the bytes that a command reads are observable, and P holds of them
 abbrev pub Reads : (List ℕ → Type 0) → Result Command RunError → SourceView → Type 0
 Reads P (Ok Report) source = IsSomeAnd source.left P
 Reads P (Ok (Make pieces)) source = ⊥
+Reads P (Ok Replay) source = IsSomeAnd source.left P
 Reads P (Err e) source = ⊥
 
--- what a command parses is UTF-8 within the limit: the bytes that it reads, if these are
--- observable, or a made text
-abbrev pub HasText : Result Command RunError → SourceView → Type 0
-HasText (Ok Report) source = IsSomeAnd source.left IsText
-HasText (Ok (Make pieces)) source = ⊤
-HasText (Err e) source = ⊥
+-- a command accepts its input: the bytes that it reads, if these are observable, or a made text
+abbrev pub HasAcceptedInput : Result Command RunError → SourceView → Type 0
+HasAcceptedInput (Ok Report) source = IsSomeAnd source.left IsText
+HasAcceptedInput (Ok (Make pieces)) source = ⊤
+HasAcceptedInput (Ok Replay) source = IsSomeAnd source.left IsAcceptedScript
+HasAcceptedInput (Err e) source = ⊥
 
--- P holds of the bytes that a command parses, where they are observable
-abbrev pub OnInput : (List ℕ → Type 0) → Result Command RunError → SourceView → Type 0
-OnInput P (Ok Report) source = IfSome source.left P
-OnInput P (Ok (Make pieces)) source = P (made pieces)
-OnInput P (Err e) source = ⊥
+-- P holds of the text that a command parses, where its input is observable
+abbrev pub OnParsedText : (List ℕ → Type 0) → Result Command RunError → SourceView → Type 0
+OnParsedText P (Ok Report) source = IfSome source.left P
+OnParsedText P (Ok (Make pieces)) source = P (made pieces)
+OnParsedText P (Ok Replay) source = IfSome source.left (λ script. P (text_of_script script))
+OnParsedText P (Err e) source = ⊥
 
 -- a command that reads its source reads it to the end
 abbrev pub IsReadToEnd : Result Command RunError → SourceView → Type 0
 IsReadToEnd (Ok Report) source = IsAtEnd source.left
 IsReadToEnd (Ok (Make pieces)) source = ⊤
+IsReadToEnd (Ok Replay) source = IsAtEnd source.left
 IsReadToEnd (Err e) source = ⊥
 
 -- the source failed when a command read it
 abbrev pub SourceFailed : Result Command RunError → (old new : SourceView) → Type 0
 SourceFailed command old new = ReadsSource command × SourceFaultRose old new
 
--- the tree of the text that a command parses
+-- a command accepts its input, and this is the tree of the text that it parses
+pub record IsTreeFor (command : Result Command RunError) (input : List ℕ) (tree : Tree)
+    : Type 0 where
+  pub accepted : Accepts command input
+  pub parsed : IsParsed (parsed_text command input) tree
+
+-- this is the tree of a command for its input
 abbrev pub IsTreeOf : Result Command RunError → SourceView → Tree → Type 0
-IsTreeOf command source tree = (text : List ℕ) × IsInput command source text × IsParsed text tree
+IsTreeOf command source tree = (input : List ℕ) × IsInput command source input
+    × IsTreeFor command input tree
+
+-- this is the output of a command for its input and the tree
+abbrev pub IsOutputOf : Result Command RunError → SourceView → Tree → List ℕ → Type 0
+IsOutputOf command source tree output = (input : List ℕ) × IsInput command source input
+    × IsTreeFor command input tree × (output ≡ output_of command input tree)
+
+-- a sink took exactly the output of a command for its input and the tree
+abbrev pub Writes : Result Command RunError → SourceView → (old new : SinkView) → Tree → Type 0
+Writes command source old new tree = (output : List ℕ)
+    × IsOutputOf command source tree output × AppendsAll old new output
 
 -- the leaves of a tree are the tokens of the text that a command parses
 abbrev pub HasLeavesOf : Result Command RunError → SourceView → Tree → Type 0
-HasLeavesOf command source tree = OnInput (λ text. LeavesAreTokens text tree) command source
+HasLeavesOf command source tree = OnParsedText (λ text. LeavesAreTokens text tree) command source
 
 -- the children of a tree's root are those into which the tokens of that text are divided
 abbrev pub IsDivided : Result Command RunError → SourceView → Tree → Type 0
-IsDivided command source tree = OnInput (λ text. ChildrenAreStatements text tree) command source
+IsDivided command source tree =
+    OnParsedText (λ text. ChildrenAreStatements text tree) command source
 
 -- Runs
 
@@ -155,12 +226,27 @@ pub record IsInvalidAt (at : ℕ) (command : Result Command RunError) (old new :
 abbrev pub ExceedsLimit : Result Command RunError → (old new : SourceView) → Type 0
 ExceedsLimit command old new = ReadsSource command × TakesExactly old new (limit + 1)
 
+-- a script was read to its end, and its first bad record is at an offset
+pub record IsMalformedAt (at : ℕ) (command : Result Command RunError) (old new : SourceView)
+    : Type 0 where
+  pub replay : command ≡ Ok Replay
+  pub end : IsReadToEnd command new
+  pub input : (bytes : List ℕ) × IsInput command old bytes × IsBadScript bytes
+      × (at ≡ records_len bytes)
+
+-- a script was read to its end, and the range of an edit is unlawful for the text that it meets
+pub record MeetsBadRange (command : Result Command RunError) (old new : SourceView) : Type 0 where
+  pub replay : command ≡ Ok Replay
+  pub end : IsReadToEnd command new
+  pub input : (bytes : List ℕ) × IsInput command old bytes × HasBadRange bytes
+
 -- a prefix of the command's output was written, and then the sink failed
 pub record IsCutOff (run : Run) : Type 0 where
   pub end : IsReadToEnd run.command run.source_after
   pub fault : SinkFaultRose run.out_before run.out_after
-  pub prefix : (tree : Tree) × IsTreeOf run.command run.source_before tree
-      × AppendsPrefix run.out_before run.out_after (output_of run.command tree)
+  pub prefix : (tree : Tree) × (output : List ℕ)
+      × IsOutputOf run.command run.source_before tree output
+      × AppendsPrefix run.out_before run.out_after output
 
 -- the errors of a run, and when each comes
 abbrev pub IsRunRefusal : Run → RunError → Type 0
@@ -169,13 +255,14 @@ IsRunRefusal run ReadFault = SourceFailed run.command run.source_before run.sour
 IsRunRefusal run (NotUtf8 at) = IsInvalidAt at run.command run.source_before run.source_after
 IsRunRefusal run (Front TooLong) = ExceedsLimit run.command run.source_before run.source_after
 IsRunRefusal run (Front OutOfMemory) = IsOk run.command
-IsRunRefusal run (Front BadRange) = ⊥
-IsRunRefusal run (BadScript at) = ⊥
+IsRunRefusal run (Front BadRange) = MeetsBadRange run.command run.source_before run.source_after
+IsRunRefusal run (BadScript at) = IsMalformedAt at run.command run.source_before run.source_after
 IsRunRefusal run WriteFault = IsCutOff run
 
 -- a run with this outcome, but for what it writes to `err`
 pub record EndsWith (run : Run) (outcome : Result Tree RunError) : Type 0 where
-  pub written : IfOk outcome (Writes run.command run.out_before run.out_after)
+  pub written : IfOk outcome
+      (Writes run.command run.source_before run.out_before run.out_after)
   pub tree : IfOk outcome (IsTreeOf run.command run.source_before)
   pub balanced : IfOk outcome IsTree
   pub end : OnOk outcome (IsReadToEnd run.command run.source_after)
@@ -199,6 +286,17 @@ IsParseRefusal bytes (Front BadRange) = ⊥
 IsParseRefusal bytes (BadScript at) = ⊥
 IsParseRefusal bytes WriteFault = ⊥
 
+-- the errors of applying a script within the limit, and when each comes
+abbrev pub IsReplayRefusal : List ℕ → RunError → Type 0
+IsReplayRefusal bytes BadWords = ⊥
+IsReplayRefusal bytes ReadFault = ⊥
+IsReplayRefusal bytes (NotUtf8 at) = IsInvalidText bytes × IsValidUpTo bytes at
+IsReplayRefusal bytes (Front TooLong) = ⊥
+IsReplayRefusal bytes (Front OutOfMemory) = ⊤
+IsReplayRefusal bytes (Front BadRange) = HasBadRange bytes
+IsReplayRefusal bytes (BadScript at) = IsBadScript bytes × (at ≡ records_len bytes)
+IsReplayRefusal bytes WriteFault = ⊥
+
 -- the errors before anything is written, and when each comes
 abbrev pub IsPrepareRefusal : Command → (old new : SourceView) → RunError → Type 0
 IsPrepareRefusal command old new BadWords = ⊥
@@ -206,21 +304,26 @@ IsPrepareRefusal command old new ReadFault = SourceFailed (Ok command) old new
 IsPrepareRefusal command old new (NotUtf8 at) = IsInvalidAt at (Ok command) old new
 IsPrepareRefusal command old new (Front TooLong) = ExceedsLimit (Ok command) old new
 IsPrepareRefusal command old new (Front OutOfMemory) = ⊤
-IsPrepareRefusal command old new (Front BadRange) = ⊥
-IsPrepareRefusal command old new (BadScript at) = ⊥
+IsPrepareRefusal command old new (Front BadRange) = MeetsBadRange (Ok command) old new
+IsPrepareRefusal command old new (BadScript at) = IsMalformedAt at (Ok command) old new
 IsPrepareRefusal command old new WriteFault = ⊥
 
--- a command read what it reads of a source, and this is the tree of the text that it parses, and
--- its whole output
+-- a command read what it reads of a source, and this is its tree, and its whole output
 pub record IsPrepared (command : Command) (old new : SourceView) (tree : Tree) (output : List ℕ)
     : Type 0 where
-  pub tree_of : IsTreeOf (Ok command) old tree
+  pub output_of : IsOutputOf (Ok command) old tree output
   pub balanced : IsTree tree
   pub end : IsReadToEnd (Ok command) new
-  pub output_of : output ≡ output_of (Ok command) tree
 
 -- the tree of a made text, and its summary
 pub record IsSummarized (pieces : ℕ) (tree : Tree) (output : List ℕ) : Type 0 where
   pub parsed : IsParsed (made pieces) tree
   pub balanced : IsTree tree
   pub summary : output ≡ summary_line tree
+
+-- the tree of the last text of a script, and the lines of its edits with the report of that tree
+pub record IsReplayed (script : List ℕ) (tree : Tree) (output : List ℕ) : Type 0 where
+  pub accepted : IsAcceptedScript script
+  pub parsed : IsParsed (text_of_script script) tree
+  pub balanced : IsTree tree
+  pub lines : output ≡ lines_of_script script ++ report_of tree

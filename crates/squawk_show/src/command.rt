@@ -13,6 +13,9 @@ pub enum Command {
     /// Makes a text of `pieces` pieces, from 1 to 100000, and writes the summary of its tree. Its
     /// words are `make` and the number in decimal digits, without leading zeros.
     Make { pieces: u32 },
+    /// Reads a script of edits, applies it to the empty text, and writes a line for each edit and
+    /// then the report of the last tree. Its word is `replay`.
+    Replay,
 }
 
 // The command `make` with this word after it.
@@ -37,6 +40,7 @@ pub(crate) fn parse_command(words: &[String]) -> Result<Command, RunError>
 {
     match words.len() {
         0 => Ok(Command::Report),
+        1 if words[0].as_str() == "replay" => Ok(Command::Replay),
         2 if words[0].as_str() == "make" => parse_make(words[1].as_str()),
         _ => Err(RunError::BadWords),
     }

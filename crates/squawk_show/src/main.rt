@@ -1,4 +1,5 @@
-//! The program: it writes the report of the SQL on standard input, or a summary of a made text.
+//! The program: it writes the report of the SQL on standard input, a summary of a made text, or what
+//! the edits of a script do.
 #![tactic(auto)]
 
 mod command;
@@ -12,6 +13,7 @@ mod made;
 mod program;
 mod reading;
 mod refusal;
+mod replay;
 mod report;
 mod summary;
 #[cfg(test)]

@@ -1,8 +1,8 @@
 //! The whole program, over a source and two sinks.
-ghost use Rattle.std.specs.Prelude.{◌⊎◌, ◌≡◌, ◌≢◌, ◌≤◌, ◌↔◌, ℕ, length, IfOk, IfErr, OnOk, IsErr, IsErrOf, IsOkUnless, Ok, Err};
+ghost use Rattle.std.specs.Prelude.{◌⊎◌, ◌≡◌, ◌≢◌, ◌≤◌, ◌↔◌, ℕ, length, IfOk, IfErr, OnOk, IsErr, IsErrOf, IsOkUnless, IsSomeAnd, Ok, Err};
 ghost use Rattle.squawk_events.specs.Limit.{limit};
 ghost use Rattle.squawk_show.specs.Command.{command_of, IsWithinPieces};
-ghost use Rattle.squawk_show.specs.Edge.{TakesAtMost, SinkFaultRose};
+ghost use Rattle.squawk_show.specs.Edge.{TakesAtMost, SinkFaultRose, SourceFaultRose};
 ghost use Rattle.squawk_show.specs.Made.{most_pieces};
 ghost use Rattle.squawk_show.specs.Run as spec;
 ghost use Rattle.squawk_show.specs.Run.{HasLeavesOf, IsDivided, IsReadToEnd, WritesErrorLine};
@@ -11,6 +11,7 @@ ghost use Rattle.squawk_tree.specs.Tree.{IsTree};
 use crate::command::parse_command;
 use crate::made::make_text;
 use crate::refusal::write_error_line;
+use crate::replay::prepare_replay;
 use crate::summary::make_summary;
 use crate::{Command, RunError, Sink, Source, append_report, read_all, write_whole};
 use squawk_events::{FrontError, LIMIT};
@@ -90,6 +91,7 @@ fn prepare<S: Source>(
     match command {
         Command::Report => prepare_report(alloc, source),
         Command::Make { pieces } => prepare_summary(alloc, pieces),
+        Command::Replay => prepare_replay(alloc, source),
     }
 }
 
@@ -140,7 +142,7 @@ pub fn run<S: Source, K: Sink, E: Sink>(
 
     // With status 0 `out` took exactly the output of the command for the tree of its text.
     ensures written { IfOk result.outcome
-        (spec.Writes (command_of words.now) (K.view out.old) (K.view out.new)) }
+        (spec.Writes (command_of words.now) (S.view source.old) (K.view out.old) (K.view out.new)) }
     ensures tree { IfOk result.outcome (spec.IsTreeOf (command_of words.now) (S.view source.old)) }
     ensures balanced { IfOk result.outcome IsTree }
     ensures end { OnOk result.outcome (IsReadToEnd (command_of words.now) (S.view source.new)) }
@@ -167,10 +169,11 @@ pub fn run<S: Source, K: Sink, E: Sink>(
     ensures untouched { IfErr result.outcome (λ e. e ≢ RunError.WriteFault → out.new ≡ out.old) }
     ensures error_line { IfErr result.outcome (WritesErrorLine (E.view err.old) (E.view err.new)) }
 
-    // Without a fault of the source, the text decides the status unless memory runs out. Each
-    // clause has one case: a text within the limit, where `out` has no fault either; bytes within
-    // the limit that are not UTF-8; more bytes than the limit.
-    ensures complete { spec.HasText (command_of words.now) (S.view source.old)
+    // Without a fault of the source, the input decides the status unless memory runs out. Each
+    // clause has one case: an accepted input, where `out` has no fault either; bytes within the
+    // limit that are not UTF-8; more bytes than the limit; a text that is no script; a script with
+    // an unlawful range.
+    ensures complete { spec.HasAcceptedInput (command_of words.now) (S.view source.old)
         → ¬ (spec.SourceFailed (command_of words.now) (S.view source.old) (S.view source.new))
         → ¬ (SinkFaultRose (K.view out.old) (K.view out.new))
         → (result.status ≡ 0) ⊎ (result.status ≡ 6) }
@@ -180,6 +183,14 @@ pub fn run<S: Source, K: Sink, E: Sink>(
     ensures over_limit { spec.Reads spec.IsOverLimit (command_of words.now) (S.view source.old)
         → ¬ (spec.SourceFailed (command_of words.now) (S.view source.old) (S.view source.new))
         → (result.status ≡ 5) ⊎ (result.status ≡ 6) }
+    ensures bad_script { command_of words.now ≡ Ok Command.Replay
+        → IsSomeAnd (S.view source.old).left spec.IsBadScript
+        → ¬ (SourceFaultRose (S.view source.old) (S.view source.new))
+        → (result.status ≡ 8) ⊎ (result.status ≡ 6) }
+    ensures bad_range { command_of words.now ≡ Ok Command.Replay
+        → IsSomeAnd (S.view source.old).left spec.HasBadRange
+        → ¬ (SourceFaultRose (S.view source.old) (S.view source.new))
+        → (result.status ≡ 9) ⊎ (result.status ≡ 6) }
 {
     match run_command(alloc, words, source, out) {
         Ok(parse) => Shown {

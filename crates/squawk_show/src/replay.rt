@@ -1,0 +1,82 @@
+//! The command `replay`.
+ghost use Rattle.std.specs.Prelude.{◌≡◌, ◌≢◌, ◌≤◌, length, IfOk, IfErr, Err};
+ghost use Rattle.squawk_cut.specs.PlainTells.{plain_tells};
+ghost use Rattle.squawk_events.specs.Limit.{limit};
+ghost use Rattle.squawk_events.specs.Refusals.{IsOutOfMemory};
+ghost use Rattle.squawk_lexer.specs.declared.token.Strings.{Strings};
+ghost use Rattle.squawk_show.specs.Edge.{TakesAtMost};
+ghost use Rattle.squawk_show.specs.Run as spec;
+ghost use Rattle.squawk_statements.specs.declared.division.Division.{Division};
+ghost use Rattle.squawk_tree.specs.Tree.{IsTree};
+
+use crate::{Command, RunError, Source, append_report, read_all};
+use squawk_cut::laws::plain_fronts_parse;
+use squawk_events::{FrontError, LIMIT};
+use squawk_replay::{Document, PlainFront, Replayed, replay};
+use squawk_script::Script;
+use squawk_tree::Parse;
+use squawk_tree::laws::parses_have_the_tokens;
+use std::alloc::Global;
+
+// Makes the tree of the text of a document.
+fn parse_document(alloc: Global, document: &Document) -> Result<Parse, FrontError>
+    requires short { length document.now.text ≤ limit }
+    requires plain { plain_tells document.now.front.strings document.now.front.division
+        ≡ plain_tells Strings.Standard Division.Flat }
+    ensures parsed { IfOk result (spec.IsParsed document.now.text) }
+    ensures balanced { IfOk result IsTree }
+    ensures refusals { IfErr result IsOutOfMemory }
+{
+    plain_fronts_parse();
+    parses_have_the_tokens();
+    let _text = document.text();
+    document.parse(alloc)
+}
+
+// Applies a script to the empty text. Returns the tree of the last text, and the lines of the edits
+// with the report of that tree after them.
+fn replay_script(alloc: Global, script: &Script<'_>) -> Result<(Parse, Vec<u8>), RunError>
+    requires { spec.IsGoodScript script.now }
+    ensures replayed { IfOk result (λ r. spec.IsReplayed script.now r.0 r.1.items) }
+    ensures refusals { IfErr result (spec.IsReplayRefusal script.now) }
+{
+    let Replayed { document, lines } = replay(alloc, script)?;
+    let parse = parse_document(alloc, &document)?;
+    // The tree does not borrow from the document: without it the report needs less memory.
+    drop(document);
+    let output = append_report(alloc, lines, &parse)?;
+    Ok((parse, output))
+}
+
+// Checks that bytes are a script, and then applies it.
+fn replay_bytes(alloc: Global, bytes: &[u8]) -> Result<(Parse, Vec<u8>), RunError>
+    requires { length bytes.now ≤ limit }
+    ensures replayed { IfOk result (λ r. spec.IsReplayed bytes.now r.0 r.1.items) }
+    ensures refusals { IfErr result (spec.IsReplayRefusal bytes.now) }
+{
+    match std::str::from_utf8(bytes) {
+        Ok(text) => match Script::new(text) {
+            Ok(script) => replay_script(alloc, &script),
+            Err(error) => Err(RunError::BadScript { at: error.at }),
+        },
+        Err(error) => Err(RunError::NotUtf8 {
+            at: error.valid_up_to(),
+        }),
+    }
+}
+
+// Reads a script to its end, and makes the tree of its last text and the output of `replay`.
+pub(crate) fn prepare_replay<S: Source>(
+    alloc: Global,
+    source: &mut S,
+) -> Result<(Parse, Vec<u8>), RunError>
+    ensures prepared { IfOk result (λ r.
+        spec.IsPrepared Command.Replay (S.view source.old) (S.view source.new) r.0 r.1.items) }
+    ensures refusals { IfErr result
+        (spec.IsPrepareRefusal Command.Replay (S.view source.old) (S.view source.new)) }
+    ensures taken { result ≢ Err (RunError.Front FrontError.TooLong)
+        → TakesAtMost (S.view source.old) (S.view source.new) limit }
+{
+    let bytes = read_all(alloc, source, LIMIT)?;
+    replay_bytes(alloc, &bytes)
+}
