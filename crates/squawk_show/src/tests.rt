@@ -2,6 +2,7 @@
 mod commands;
 mod errors;
 mod lines;
+mod replay;
 mod streams;
 
 use crate::{MemorySink, MemorySource, ReadSource, RunError, read_all, run};

@@ -97,6 +97,21 @@ const ROWS: &[Row<'static>] = &[
         words: &["select"],
         out: None,
     },
+    Row {
+        name: "replay_with_word",
+        words: &["replay", "x"],
+        out: None,
+    },
+    Row {
+        name: "replay_uppercase",
+        words: &["Replay"],
+        out: None,
+    },
+    Row {
+        name: "replays",
+        words: &["replays"],
+        out: None,
+    },
 ];
 
 // Runs the program with the words of a row. It reads nothing.
