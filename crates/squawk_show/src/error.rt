@@ -24,8 +24,7 @@ pub enum RunError {
     /// bad range.
     #[error("{0}")]
     Front(FrontError),
-    /// The script of edits is malformed; `at` is the offset in bytes of its first bad record. No
-    /// command returns it yet.
+    /// The script of edits is malformed; `at` is the offset in bytes of its first bad record.
     #[error("bad script at {at}")]
     BadScript { at: usize },
     /// The sink of the output failed.
