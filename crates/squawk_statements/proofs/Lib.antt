@@ -9,3 +9,4 @@ mod Groups
 mod WorkedRows
 mod LongestLaw
 mod EndLaws
+mod Stay

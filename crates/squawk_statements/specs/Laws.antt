@@ -1,10 +1,11 @@
--- What the definitions mean: the longest row, the first token that ends a statement, and the one
--- nesting of groups.
+-- What the definitions mean: the longest row, the first token that ends a statement, the one nesting
+-- of groups, and what decides the first child.
 use Rattle.std.specs.Prelude.{ℕ, suc, ◌≡◌, ◌≤◌, ◌<◌, Bool, true, false, IsTrue, List, [], ◌∷◌, ◌++◌, length, map, take, Some, None, slice_index_or, All, Contains}
 use Rattle.squawk_events.specs.declared.steps.Step.TheVariants.{Token}
 use Rattle.squawk_kinds.specs.Role.{Role, role, Other, is_trivia}
 use Rattle.squawk_statements.specs.Children.{ends_statement, open_groups_after, statement_end, trimmed_len}
 use Rattle.squawk_statements.specs.Groups.{Nesting, nesting_kinds, nesting_steps, is_nesting, stays_open}
+use Rattle.squawk_statements.specs.First.{first_shape}
 use Rattle.squawk_statements.specs.declared.division.Division.{Division}
 use Rattle.squawk_statements.specs.Opening.{Row, rows, is_prefix, longest}
 use Rattle.squawk_statements.specs.Plain.{body_steps}
@@ -82,3 +83,16 @@ EndingTokenIsLast = (division : Division) (kinds : List ℕ) (kind : ℕ)
     → IsTrue (stays_open division 0 kinds)
     → IsTrue (ends_statement division (groups_left_open 0 (map role kinds)) (role kind))
     → body_steps division 0 (kinds ++ kind ∷ []) ≡ body_steps division 0 kinds ++ Token kind ∷ []
+
+-- the first child has at least one token, and no more than there are
+abbrev pub FirstChildrenWithin : Type 0
+FirstChildrenWithin = (division : Division) (kinds : List ℕ) → 0 < length kinds
+    → (0 < (first_shape division kinds).tokens)
+    × ((first_shape division kinds).tokens ≤ length kinds)
+
+-- a closed first child whose kinds are `own` is the first child of every list that begins with them
+abbrev pub FirstChildrenStay : Type 0
+FirstChildrenStay = (division : Division) (own rest other : List ℕ)
+    → IsTrue (first_shape division (own ++ rest)).closed
+    → (first_shape division (own ++ rest)).tokens ≡ length own
+    → first_shape division (own ++ other) ≡ first_shape division (own ++ rest)

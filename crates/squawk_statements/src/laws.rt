@@ -24,3 +24,10 @@ pub fn statements_end_first()
     ensures open { law.NothingEndsOpenStatement }
     ensures trimmed { law.LastTokenIsNotTrivia }
 {}
+
+/// The first child has at least one token, and no more than there are. Where it is closed, it is
+/// decided by its own tokens: it stays the same whatever follows them.
+pub fn first_children_stay()
+    ensures within { law.FirstChildrenWithin }
+    ensures stays { law.FirstChildrenStay }
+{}
