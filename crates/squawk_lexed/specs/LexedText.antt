@@ -1,9 +1,10 @@
 -- A text with its tokens, as a parser reads them.
-use Rattle.std.specs.Prelude.{⊤, ℕ, ◌+◌, ◌&&◌, Bool, true, nat_lt, List, [], ◌∷◌, take, slice_range}
+use Rattle.std.specs.Prelude.{⊤, ℕ, ◌+◌, ◌&&◌, Bool, true, nat_lt, IsTrue, List, [], ◌∷◌, take, slice_range}
 use Rattle.std.specs.Str.{chars, IsCharBoundary}
 use Rattle.squawk_lexer.specs.declared.token.Token.{Token}
 use Rattle.squawk_lexer.specs.declared.token.Strings.{Strings}
 use Rattle.squawk_lexer.specs.Cut.{tokens}
+use Rattle.squawk_lexer.specs.Flags.{AreCut}
 use Rattle.squawk_lexed.specs.LexedToken.{LexedToken}
 use Rattle.squawk_lexed.specs.Leaf.{leaf_kind}
 use Rattle.squawk_lexed.specs.Faults.{faults, faults_within}
@@ -67,3 +68,8 @@ lexed_part text at ts = record {
   text = slice_range text at (at + tokens_len ts);
   tokens = lexed_tokens text at ts;
 }
+
+-- tokens that the lexer cut are sound, wherever they stand in whatever text
+abbrev pub CutTokensAreSound : Type 0
+CutTokensAreSound = (text : List ℕ) (at : ℕ) (ts : List Token) → AreCut ts
+    → IsTrue (are_sound (lexed_tokens text at ts))

@@ -3,8 +3,10 @@ ghost use Rattle.std.specs.Prelude.{◌≡◌, ℕ, List};
 ghost use Rattle.squawk_kinds.specs.Role.{role};
 ghost use Rattle.squawk_lexer.specs.declared.token.TokenKind.{TokenKind};
 ghost use Rattle.squawk_lexed.specs.Leaf.{leaf_kind, token_role};
+ghost use Rattle.squawk_lexed.specs.LexedText.{CutTokensAreSound};
 ghost use Rattle.squawk_lexed.specs.WeaveLaws.{TriviaIsWoven};
 
+use squawk_lexer::laws::flags_lie_within;
 use squawk_words::laws::keywords_are_plain;
 
 /// The leaf of a token has the token's role, whatever the text of the token.
@@ -20,3 +22,10 @@ pub fn leaves_keep_roles()
 pub fn trivia_is_woven()
     ensures { TriviaIsWoven }
 {}
+
+/// Tokens that the lexer cut have at least one byte each, and their faults lie in them.
+pub fn cut_tokens_are_sound()
+    ensures { CutTokensAreSound }
+{
+    flags_lie_within();
+}

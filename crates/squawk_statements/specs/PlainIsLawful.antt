@@ -280,3 +280,9 @@ child_balanced d kinds =
 pub child_tokens : (d : Division) (kinds : List ℕ) → token_kinds (child_steps d kinds) ≡ kinds
 child_tokens d kinds = ap token_kinds (sym (append-nil (child_steps d kinds)))
     ∙ tokens_child d kinds [] ∙ append-nil kinds
+
+-- and the numbers of its errors are lawful
+pub child_numbers : (d : Division) (kinds : List ℕ)
+    → has_lawful_numbers (child_steps d kinds) ≡ true
+child_numbers d kinds = ap has_lawful_numbers (sym (append-nil (child_steps d kinds)))
+    ∙ numbers_child d kinds []

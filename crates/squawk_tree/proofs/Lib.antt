@@ -20,4 +20,9 @@ pub mod SinkLemmas
 pub mod ChildTokenLemmas
 pub mod ChildBodyLemmas
 pub mod ChildShapeLemmas
+pub mod ChildSpanLemmas
+pub mod ChildErrorLemmas
 pub mod ChildLoopLemmas
+pub mod ChildTrees
+pub mod BuiltLemmas
+pub mod StatementParse

@@ -44,7 +44,7 @@ one_tile : (at len : ℕ) (b : Bool) → 0 < len → b ≡ true
 one_tile at len b some h = grind (arith, nat_tests)
 
 -- the tokens tile the text
-tiles_token_steps : (at end : ℕ) (ts : List LexedToken) → are_sound ts ≡ true
+pub tiles_token_steps : (at end : ℕ) (ts : List LexedToken) → are_sound ts ≡ true
     → at + total_len ts ≡ end → tiles at (leaves (token_steps at ts)) end ≡ true
 tiles_token_steps at end [] s e = grind (arith, nat_tests)
 tiles_token_steps at end (t ∷ ts) s e =
@@ -54,7 +54,7 @@ tiles_token_steps at end (t ∷ ts) s e =
 -- ---- the numbers of errors
 
 -- whether the number of each `Error` step is from 1 to 10
-abbrev has_lawful_numbers : List StrStep → Bool
+abbrev pub has_lawful_numbers : List StrStep → Bool
 has_lawful_numbers [] = true
 has_lawful_numbers (out.Enter kind ∷ xs) = has_lawful_numbers xs
 has_lawful_numbers (out.Token kind start end ∷ xs) = has_lawful_numbers xs
@@ -83,7 +83,7 @@ numbers_trivia_step at ts y ys =
     ∙ numbers_leading_trivia at ts (y ∷ ys)
 
 -- the woven steps have the numbers of the output
-numbers_woven : (at : ℕ) (ts : List LexedToken) (xs : List Step)
+pub numbers_woven : (at : ℕ) (ts : List LexedToken) (xs : List Step)
     → has_lawful_numbers (weave_from at ts xs) ≡ lawful_numbers xs
 numbers_woven at ts [] = refl
 numbers_woven at ts (Enter kind ∷ xs) = numbers_trivia_step at ts (out.Enter kind) _
@@ -100,7 +100,7 @@ numbers_woven at ts (Error number ∷ xs) =
 -- ---- the errors lie in the text
 
 -- the faults of a token lie in it
-faults_lie_within : (end at len : ℕ) (fs : List Fault) → faults_within len fs ≡ true
+pub faults_lie_within : (end at len : ℕ) (fs : List Fault) → faults_within len fs ≡ true
     → at + len ≤ end → All (IsErrorWithin end) (errors_at at fs)
 faults_lie_within end at len [] h le = All-nil (IsErrorWithin end)
 faults_lie_within end at len (f ∷ fs) h le =

@@ -7,6 +7,7 @@ pub mod Taken
 pub mod Errors
 pub mod ParseOf
 pub mod Join
+pub mod Children
 pub mod Parses
 -- what contracts of private functions and invariants cite
 pub mod NodeRanges

@@ -11,6 +11,7 @@ ghost use Rattle.squawk_lexer.specs.Cut.{tokens, token_ends};
 ghost use Rattle.squawk_lexer.specs.declared.token.Strings.{Strings};
 ghost use Rattle.squawk_statements.specs.Children.{parts, children, first_child_len};
 ghost use Rattle.squawk_statements.specs.declared.division.Division.{Division};
+ghost use Rattle.squawk_tree.specs.Children.{ChildrenAreTrees};
 ghost use Rattle.squawk_tree.specs.Join.{child_of, join};
 ghost use Rattle.squawk_tree.specs.ParseOf.{lexed_role, parse_of, parse_of_tokens, roles_of, tree_of};
 ghost use Rattle.squawk_tree.specs.Steps.{leaves, ranges_through, root_children, root_child};
@@ -58,3 +59,9 @@ pub fn parses_have_the_tokens()
 {
     leaves_keep_roles();
 }
+
+/// A child is one leaf or a balanced list of steps. Its tokens cover it from its start to its end,
+/// its errors lie in it, it has a leaf for each of its tokens, and its node is that of their kinds.
+pub fn children_are_trees()
+    ensures { ChildrenAreTrees }
+{}
