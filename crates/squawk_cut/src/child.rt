@@ -1,0 +1,118 @@
+//! Children of the root.
+ghost use Rattle.std.specs.Prelude.{◌≡◌};
+ghost use Rattle.squawk_cut.specs.ChildValue.{IsChild, child_value};
+
+use squawk_events::{ParseError, StrStep};
+use squawk_kinds::SyntaxKind;
+use squawk_statements::ChildShape;
+use std::marker::Model;
+
+/// A child of the root. The offsets in its steps and errors are in bytes, from its own start.
+///
+/// A leaf has one `Token` step; a node has its `Enter`, what it holds and its `Exit`. The ranges of
+/// its tokens follow one another from 0 to its length. No `Error` is among its steps.
+#[derive(Drop)]
+pub struct Child {
+    tokens: usize,
+    bytes: u32,
+    node: Option<SyntaxKind>,
+    closed: bool,
+    steps: Vec<StrStep>,
+    errors: Vec<ParseError>,
+}
+
+impl Model for Child {
+    ghost use Rattle.squawk_cut.specs.ChildValue.{ChildValue, IsChild};
+
+    ghost Value = { ChildValue };
+
+    ghost view = { λ c. record {
+      tokens = c.tokens;
+      bytes = c.bytes;
+      node = c.node;
+      closed = c.closed;
+      steps = c.steps.items;
+      errors = c.errors.items;
+    } };
+
+    ghost invariant = { λ c. IsChild (record {
+      tokens = c.tokens;
+      bytes = c.bytes;
+      node = c.node;
+      closed = c.closed;
+      steps = c.steps.items;
+      errors = c.errors.items;
+    }) };
+}
+
+impl Child {
+    // The child of this shape, with this length, these steps and these errors.
+    pub(crate) fn new(
+        shape: ChildShape,
+        bytes: u32,
+        steps: Vec<StrStep>,
+        errors: Vec<ParseError>,
+    ) -> Child
+        requires { IsChild (child_value shape
+            (record { steps = steps.items; errors = errors.items; len = bytes })) }
+        ensures { result ≡ child_value shape
+            (record { steps = steps.items; errors = errors.items; len = bytes }) }
+    {
+        Child {
+            tokens: shape.tokens,
+            bytes,
+            node: shape.node,
+            closed: shape.closed,
+            steps,
+            errors,
+        }
+    }
+
+    /// The number of its tokens, trivia included.
+    pub fn tokens(&self) -> usize
+        ensures { result ≡ self.now.tokens }
+    {
+        self.tokens
+    }
+
+    /// Its length in bytes.
+    pub fn bytes(&self) -> u32
+        ensures { result ≡ self.now.bytes }
+    {
+        self.bytes
+    }
+
+    /// The kind of its node; `None` for a leaf.
+    pub fn node(&self) -> Option<SyntaxKind>
+        ensures { result ≡ self.now.node }
+    {
+        self.node
+    }
+
+    /// Whether no later token can belong to it: `false` only for a statement that no token ends.
+    pub fn closed(&self) -> bool
+        ensures { result ≡ self.now.closed }
+    {
+        self.closed
+    }
+
+    /// Its steps, in order.
+    ///
+    /// The clause `sound` holds for every child: it is a leaf or a balanced list of steps without
+    /// `Error`, its tokens cover it from 0 to `bytes`, each error lies in it and has a number from
+    /// 1 to 10, and `tokens` and `node` are those of its steps.
+    pub fn steps(&self) -> &[StrStep]
+        ensures steps { result.now ≡ self.now.steps }
+        ensures sound { IsChild self.now }
+    {
+        &self.steps
+    }
+
+    /// Its errors, in the order of its tokens.
+    pub fn errors(&self) -> &[ParseError]
+        ensures errors { result.now ≡ self.now.errors }
+        ensures sound { IsChild self.now }
+    {
+        &self.errors
+    }
+}
