@@ -1,0 +1,3 @@
+mod PlainTokens
+mod LexedLemmas
+mod KindSteps

@@ -1,0 +1,61 @@
+-- Tokens with their texts, as a parser reads them.
+use Rattle.std.proofs.Common.{◌≡◌, ℕ, zero, suc, ◌+◌, ◌-◌, List, [], ◌∷◌, length, take, drop, map, refl, sym, ap, ◌∙◌, arith}
+use Rattle.std.proofs.lemmas.List.{drop-drop}
+use Rattle.std.specs.List.{slice_range}
+use Rattle.squawk_cut.specs.Children.{lexemes}
+use Rattle.squawk_cut.specs.PlainTells.{lexed_of, kinds_of}
+use Rattle.squawk_cut.specs.Tells.{Lexeme}
+use Rattle.squawk_kinds.specs.Role.{role}
+use Rattle.squawk_lexed.specs.Leaf.{leaf_kind}
+use Rattle.squawk_lexed.specs.LexedText.{lexed_tokens}
+use Rattle.squawk_lexed.specs.LexedToken.{LexedToken}
+use Rattle.squawk_lexed.specs.Faults.{faults}
+use Rattle.squawk_lexed.specs.Stored as stored
+use Rattle.squawk_lexer.specs.declared.token.Token.{Token}
+use Rattle.squawk_tree.specs.ParseOf.{lexed_role}
+
+-- the slice of so many bytes from an offset on
+pub slice_at : (text : List ℕ) (at len : ℕ) → slice_range text at (at + len) ≡ take len (drop at text)
+slice_at text at len = ap (λ n. take n (drop at text)) (let e : at + len - at ≡ len = omega arith in e)
+
+-- the text after a token
+pub after_token : (text : List ℕ) (at len : ℕ) → drop len (drop at text) ≡ drop (at + len) text
+after_token text at len = drop-drop len at text
+
+-- tokens of a text are read by a parser with their texts
+pub lexed_same : (text : List ℕ) (at : ℕ) (ts : List Token)
+    → lexed_tokens text at ts ≡ map lexed_of (lexemes (drop at text) ts)
+unfolding lexed_of
+lexed_same text at [] = refl
+lexed_same text at (t ∷ ts) =
+    ap (λ own. token_of (leaf_kind t.kind own) t ∷ lexed_tokens text (at + t.len) ts)
+    (slice_at text at t.len)
+    ∙ ap (λ rest. token_of (leaf_kind t.kind (take t.len (drop at text))) t ∷ rest)
+    (lexed_same text (at + t.len) ts
+    ∙ ap (λ u. map lexed_of (lexemes u ts)) (sym (after_token text at t.len)))
+  where
+    token_of : ℕ → Token → LexedToken
+    token_of kind t = record { kind = kind; len = t.len; faults = faults t }
+
+-- as many tokens with their texts as tokens
+pub length_lexemes : (u : List ℕ) (ts : List Token) → length (lexemes u ts) ≡ length ts
+length_lexemes u [] = refl
+length_lexemes u (t ∷ ts) = ap suc (length_lexemes (drop t.len u) ts)
+
+-- the first n tokens with their texts
+pub take_lexemes : (u : List ℕ) (n : ℕ) (ts : List Token)
+    → lexemes u (take n ts) ≡ take n (lexemes u ts)
+take_lexemes u zero ts = refl
+take_lexemes u (suc n) [] = refl
+take_lexemes u (suc n) (t ∷ ts) =
+    ap (λ xs. record { token = t; text = take t.len u } ∷ xs) (take_lexemes (drop t.len u) n ts)
+
+-- the roles of tokens are those of their kinds
+pub roles_same : (xs : List Lexeme) → map lexed_role (map lexed_of xs) ≡ map role (kinds_of xs)
+roles_same [] = refl
+roles_same (x ∷ xs) = ap (λ rs. role (lexed_of x).kind ∷ rs) (roles_same xs)
+
+-- and their kinds those of the tokens as a parser reads them
+pub kinds_same : (xs : List Lexeme) → stored.kinds_of (map lexed_of xs) ≡ kinds_of xs
+kinds_same [] = refl
+kinds_same (x ∷ xs) = ap (λ ks. (lexed_of x).kind ∷ ks) (kinds_same xs)
