@@ -2,17 +2,22 @@
 use Rattle.std.proofs.Common.{◌≡◌, ℕ, zero, suc, ◌+◌, ◌-◌, List, [], ◌∷◌, length, take, drop, map, refl, sym, ap, ◌∙◌, arith}
 use Rattle.std.proofs.lemmas.List.{drop-drop}
 use Rattle.std.specs.List.{slice_range}
+use Rattle.std.specs.Prelude.{Result, Ok, Err, IfOk}
 use Rattle.squawk_cut.specs.Children.{lexemes}
 use Rattle.squawk_cut.specs.PlainTells.{lexed_of, kinds_of}
 use Rattle.squawk_cut.specs.Tells.{Lexeme}
+use Rattle.squawk_events.specs.declared.error.FrontError.{FrontError}
 use Rattle.squawk_kinds.specs.Role.{role}
 use Rattle.squawk_lexed.specs.Leaf.{leaf_kind}
-use Rattle.squawk_lexed.specs.LexedText.{lexed_tokens}
+use Rattle.squawk_lexed.specs.LexedText.{LexedText, lexed_tokens, lexed_part}
 use Rattle.squawk_lexed.specs.LexedToken.{LexedToken}
 use Rattle.squawk_lexed.specs.Faults.{faults}
 use Rattle.squawk_lexed.specs.Stored as stored
 use Rattle.squawk_lexer.specs.declared.token.Token.{Token}
-use Rattle.squawk_tree.specs.ParseOf.{lexed_role}
+use Rattle.squawk_statements.specs.Plain.{plain}
+use Rattle.squawk_statements.specs.declared.division.Division.{Division}
+use Rattle.squawk_tree.specs.ParseOf.{lexed_role, parse_by, parse_of_tokens}
+use Rattle.squawk_tree.specs.Tree.{Tree}
 
 -- the slice of so many bytes from an offset on
 pub slice_at : (text : List ℕ) (at len : ℕ) → slice_range text at (at + len) ≡ take len (drop at text)
@@ -59,3 +64,15 @@ roles_same (x ∷ xs) = ap (λ rs. role (lexed_of x).kind ∷ rs) (roles_same xs
 pub kinds_same : (xs : List Lexeme) → stored.kinds_of (map lexed_of xs) ≡ kinds_of xs
 kinds_same [] = refl
 kinds_same (x ∷ xs) = ap (λ ks. (lexed_of x).kind ∷ ks) (kinds_same xs)
+
+-- the parse of the tokens that a parser reads, by the grammar of the division
+pub parse_own : (result : Result Tree FrontError) (d by : Division) (lexed : LexedText)
+    (text : List ℕ) (at : ℕ) (own : List Token) → d ≡ by → lexed ≡ lexed_part text at own
+    → IfOk result (λ parse. parse ≡ parse_by (plain by) lexed.tokens)
+    → IfOk result (λ parse.
+    parse ≡ parse_of_tokens d (map lexed_of (lexemes (drop at text) own)))
+parse_own (Err e) d by lexed text at own is lexed_is h = h
+parse_own (Ok parse) d by lexed text at own is lexed_is h =
+    h ∙ ap (λ (l : LexedText). parse_of_tokens by l.tokens) lexed_is
+    ∙ ap (parse_of_tokens by) (lexed_same text at own)
+    ∙ ap (λ e. parse_of_tokens e (map lexed_of (lexemes (drop at text) own))) (sym is)

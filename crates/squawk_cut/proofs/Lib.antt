@@ -1,3 +1,4 @@
 mod PlainTokens
 mod LexedLemmas
 mod KindSteps
+mod OnlyChild

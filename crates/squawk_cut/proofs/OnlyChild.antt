@@ -1,0 +1,186 @@
+-- The only child of a parse of the tokens of a first child.
+use Rattle.std.proofs.Common.{◌≡◌, ℕ, zero, suc, ◌+◌, ◌-◌, ◌<◌, ◌≤◌, true, List, [], ◌∷◌, ◌++◌, length, length-append, take, drop, map, refl, sym, ap, subst, ◌∙◌, arith}
+use Rattle.std.proofs.lemmas.List.{append-nil, length-map, length-take-le, take-map}
+use Rattle.squawk_cut.specs.ChildValue.{ChildValue, IsChild, child_value}
+use Rattle.squawk_cut.specs.Children.{lexemes}
+use Rattle.squawk_cut.specs.Join.{only_child}
+use Rattle.squawk_cut.specs.PlainTells.{lexed_of, kinds_of, plain_child}
+use Rattle.squawk_cut.specs.Tells.{Lexeme}
+use Rattle.squawk_events.specs.declared.steps.ParseError.{ParseError}
+use Rattle.squawk_events.specs.declared.steps.StrStep.{StrStep}
+use Rattle.squawk_events.specs.declared.steps.StrStep.TheVariants.{Enter, Token, Exit, Error}
+use Rattle.squawk_kinds.specs.Role.{role}
+use Rattle.squawk_kinds.specs.declared.numbers.TheConstants.Number.{SOURCE_FILE}
+use Rattle.squawk_lexed.specs.LexedText.{CutTokensAreSound, EndAtBoundaries, are_sound}
+use Rattle.squawk_lexed.specs.LexedToken.{LexedToken}
+use Rattle.squawk_lexed.specs.Stored as stored
+use Rattle.squawk_lexer.specs.Flags.{AreCut}
+use Rattle.squawk_lexer.specs.declared.token.Token as lexer
+use Rattle.squawk_statements.specs.Children.{first_child, first_child_len}
+use Rattle.squawk_statements.specs.First.{first_shape, child_node}
+use Rattle.squawk_statements.specs.declared.division.Division.{Division}
+use Rattle.squawk_statements.specs.declared.first.ChildShape.{ChildShape}
+use Rattle.squawk_tree.specs.Children.{ChildrenAreTrees, IsChildOf, own_tokens}
+use Rattle.squawk_tree.specs.Join.{ChildTree, child_of, join, shifted_step, shifted_error}
+use Rattle.squawk_tree.specs.ParseOf.{lexed_role, parse_of_tokens}
+use Rattle.squawk_tree.specs.Tree.{Tree}
+use Rattle.squawk_cut.proofs.LexedLemmas.{lexed_same, take_lexemes, length_lexemes, roles_same, kinds_same}
+
+-- ---- the only child of a joined tree
+
+-- a shift by nothing changes no step, and no error
+steps_unshifted : (xs : List StrStep) → map (shifted_step 0) xs ≡ xs
+steps_unshifted [] = refl
+steps_unshifted (Enter kind ∷ xs) = ap (λ ys. Enter kind ∷ ys) (steps_unshifted xs)
+steps_unshifted (Token kind start end ∷ xs) =
+    ap (λ m. Token kind m (end + 0) ∷ map (shifted_step 0) xs)
+    (let e : start + 0 ≡ start = omega arith in e)
+    ∙ ap (λ m. Token kind start m ∷ map (shifted_step 0) xs)
+    (let e : end + 0 ≡ end = omega arith in e)
+    ∙ ap (λ ys. Token kind start end ∷ ys) (steps_unshifted xs)
+steps_unshifted (Exit ∷ xs) = ap (λ ys. Exit ∷ ys) (steps_unshifted xs)
+steps_unshifted (Error number at ∷ xs) =
+    ap (λ m. Error number m ∷ map (shifted_step 0) xs) (let e : at + 0 ≡ at = omega arith in e)
+    ∙ ap (λ ys. Error number at ∷ ys) (steps_unshifted xs)
+
+errors_unshifted : (es : List ParseError) → map (shifted_error 0) es ≡ es
+errors_unshifted [] = refl
+errors_unshifted (e ∷ es) =
+    ap (λ m. record { start = m; end = e.end + 0; number = e.number }
+    ∷ map (shifted_error 0) es) (let p : e.start + 0 ≡ e.start = omega arith in p)
+    ∙ ap (λ m. record { start = e.start; end = m; number = e.number }
+    ∷ map (shifted_error 0) es) (let p : e.end + 0 ≡ e.end = omega arith in p)
+    ∙ ap (λ ys. e ∷ ys) (errors_unshifted es)
+
+-- the elements before the last
+take_before_last : {A : Type 0} (xs : List A) (x : A)
+    → take (length (xs ++ x ∷ []) - 1) (xs ++ x ∷ []) ≡ xs
+take_before_last [] x = refl
+take_before_last (y ∷ ys) x =
+    let some : length (ys ++ x ∷ []) ≡ length ys + 1 = length-append ys (x ∷ []) in
+    ap (λ n. take n (y ∷ (ys ++ x ∷ [])))
+    (let e : suc (length (ys ++ x ∷ [])) - 1 ≡ suc (length (ys ++ x ∷ []) - 1) =
+    omega (arith, some) in e)
+    ∙ ap (λ zs. y ∷ zs) (take_before_last ys x)
+
+-- the only child of the join of one child is that child
+only_of_join : (child : ChildTree) → only_child (join (child ∷ [])) ≡ child
+only_of_join child =
+    let steps : map (shifted_step 0) child.steps ++ [] ≡ child.steps =
+    append-nil (map (shifted_step 0) child.steps) ∙ steps_unshifted child.steps in
+    let own : List StrStep → List StrStep =
+    λ xs. take (length (Enter SOURCE_FILE ∷ xs ++ Exit ∷ []) - 1 - 1) (xs ++ Exit ∷ []) in
+    let less : (xs : List StrStep) → length (Enter SOURCE_FILE ∷ xs ++ Exit ∷ []) - 1 - 1
+    ≡ length (xs ++ Exit ∷ []) - 1 = λ xs. omega arith in
+    let inner : own child.steps ≡ child.steps =
+    ap (λ n. take n (child.steps ++ Exit ∷ [])) (less child.steps)
+    ∙ take_before_last child.steps Exit in
+    let errors : map (shifted_error 0) child.errors ++ [] ≡ child.errors =
+    append-nil (map (shifted_error 0) child.errors) ∙ errors_unshifted child.errors in
+    ap (λ xs. tree (own xs) (map (shifted_error 0) child.errors ++ []) (child.len + 0)) steps
+    ∙ ap (λ xs. tree xs (map (shifted_error 0) child.errors ++ []) (child.len + 0)) inner
+    ∙ ap (λ es. tree child.steps es (child.len + 0)) errors
+    ∙ ap (tree child.steps child.errors) (let e : child.len + 0 ≡ child.len = omega arith in e)
+  where
+    tree : List StrStep → List ParseError → ℕ → ChildTree
+    tree xs es n = record { steps = xs; errors = es; len = n }
+
+-- ---- the parse of the tokens of a first child
+
+-- the law that such a parse is that child under a root
+abbrev pub ChildrenStandAlone : Type 0
+ChildrenStandAlone = (division : Division) (token : LexedToken) (tokens : List LexedToken)
+    → are_sound (own_tokens division (token ∷ tokens)) ≡ true
+    → parse_of_tokens division (own_tokens division (token ∷ tokens))
+    ≡ join (child_of division (own_tokens division (token ∷ tokens)) ∷ [])
+
+-- the tokens of the first child, as a parser reads them
+own_same : (d : Division) (xs : List Lexeme)
+    → map lexed_of (take (first_shape d (kinds_of xs)).tokens xs)
+    ≡ own_tokens d (map lexed_of xs)
+own_same d xs =
+    ap (λ roles. map lexed_of (take (first_child d roles).tokens xs)) (sym (roles_same xs))
+    ∙ sym (take-map lexed_of (first_child d (map lexed_role (map lexed_of xs))).tokens xs)
+
+-- what the parse says of the first child of tokens
+pub record IsFirst (d : Division) (xs : List Lexeme) (shape : ChildShape) (parse : Tree)
+    : Type 0 where
+  pub child : IsChild (child_value shape (only_child parse))
+  pub value : child_value shape (only_child parse) ≡ plain_child d xs
+
+-- the parse of the tokens of a first child is that child under a root
+first_by : ChildrenStandAlone → ChildrenAreTrees → (d : Division) (x : Lexeme) (xs : List Lexeme)
+    (shape : ChildShape) (parse : Tree) → shape ≡ first_shape d (kinds_of (x ∷ xs))
+    → parse ≡ parse_of_tokens d (map lexed_of (take shape.tokens (x ∷ xs)))
+    → are_sound (own_tokens d (map lexed_of (x ∷ xs))) ≡ true
+    → length (take shape.tokens (x ∷ xs)) ≡ shape.tokens → IsFirst d (x ∷ xs) shape parse
+first_by alone trees d x xs shape parse shape_is parse_is sound size =
+    let all = x ∷ xs in
+    let first = first_shape d (kinds_of all) in
+    let own = map lexed_of (take first.tokens all) in
+    let same : own ≡ own_tokens d (map lexed_of all) = own_same d all in
+    let tree : parse ≡ join (child_of d own ∷ []) =
+    parse_is
+    ∙ ap (λ (s : ChildShape). parse_of_tokens d (map lexed_of (take s.tokens all))) shape_is
+    ∙ ap (parse_of_tokens d) same ∙ alone d (lexed_of x) (map lexed_of xs) sound
+    ∙ ap (λ ts. join (child_of d ts ∷ [])) (sym same) in
+    let only : only_child parse ≡ child_of d own =
+    ap only_child tree ∙ only_of_join (child_of d own) in
+    let value : child_value shape (only_child parse) ≡ plain_child d all =
+    ap (child_value shape) only ∙ ap (λ s. child_value s (child_of d own)) shape_is in
+    let is_child : IsChildOf own (child_of d own) =
+    subst (λ ts. IsChildOf ts (child_of d ts)) (sym same)
+    (trees d (lexed_of x) (map lexed_of xs) sound) in
+    let count : length own ≡ first.tokens =
+    length-map (take first.tokens all) lexed_of
+    ∙ subst (λ (s : ChildShape). length (take s.tokens all) ≡ s.tokens) shape_is size in
+    record {
+      child = subst IsChild (sym value) (record {
+        tree = is_child.tree;
+        tokens_are = sym count ∙ sym is_child.tokens;
+        node_is = sym (is_child.node ∙ ap child_node (kinds_same (take first.tokens all)
+            ∙ sym (take-map (λ (y : Lexeme). (lexed_of y).kind) first.tokens all)));
+      });
+      value = value;
+    }
+
+-- the first n of tokens that the lexer cut, and that end at character boundaries
+pub take_cut : (n : ℕ) (ts : List lexer.Token) → AreCut ts → AreCut (take n ts)
+take_cut zero ts cut = tt
+take_cut (suc n) [] cut = tt
+take_cut (suc n) (t ∷ ts) cut = (cut.0, take_cut n ts cut.1)
+
+pub take_laid : (text : List ℕ) (at n : ℕ) (ts : List lexer.Token) → EndAtBoundaries text at ts
+    → EndAtBoundaries text at (take n ts)
+take_laid text at zero ts laid = tt
+take_laid text at (suc n) [] laid = tt
+take_laid text at (suc n) (t ∷ ts) laid = (laid.0, take_laid text (at + t.len) n ts laid.1)
+
+-- the same of tokens that the lexer cut, as they stand in a text
+pub first_of_tokens : ChildrenStandAlone → ChildrenAreTrees → CutTokensAreSound → (d : Division)
+    (text : List ℕ) (at : ℕ) (tokens : List lexer.Token) (shape : ChildShape) (parse : Tree)
+    → 0 < length tokens → AreCut tokens → shape.tokens ≤ length tokens
+    → shape ≡ first_shape d (kinds_of (lexemes (drop at text) tokens))
+    → parse ≡ parse_of_tokens d
+    (map lexed_of (lexemes (drop at text) (take shape.tokens tokens)))
+    → IsFirst d (lexemes (drop at text) tokens) shape parse
+first_of_tokens alone trees law d text at [] shape parse some cut le shape_is parse_is =
+    absurd (omega arith)
+first_of_tokens alone trees law d text at (t ∷ ts) shape parse some cut le shape_is parse_is =
+    let u = drop at text in
+    let own = take shape.tokens (t ∷ ts) in
+    let own_lexemes : lexemes u own ≡ take shape.tokens (lexemes u (t ∷ ts)) =
+    take_lexemes u shape.tokens (t ∷ ts) in
+    let count : length (lexemes u (t ∷ ts)) ≡ length (t ∷ ts) = length_lexemes u (t ∷ ts) in
+    let read : map lexed_of (lexemes u own) ≡ own_tokens d (map lexed_of (lexemes u (t ∷ ts))) =
+    ap (map lexed_of) own_lexemes
+    ∙ ap (λ (s : ChildShape). map lexed_of (take s.tokens (lexemes u (t ∷ ts)))) shape_is
+    ∙ own_same d (lexemes u (t ∷ ts)) in
+    let cut_own : AreCut own = take_cut shape.tokens (t ∷ ts) cut in
+    let sound : are_sound (own_tokens d (map lexed_of (lexemes u (t ∷ ts)))) ≡ true =
+    ap are_sound (sym read) ∙ ap are_sound (sym (lexed_same text at own)) ∙ law text at own cut_own
+    in
+    first_by alone trees d (record { token = t; text = take t.len u }) (lexemes (drop t.len u) ts)
+    shape parse shape_is
+    (parse_is ∙ ap (λ xs. parse_of_tokens d (map lexed_of xs)) own_lexemes) sound
+    (length-take-le shape.tokens (lexemes u (t ∷ ts)) (omega (arith, le, count)))
