@@ -2,3 +2,4 @@ mod PlainTokens
 mod LexedLemmas
 mod KindSteps
 mod OnlyChild
+mod PlainChildren
