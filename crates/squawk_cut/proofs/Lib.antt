@@ -3,3 +3,4 @@ mod LexedLemmas
 mod KindSteps
 mod OnlyChild
 mod PlainChildren
+mod JoinSteps

@@ -74,6 +74,7 @@ fn push_errors(
 }
 
 // Appends a child that begins at `at`.
+#[tactic(auto, using(crate::proofs::JoinSteps::child_steps_within))]
 fn push_child(sink: &mut TreeSink, child: &Child, at: u32) -> Result<(), FrontError>
     requires small { at + child.now.bytes < 2 ^ 32 }
     ensures steps { OnOk result
