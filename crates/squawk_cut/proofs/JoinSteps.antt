@@ -49,9 +49,11 @@ tiled_within (Token kind start end ∷ xs) at n free h =
     let longer : at < end = ltb-true at end more.0 in
     let inside : end ≤ n = rest.1 in
     let low : nat_le start n ≡ true = grind (arith, nat_tests) in
-    let high : nat_le end n ≡ true = grind (arith, nat_tests) in
-    (and_both (nat_le start n && nat_le end n) (steps_within n xs)
-    (and_both (nat_le start n) (nat_le end n) low high) rest.0, omega arith)
+    let high : nat_le end n ≡ true = grind (arith, nat_tests) in (
+      and_both (nat_le start n && nat_le end n) (steps_within n xs)
+          (and_both (nat_le start n) (nat_le end n) low high) rest.0,
+      omega arith,
+    )
 
 -- the offsets of a child's steps lie within its bytes
 pub child_steps_within : (c : ChildValue) → IsChild c → steps_within c.bytes c.steps ≡ true

@@ -4,3 +4,4 @@ mod KindSteps
 mod OnlyChild
 mod PlainChildren
 mod JoinSteps
+mod TokenSteps

@@ -107,9 +107,11 @@ laid_from progress (suc n) strings division start text at (b ∷ bs) is within u
     let rest : drop (at + t.len) text ≡ drop t.len u =
     sym (drop-drop t.len at text) ∙ ap (drop t.len) is in
     subst (EndAtBoundaries text at)
-    (sym (first_token (plain_tells strings division) start b bs some))
-    (end, laid_from progress n strings division false text (at + t.len) (drop t.len u) rest
-    end.0 (IsUtf8-drop u t.len utf8 lawful.1) less)
+    (sym (first_token (plain_tells strings division) start b bs some)) (
+      end,
+      laid_from progress n strings division false text (at + t.len) (drop t.len u) rest
+          end.0 (IsUtf8-drop u t.len utf8 lawful.1) less,
+    )
 
 pub tokens_laid : TextsProgress → (strings : Strings) (division : Division) (start : Bool)
     (text : List ℕ) (at : ℕ) → IsUtf8 text → IsCharBoundary text at

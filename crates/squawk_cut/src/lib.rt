@@ -6,6 +6,8 @@ mod child;
 mod front;
 pub mod laws;
 mod plain;
+#[cfg(test)]
+mod tests;
 mod tree;
 
 pub use child::Child;
