@@ -165,7 +165,8 @@ tiles_shifted n (Token kind start end ∷ xs) a e h =
     let rest = tiles_shifted n xs end e more.1 in
     and_both (start + n == a + n) (nat_lt (a + n) (end + n)
     && tiles (end + n) (leaves (map (shifted_step n) xs)) (e + n)) (same_shifted start a n parts.0)
-    (and_both (nat_lt (a + n) (end + n)) (tiles (end + n) (leaves (map (shifted_step n) xs)) (e + n))
+    (and_both (nat_lt (a + n) (end + n))
+    (tiles (end + n) (leaves (map (shifted_step n) xs)) (e + n))
     (below_shifted a end n more.0) rest)
 tiles_shifted n (Exit ∷ xs) a e h = tiles_shifted n xs a e h
 tiles_shifted n (Error number at ∷ xs) a e h = tiles_shifted n xs a e h
@@ -192,7 +193,8 @@ pub errors_more : (at b : ℕ) (c : ChildValue) (es more : List ParseError) → 
     → IsChild c → more ≡ es ++ map (shifted_error at) c.errors → All (EndsBy at) es
     → All (EndsBy (at + b)) more
 errors_more at b c es more b_is child push within =
-    subst (λ n. All (EndsBy (at + n)) more) (sym b_is) (subst (All (EndsBy (at + c.bytes))) (sym push)
+    subst (λ n. All (EndsBy (at + n)) more) (sym b_is)
+    (subst (All (EndsBy (at + c.bytes))) (sym push)
     (All-append (EndsBy (at + c.bytes)) es (map (shifted_error at) c.errors)
     (All-weaker (EndsBy at) (EndsBy (at + c.bytes)) (λ e le. further e le) es within)
     (All-map (EndsBy (at + c.bytes)) (shifted_error at) c.errors
@@ -307,8 +309,8 @@ pub tree_is : (result : Result Tree FrontError) (children : List ChildValue) (i 
     → IfOk result (λ parse. parse.errors ≡ last_errors)
     → IfOk result (λ parse. parse.len ≡ tokens_end last)
     → IfOk result (λ parse. parse ≡ join_of children)
-tree_is (Err e) children i at steps last errors last_errors past last_is errors_are all s es n a b l =
-    a
+tree_is (Err e) children i at steps last errors last_errors past last_is errors_are all s es n a
+    b l = a
 tree_is (Ok parse) children i at steps last errors last_errors past last_is errors_are all s es n
     a b l =
     let done : drop i children ≡ [] = drop_all i children past in

@@ -20,8 +20,10 @@ use Rattle.squawk_tree.specs.ParseOf.{lexed_role, parse_by, parse_of_tokens}
 use Rattle.squawk_tree.specs.Tree.{Tree}
 
 -- the slice of so many bytes from an offset on
-pub slice_at : (text : List ℕ) (at len : ℕ) → slice_range text at (at + len) ≡ take len (drop at text)
-slice_at text at len = ap (λ n. take n (drop at text)) (let e : at + len - at ≡ len = omega arith in e)
+pub slice_at : (text : List ℕ) (at len : ℕ)
+    → slice_range text at (at + len) ≡ take len (drop at text)
+slice_at text at len =
+    ap (λ n. take n (drop at text)) (let e : at + len - at ≡ len = omega arith in e)
 
 -- the text after a token
 pub after_token : (text : List ℕ) (at len : ℕ) → drop len (drop at text) ≡ drop (at + len) text

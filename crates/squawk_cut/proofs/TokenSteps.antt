@@ -1,7 +1,7 @@
 -- The tokens of a text that a front cuts one after the other.
-use Rattle.std.proofs.Common.{◌≡◌, ℕ, ◌+◌, ◌<◌, ◌≤◌, ◌==◌, Bool, true, false, List, [], ◌∷◌, ◌++◌, length, length-drop, drop, append_assoc, refl, sym, ap, subst, ◌∙◌, arith}
+use Rattle.std.proofs.Common.{◌≡◌, ℕ, ◌+◌, ◌<◌, ◌==◌, Bool, true, false, List, [], ◌∷◌, ◌++◌, length, length-drop, drop, append_assoc, refl, sym, ap, subst, ◌∙◌, arith}
 use Rattle.std.proofs.lemmas.Bool.Decides.{nat_tests}
-use Rattle.std.proofs.lemmas.List.{append-nil, drop-drop, drop_all}
+use Rattle.std.proofs.lemmas.List.{drop-drop}
 use Rattle.std.proofs.lemmas.Str.{IsUtf8-drop, IsCharBoundary-from_rest}
 use Rattle.std.specs.Str.{IsUtf8, IsCharBoundary}
 use Rattle.squawk_cut.specs.Tells.{Tells, IsLawful}
@@ -10,7 +10,8 @@ use Rattle.squawk_lexer.specs.declared.token.Token.{Token}
 use Rattle.squawk_cut.proofs.PlainTokens.{first_token}
 
 -- one more token
-pub record IsTokenStep (t : Tells) (text : List ℕ) (from len : ℕ) (more all : List Token) : Type 0 where
+pub record IsTokenStep (t : Tells) (text : List ℕ) (from len : ℕ) (more all : List Token)
+    : Type 0 where
   pub some : 0 < len
   pub boundary : IsCharBoundary text (from + len)
   pub so_far : more ++ tokens_from t 0 (from + len == 0) (drop (from + len) text) ≡ all
@@ -54,11 +55,3 @@ token_step t now law same text from x tokens more all utf8 boundary inside token
           (tokens_from t 0 (from + x.len == 0) (drop (from + x.len) text))
           ∙ ap (λ ts. tokens ++ ts) (sym rest) ∙ so_far;
     }
-
--- where the text ends, these are all tokens
-pub tokens_end : (t : Tells) (text : List ℕ) (from : ℕ) (tokens all : List Token)
-    → length text ≤ from → tokens ++ tokens_from t 0 (from == 0) (drop from text) ≡ all
-    → tokens ≡ all
-tokens_end t text from tokens all past so_far =
-    sym (append-nil tokens)
-    ∙ ap (λ u. tokens ++ tokens_from t 0 (from == 0) u) (sym (drop_all from text past)) ∙ so_far

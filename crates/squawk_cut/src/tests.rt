@@ -73,7 +73,10 @@ fn joined<F: Front>(alloc: Global, front: &mut F, text: &str) -> Result<Parse, F
     let children = children_of(alloc, front, text)?;
     let mut len = 0u64;
     for i in 0..children.len() {
-        len = len.saturating_add(u64::from(children[i].bytes()));
+        if len > LIMIT {
+            return Err(FrontError::BadRange);
+        }
+        len += u64::from(children[i].bytes());
     }
     if len > LIMIT {
         return Err(FrontError::BadRange);

@@ -1,5 +1,5 @@
--- What the definitions mean: the longest row, the first token that ends a statement, the one nesting
--- of groups, and what decides the first child.
+-- What the definitions mean: the longest row, the first token that ends a statement, the one
+-- nesting of groups, and what decides the first child.
 use Rattle.std.specs.Prelude.{ℕ, suc, ◌≡◌, ◌≤◌, ◌<◌, Bool, true, false, IsTrue, List, [], ◌∷◌, ◌++◌, length, map, take, Some, None, slice_index_or, All, Contains}
 use Rattle.squawk_events.specs.declared.steps.Step.TheVariants.{Token}
 use Rattle.squawk_kinds.specs.Role.{Role, role, Other, is_trivia}

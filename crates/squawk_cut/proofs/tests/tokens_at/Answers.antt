@@ -5,7 +5,8 @@ use Rattle.squawk_cut.proofs.tests.tokens_at.Goals as goal
 pub loop-from-smaller : goal.loop-from-smaller
 loop-from-smaller g c =
     let inv = c.loop-from.invariant in
-    let some = (token_step (g.F.Front.tells c.args.front.now) _ (g.met.F.Front.lawful c.args.front.now)
+    let some = (token_step (g.F.Front.tells c.args.front.now)
+    (g.F.Front.tells c.loop-from.front) (g.met.F.Front.lawful c.args.front.now)
     inv.same c.args.text.now c.loop-from.from c.cut_next-token.result _ _ _ c.utf8.text inv.boundary
     c.loop-from-test.true c.cut_next-token.ensures.token c.in_ok-push.ensures.items inv.so_far).some
     in
@@ -16,7 +17,8 @@ loop-from-smaller g c =
 pub loop-from-preserved : goal.loop-from-preserved
 loop-from-preserved g c =
     let inv = c.loop-from.invariant in
-    let step = token_step (g.F.Front.tells c.args.front.now) _ (g.met.F.Front.lawful c.args.front.now)
+    let step = token_step (g.F.Front.tells c.args.front.now)
+    (g.F.Front.tells c.loop-from.front) (g.met.F.Front.lawful c.args.front.now)
     inv.same c.args.text.now c.loop-from.from c.cut_next-token.result _ _ _ c.utf8.text inv.boundary
     c.loop-from-test.true c.cut_next-token.ensures.token c.in_ok-push.ensures.items inv.so_far in
     record {
