@@ -7,13 +7,13 @@ use Rattle.squawk_cut.specs.Shape.{Shape}
 use Rattle.squawk_cut.specs.Tells.{Tells, IsLawful, Lexeme, lexeme_bytes}
 use Rattle.squawk_cut.specs.Tokens.{tokens_from, tokens_of}
 use Rattle.squawk_cut.specs.Children.{lexemes, children_from}
-use Rattle.squawk_document.specs.Places.{total, spliced}
-use Rattle.squawk_document.specs.ChildPlaces.{child_tokens, AllClosed}
+use Rattle.squawk_document.specs.Boundaries.{splice, total_len}
+use Rattle.squawk_document.specs.FrontPart.{AllClosed, child_tokens}
 use Rattle.squawk_cut.specs.Join.{child_bytes}
 use Rattle.squawk_cut.specs.Children.{children_of}
-use Rattle.squawk_document.proofs.Tests.{Positive}
+use Rattle.squawk_document.proofs.OffsetTests.{Positive}
 use Rattle.squawk_document.proofs.Cutting.{tokens_total, tokens_positive}
-use Rattle.squawk_document.proofs.EditSteps.{from_end, behind_range}
+use Rattle.squawk_document.proofs.TokenEditSteps.{from_end, after_range}
 
 -- ---- tokens with their texts
 
@@ -21,17 +21,17 @@ pub length-lexemes : (u : List ℕ) (ts : List Token) → length (lexemes u ts) 
 length-lexemes u [] = refl
 length-lexemes u (x ∷ xs) = ap suc (length-lexemes (drop x.len u) xs)
 
-pub bytes-lexemes : (u : List ℕ) (ts : List Token) → lexeme_bytes (lexemes u ts) ≡ total ts
+pub bytes-lexemes : (u : List ℕ) (ts : List Token) → lexeme_bytes (lexemes u ts) ≡ total_len ts
 bytes-lexemes u [] = refl
 bytes-lexemes u (x ∷ xs) = ap (λ n. x.len + n) (bytes-lexemes (drop x.len u) xs)
 
-pub lexemes-append : (u : List ℕ) (xs ys : List Token) → lexemes u (xs ++ ys) ≡ lexemes u xs ++ lexemes (drop (total xs) u) ys
+pub lexemes-append : (u : List ℕ) (xs ys : List Token) → lexemes u (xs ++ ys) ≡ lexemes u xs ++ lexemes (drop (total_len xs) u) ys
 lexemes-append u [] ys = refl
 lexemes-append u (x ∷ xs) ys =
-    ap (λ ls. record { token = x; text = take x.len u } ∷ ls) (lexemes-append (drop x.len u) xs ys ∙ ap (λ w. lexemes (drop x.len u) xs ++ lexemes w ys) (drop-drop (total xs) x.len u))
+    ap (λ ls. record { token = x; text = take x.len u } ∷ ls) (lexemes-append (drop x.len u) xs ys ∙ ap (λ w. lexemes (drop x.len u) xs ++ lexemes w ys) (drop-drop (total_len xs) x.len u))
 
 -- the texts of tokens that lie in a part that two texts share
-pub lexemes_shared : (same rest other : List ℕ) (ts : List Token) → total ts ≤ length same → lexemes (same ++ rest) ts ≡ lexemes (same ++ other) ts
+pub lexemes_shared : (same rest other : List ℕ) (ts : List Token) → total_len ts ≤ length same → lexemes (same ++ rest) ts ≡ lexemes (same ++ other) ts
 lexemes_shared same rest other [] h = refl
 lexemes_shared same rest other (x ∷ xs) h =
     let low : x.len ≤ length same = omega arith in
@@ -42,15 +42,15 @@ lexemes_shared same rest other (x ∷ xs) h =
     ap (λ w. record { token = x; text = w } ∷ lexemes (drop x.len (same ++ rest)) xs) head
     ∙ ap (λ ls. record { token = x; text = take x.len (same ++ other) } ∷ ls) (ap (λ w. lexemes w xs) left ∙ tail ∙ ap (λ w. lexemes w xs) (sym right))
 
-pub drop-lexemes : (u : List ℕ) (ts : List Token) (k : ℕ) → k ≤ length ts → drop k (lexemes u ts) ≡ lexemes (drop (total (take k ts)) u) (drop k ts)
+pub drop-lexemes : (u : List ℕ) (ts : List Token) (k : ℕ) → k ≤ length ts → drop k (lexemes u ts) ≡ lexemes (drop (total_len (take k ts)) u) (drop k ts)
 drop-lexemes u ts k h =
     ap (λ xs. drop k (lexemes u xs)) (sym (take-append-drop k ts)) ∙ ap (drop k) (lexemes-append u (take k ts) (drop k ts))
-    ∙ drop_at (lexemes u (take k ts)) (lexemes (drop (total (take k ts)) u) (drop k ts)) k (length-lexemes u (take k ts) ∙ length-take-le k ts h)
+    ∙ drop_at (lexemes u (take k ts)) (lexemes (drop (total_len (take k ts)) u) (drop k ts)) k (length-lexemes u (take k ts) ∙ length-take-le k ts h)
 
 pub take-lexemes : (u : List ℕ) (ts : List Token) (k : ℕ) → k ≤ length ts → take k (lexemes u ts) ≡ lexemes u (take k ts)
 take-lexemes u ts k h =
     ap (λ xs. take k (lexemes u xs)) (sym (take-append-drop k ts)) ∙ ap (take k) (lexemes-append u (take k ts) (drop k ts))
-    ∙ take_at (lexemes u (take k ts)) (lexemes (drop (total (take k ts)) u) (drop k ts)) k (length-lexemes u (take k ts) ∙ length-take-le k ts h)
+    ∙ take_at (lexemes u (take k ts)) (lexemes (drop (total_len (take k ts)) u) (drop k ts)) k (length-lexemes u (take k ts) ∙ length-take-le k ts h)
 
 -- ---- children, one by one
 
@@ -120,10 +120,10 @@ rest_of t law xs (c ∷ cs) ds e =
 -- ---- children that two texts share
 
 -- closed children within tokens that two lists begin with are the same in both
-pub kept_children : (t : Tells) → IsLawful t → (same rest other : List Lexeme) (cs ds : List Shape) → AllClosed cs → child_tokens cs ≤ length same → children_from t 0 (same ++ rest) ≡ cs ++ ds
+pub shared_children : (t : Tells) → IsLawful t → (same rest other : List Lexeme) (cs ds : List Shape) → AllClosed cs → child_tokens cs ≤ length same → children_from t 0 (same ++ rest) ≡ cs ++ ds
     → children_from t 0 (same ++ other) ≡ cs ++ children_from t 0 (drop (child_tokens cs) (same ++ other))
-kept_children t law same rest other [] ds closed h e = refl
-kept_children t law same rest other (c ∷ cs) ds closed h e =
+shared_children t law same rest other [] ds closed h e = refl
+shared_children t law same rest other (c ∷ cs) ds closed h e =
     let f = first_child t law (same ++ rest) c (cs ++ ds) e in
     let low : c.tokens ≤ length same = omega arith in
     let split : (ws : List Lexeme) → same ++ ws ≡ take c.tokens same ++ (drop c.tokens same ++ ws) = λ ws. ap (λ xs. xs ++ ws) (sym (take-append-drop c.tokens same)) ∙ append_assoc (take c.tokens same) (drop c.tokens same) ws in
@@ -133,53 +133,53 @@ kept_children t law same rest other (c ∷ cs) ds closed h e =
     let is : t.child_at (same ++ other) ≡ c = ap t.child_at (split other) ∙ stays ∙ old_is in
     let some : 0 < c.tokens = f.some in
     let first = children_first t law (same ++ other) (omega (arith, length-append same other)) in
-    let behind_old = drop-append-le c.tokens same rest low in
-    let behind = drop-append-le c.tokens same other low in
-    let tail = kept_children t law (drop c.tokens same) rest other cs ds closed.1 (omega (arith, length-drop c.tokens same)) (ap (children_from t 0) (sym behind_old) ∙ f.rest) in
+    let after_old = drop-append-le c.tokens same rest low in
+    let after = drop-append-le c.tokens same other low in
+    let tail = shared_children t law (drop c.tokens same) rest other cs ds closed.1 (omega (arith, length-drop c.tokens same)) (ap (children_from t 0) (sym after_old) ∙ f.rest) in
     first
     ∙ ap (λ (d : Shape). d ∷ children_from t 0 (drop d.tokens (same ++ other))) is
-    ∙ ap (λ xs. c ∷ children_from t 0 xs) behind
+    ∙ ap (λ xs. c ∷ children_from t 0 xs) after
     ∙ ap (λ ds. c ∷ ds) tail
-    ∙ ap (λ xs. (c ∷ cs) ++ children_from t 0 xs) (ap (drop (child_tokens cs)) (sym behind) ∙ drop-drop (child_tokens cs) c.tokens (same ++ other))
+    ∙ ap (λ xs. (c ∷ cs) ++ children_from t 0 xs) (ap (drop (child_tokens cs)) (sym after) ∙ drop-drop (child_tokens cs) c.tokens (same ++ other))
 
 -- ---- from a common place on
 
 -- the children behind some, by the place in the text where these end
-pub children_behind : (t : Tells) → IsLawful t → (u : List ℕ) (c : Shape) (cs ds : List Shape) → IsUtf8 u → children_of t u ≡ (c ∷ cs) ++ ds
+pub children_after : (t : Tells) → IsLawful t → (u : List ℕ) (c : Shape) (cs ds : List Shape) → IsUtf8 u → children_of t u ≡ (c ∷ cs) ++ ds
     → ds ≡ children_from t 0 (lexemes (drop (child_bytes (c ∷ cs)) u) (tokens_from t 0 false (drop (child_bytes (c ∷ cs)) u)))
-children_behind t law u c cs ds utf8 e =
+children_after t law u c cs ds utf8 e =
     let ts = tokens_of t u in
     let k = child_tokens (c ∷ cs) in
     let r = rest_of t law (lexemes u ts) (c ∷ cs) ds e in
     let within : k ≤ length ts = subst (λ n. k ≤ n) (length-lexemes u ts) r.within in
-    let bytes : child_bytes (c ∷ cs) ≡ total (take k ts) = r.bytes ∙ ap lexeme_bytes (take-lexemes u ts k within) ∙ bytes-lexemes u (take k ts) in
+    let bytes : child_bytes (c ∷ cs) ≡ total_len (take k ts) = r.bytes ∙ ap lexeme_bytes (take-lexemes u ts k within) ∙ bytes-lexemes u (take k ts) in
     let f = first_child t law (lexemes u ts) c (cs ++ ds) e in
     let some : 0 < k = omega (arith, f.some) in
-    let filled : 0 < total (take k ts) = some_total ts k utf8 refl some within in
-    let tokens : drop k ts ≡ tokens_from t 0 false (drop (total (take k ts)) u) = from_end t law u ts k utf8 refl filled in
+    let filled : 0 < total_len (take k ts) = some_total ts k utf8 refl some within in
+    let tokens : drop k ts ≡ tokens_from t 0 false (drop (total_len (take k ts)) u) = from_end t law u ts k utf8 refl filled in
     r.children
     ∙ ap (children_from t 0) (drop-lexemes u ts k within)
-    ∙ ap (λ xs. children_from t 0 (lexemes (drop (total (take k ts)) u) xs)) tokens
+    ∙ ap (λ xs. children_from t 0 (lexemes (drop (total_len (take k ts)) u) xs)) tokens
     ∙ ap (λ n. children_from t 0 (lexemes (drop n u) (tokens_from t 0 false (drop n u)))) (sym bytes)
   where
-    positive_take : (xs : List Token) (k : ℕ) → Positive xs → 0 < k → k ≤ length xs → 0 < total (take k xs)
+    positive_take : (xs : List Token) (k : ℕ) → Positive xs → 0 < k → k ≤ length xs → 0 < total_len (take k xs)
     positive_take [] k p some within = absurd (omega arith)
     positive_take (x ∷ xs) zero p some within = absurd (omega arith)
     positive_take (x ∷ xs) (suc k) p some within = let first : 0 < x.len = p.0 in omega arith
 
-    some_total : (ts : List Token) (k : ℕ) → IsUtf8 u → tokens_of t u ≡ ts → 0 < k → k ≤ length ts → 0 < total (take k ts)
+    some_total : (ts : List Token) (k : ℕ) → IsUtf8 u → tokens_of t u ≡ ts → 0 < k → k ≤ length ts → 0 < total_len (take k ts)
     some_total ts k utf8 is some within = positive_take ts k (tokens_positive t law true u ts utf8 is) some within
 
 -- where children end at a place of the old text and at its new place, the same children follow
-pub back_same : (t : Tells) → IsLawful t → (text new : List ℕ) (start end : ℕ) (c d : Shape) (cs ds old_rest new_rest : List Shape) → IsUtf8 text → IsUtf8 (spliced text start end new) → start ≤ length text
-    → children_of t text ≡ (c ∷ cs) ++ old_rest → children_of t (spliced text start end new) ≡ (d ∷ ds) ++ new_rest
+pub back_same : (t : Tells) → IsLawful t → (text new : List ℕ) (start end : ℕ) (c d : Shape) (cs ds old_rest new_rest : List Shape) → IsUtf8 text → IsUtf8 (splice text start end new) → start ≤ length text
+    → children_of t text ≡ (c ∷ cs) ++ old_rest → children_of t (splice text start end new) ≡ (d ∷ ds) ++ new_rest
     → start + length new ≤ child_bytes (d ∷ ds) → child_bytes (c ∷ cs) ≡ child_bytes (d ∷ ds) - (start + length new) + end
     → new_rest ≡ old_rest
-back_same t law text new start end c d cs ds old_rest new_rest utf8 new_utf8 inside old_is new_is low place =
-    let same = behind_range text new start end (child_bytes (d ∷ ds)) (child_bytes (c ∷ cs)) inside low place in
-    children_behind t law (spliced text start end new) d ds new_rest new_utf8 new_is
+back_same t law text new start end c d cs ds old_rest new_rest utf8 new_utf8 inside old_is new_is low offset =
+    let same = after_range text new start end (child_bytes (d ∷ ds)) (child_bytes (c ∷ cs)) inside low offset in
+    children_after t law (splice text start end new) d ds new_rest new_utf8 new_is
     ∙ ap (λ w. children_from t 0 (lexemes w (tokens_from t 0 false w))) same
-    ∙ sym (children_behind t law text c cs old_rest utf8 old_is)
+    ∙ sym (children_after t law text c cs old_rest utf8 old_is)
 
 take_bytes : (n : ℕ) (xs : List Lexeme) → lexeme_bytes (take n xs) ≤ lexeme_bytes xs
 take_bytes zero xs = omega arith

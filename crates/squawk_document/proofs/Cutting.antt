@@ -7,8 +7,8 @@ use Rattle.std.proofs.lemmas.Str.{IsUtf8-append, IsUtf8-take, IsUtf8-drop, IsUtf
 use Rattle.squawk_lexer.specs.declared.token.Token.{Token}
 use Rattle.squawk_cut.specs.Tells.{Tells, IsLawful, HasTwo}
 use Rattle.squawk_cut.specs.Tokens.{tokens_from}
-use Rattle.squawk_document.specs.Places.{total}
-use Rattle.squawk_document.proofs.Tests.{Positive}
+use Rattle.squawk_document.specs.Boundaries.{total_len}
+use Rattle.squawk_document.proofs.OffsetTests.{Positive}
 
 tokens_inside : (t : Tells) (n : ℕ) (u : List ℕ) → tokens_from t n false u ≡ tokens_from t 0 false (drop n u)
 tokens_inside t zero [] = refl
@@ -65,7 +65,7 @@ none_left : (u : List ℕ) → length u ≡ 0 → u ≡ []
 none_left [] e = refl
 none_left (c ∷ cs) e = absurd (omega arith)
 
-pub tokens_total : (t : Tells) → IsLawful t → (s : Bool) (u : List ℕ) (xs : List Token) → IsUtf8 u → tokens_from t 0 s u ≡ xs → total xs ≡ length u
+pub tokens_total : (t : Tells) → IsLawful t → (s : Bool) (u : List ℕ) (xs : List Token) → IsUtf8 u → tokens_from t 0 s u ≡ xs → total_len xs ≡ length u
 tokens_total t law s [] [] utf8 e = refl
 tokens_total t law s (c ∷ cs) [] utf8 e = let first = tokens_first t law s (c ∷ cs) utf8 (omega arith) in absurd (cc)
 tokens_total t law s u (x ∷ xs) utf8 e =
@@ -79,7 +79,7 @@ pub record IsRest (t : Tells) (u : List ℕ) (at : ℕ) (ys : List Token) : Type
   pub boundary : IsCharBoundary u at
   pub utf8 : IsUtf8 (drop at u)
 
-pub restart : (t : Tells) → IsLawful t → (s : Bool) (u : List ℕ) (x : Token) (xs ys : List Token) → IsUtf8 u → tokens_from t 0 s u ≡ x ∷ (xs ++ ys) → IsRest t u (total (x ∷ xs)) ys
+pub restart : (t : Tells) → IsLawful t → (s : Bool) (u : List ℕ) (x : Token) (xs ys : List Token) → IsUtf8 u → tokens_from t 0 s u ≡ x ∷ (xs ++ ys) → IsRest t u (total_len (x ∷ xs)) ys
 restart t law s u x [] ys utf8 e =
     let f = first_of t law s u x ys utf8 e in
     let same : x.len + 0 ≡ x.len = omega arith in
@@ -87,10 +87,10 @@ restart t law s u x [] ys utf8 e =
 restart t law s u x (y ∷ xs) ys utf8 e =
     let f = first_of t law s u x (y ∷ (xs ++ ys)) utf8 e in
     let r = restart t law false (drop x.len u) y xs ys f.rest_utf8 f.rest in
-    let same : drop (total (y ∷ xs)) (drop x.len u) ≡ drop (x.len + total (y ∷ xs)) u = drop-drop (total (y ∷ xs)) x.len u in
+    let same : drop (total_len (y ∷ xs)) (drop x.len u) ≡ drop (x.len + total_len (y ∷ xs)) u = drop-drop (total_len (y ∷ xs)) x.len u in
     record {
       tokens = r.tokens ∙ ap (tokens_from t 0 false) same;
-      boundary = IsCharBoundary-from_rest u x.len (total (y ∷ xs)) f.boundary.0 r.boundary;
+      boundary = IsCharBoundary-from_rest u x.len (total_len (y ∷ xs)) f.boundary.0 r.boundary;
       utf8 = subst IsUtf8 same r.utf8;
     }
 
@@ -103,9 +103,9 @@ boundary_front xs ys i h b = (omega arith, λ lt big. let same = get_or_append_l
 boundary_rest : (xs : List ℕ) (i j : ℕ) → i ≤ j → IsCharBoundary xs j → IsCharBoundary (drop i xs) (j - i)
 boundary_rest xs i j h b =
     let len = length-drop i xs in
-    let place : i + (j - i) ≡ j = omega arith in
+    let offset : i + (j - i) ≡ j = omega arith in
     let within : j ≤ length xs = b.0 in
-    let same : get_or (drop i xs) (j - i) 0 ≡ get_or xs j 0 = get_or-drop i xs (j - i) 0 ∙ ap (λ n. get_or xs n 0) place in
+    let same : get_or (drop i xs) (j - i) 0 ≡ get_or xs j 0 = get_or-drop i xs (j - i) 0 ∙ ap (λ n. get_or xs n 0) offset in
     (omega arith, λ lt big. subst (λ n. 192 ≤ n) (sym same) (b.1 (omega arith) (subst (λ n. 128 ≤ n) same big)))
 
 drop_back : (xs : List ℕ) (i j : ℕ) → i ≤ j → drop (j - i) (drop i xs) ≡ drop j xs
@@ -141,11 +141,11 @@ flag_off true n h = grind (arith, nat_tests)
 flag_off false n h = refl
 
 -- tokens that end at m or before are the same in both texts, and then come those of what is left
-pub kept : (t : Tells) → IsLawful t → (s : Bool) (xs ys : List Token) (same rest other : List ℕ) (m : ℕ) → Shares same rest other m
-    → tokens_from t 0 s (same ++ rest) ≡ xs ++ ys → total xs ≤ m
-    → tokens_from t 0 s (same ++ other) ≡ xs ++ tokens_from t 0 (s && eqb (total xs) 0) (drop (total xs) (same ++ other))
-kept t law s [] ys same rest other m shares e h = kept_none t s (same ++ other)
-kept t law s (x ∷ xs) ys same rest other m shares e h =
+pub shared_tokens : (t : Tells) → IsLawful t → (s : Bool) (xs ys : List Token) (same rest other : List ℕ) (m : ℕ) → Shares same rest other m
+    → tokens_from t 0 s (same ++ rest) ≡ xs ++ ys → total_len xs ≤ m
+    → tokens_from t 0 s (same ++ other) ≡ xs ++ tokens_from t 0 (s && eqb (total_len xs) 0) (drop (total_len xs) (same ++ other))
+shared_tokens t law s [] ys same rest other m shares e h = kept_none t s (same ++ other)
+shared_tokens t law s (x ∷ xs) ys same rest other m shares e h =
     let f = first_of t law s (same ++ rest) x (xs ++ ys) (IsUtf8-append same rest shares.same_utf8 shares.rest_utf8) e in
     let inside : m < length same = shares.inside in
     let some : 0 < x.len = f.some in
@@ -162,8 +162,8 @@ kept t law s (x ∷ xs) ys same rest other m shares e h =
     let looks = law.looks s (take x.len same) (drop x.len same) rest other token_utf8 more_utf8 shares.rest_utf8 shares.other_utf8 two len in
     let is : t.token_at s (same ++ other) ≡ x = ap (t.token_at s) (parts other) ∙ looks ∙ ap (t.token_at s) (sym (parts rest)) ∙ sym f.token in
     let first = tokens_first t law s (same ++ other) (IsUtf8-append same other shares.same_utf8 shares.other_utf8) (omega (arith, length-append same other)) in
-    let behind : drop x.len (same ++ other) ≡ drop x.len same ++ other = drop-append-le x.len same other (omega arith) in
-    let behind_old : drop x.len (same ++ rest) ≡ drop x.len same ++ rest = drop-append-le x.len same rest (omega arith) in
+    let after : drop x.len (same ++ other) ≡ drop x.len same ++ other = drop-append-le x.len same other (omega arith) in
+    let after_old : drop x.len (same ++ rest) ≡ drop x.len same ++ rest = drop-append-le x.len same rest (omega arith) in
     let more : Shares (drop x.len same) rest other (m - x.len) = record {
       same_utf8 = more_utf8;
       rest_utf8 = shares.rest_utf8;
@@ -172,11 +172,11 @@ kept t law s (x ∷ xs) ys same rest other m shares e h =
       two = subst HasTwo (sym (drop_back same x.len m (omega arith))) shares.two;
       inside = omega (arith, length-drop x.len same);
     } in
-    let tail = kept t law false xs ys (drop x.len same) rest other (m - x.len) more (ap (tokens_from t 0 false) (sym behind_old) ∙ f.rest) (omega arith) in
-    let last : drop (total xs) (drop x.len same ++ other) ≡ drop (x.len + total xs) (same ++ other) = ap (drop (total xs)) (sym behind) ∙ drop-drop (total xs) x.len (same ++ other) in
+    let tail = shared_tokens t law false xs ys (drop x.len same) rest other (m - x.len) more (ap (tokens_from t 0 false) (sym after_old) ∙ f.rest) (omega arith) in
+    let last : drop (total_len xs) (drop x.len same ++ other) ≡ drop (x.len + total_len xs) (same ++ other) = ap (drop (total_len xs)) (sym after) ∙ drop-drop (total_len xs) x.len (same ++ other) in
     first
     ∙ ap (λ (y : Token). y ∷ tokens_from t 0 false (drop y.len (same ++ other))) is
-    ∙ ap (λ w. x ∷ tokens_from t 0 false w) behind
+    ∙ ap (λ w. x ∷ tokens_from t 0 false w) after
     ∙ ap (λ ts. x ∷ ts) tail
     ∙ ap (λ w. (x ∷ xs) ++ tokens_from t 0 false w) last
-    ∙ ap (λ b. (x ∷ xs) ++ tokens_from t 0 b (drop (x.len + total xs) (same ++ other))) (sym (flag_off s (x.len + total xs) (omega arith)))
+    ∙ ap (λ b. (x ∷ xs) ++ tokens_from t 0 b (drop (x.len + total_len xs) (same ++ other))) (sym (flag_off s (x.len + total_len xs) (omega arith)))

@@ -11,48 +11,49 @@ use Rattle.std.proofs.lemmas.Str.{IsUtf8-drop, IsUtf8-between, IsUtf8-past_char,
 use Rattle.squawk_lexer.specs.declared.token.Token.{Token}
 use Rattle.squawk_cut.specs.Tells.{Tells, IsLawful, HasTwo}
 use Rattle.squawk_cut.specs.Tokens.{tokens_from, tokens_of}
-use Rattle.squawk_document.specs.Places.{total, ends, has, has_two_before, IsLimit}
+use Rattle.squawk_document.specs.Boundaries.{has_two_before, is_among, token_ends, total_len}
 use Rattle.squawk_document.specs.EditedTokens.{front_tokens}
-use Rattle.squawk_document.proofs.Tests.{ends-append, length-ends, or_parts, same_place, end_within}
+use Rattle.squawk_document.specs.FrontPart.{IsLastButOne}
+use Rattle.squawk_document.proofs.OffsetTests.{token_ends-append, length-token_ends, or_parts, same_offset, end_within}
 use Rattle.squawk_document.proofs.Cutting.{first_of, boundary_front, chars_between, two_earlier}
-use Rattle.squawk_document.proofs.Passing.{end_from}
+use Rattle.squawk_document.proofs.Skipping.{end_from}
 
 -- a member of the front is one of all
-pub member_first : (y : ℕ) (ys : List ℕ) → has (y ∷ ys) y ≡ true
+pub member_first : (y : ℕ) (ys : List ℕ) → is_among (y ∷ ys) y ≡ true
 member_first y ys = let same : eqb y y ≡ true = grind (arith, nat_tests) in rw same refl
 
-pub member_later : (x y : ℕ) (ys : List ℕ) → has ys x ≡ true → has (y ∷ ys) x ≡ true
+pub member_later : (x y : ℕ) (ys : List ℕ) → is_among ys x ≡ true → is_among (y ∷ ys) x ≡ true
 member_later x y ys m = by (eqb y x)
   where
-    by : (b : Bool) → (b || has ys x) ≡ true
+    by : (b : Bool) → (b || is_among ys x) ≡ true
     by true = refl
     by false = m
 
-pub count_all : (q : ℕ → Bool) (es : List ℕ) → ((e : ℕ) → has es e ≡ true → q e ≡ true) → count_by q es ≡ length es
+pub count_all : (q : ℕ → Bool) (es : List ℕ) → ((e : ℕ) → is_among es e ≡ true → q e ≡ true) → count_by q es ≡ length es
 count_all q [] h = refl
 count_all q (e ∷ es) h =
     sum_by-cons (λ x. cond (q x) 1 0) e es ∙ rw (h e (member_first e es)) (omega (arith, count_all q es (λ x m. h x (member_later x e es m))))
 
-pub count_none : (q : ℕ → Bool) (es : List ℕ) → ((e : ℕ) → has es e ≡ true → q e ≡ false) → count_by q es ≡ 0
+pub count_none : (q : ℕ → Bool) (es : List ℕ) → ((e : ℕ) → is_among es e ≡ true → q e ≡ false) → count_by q es ≡ 0
 count_none q [] h = refl
 count_none q (e ∷ es) h =
     sum_by-cons (λ x. cond (q x) 1 0) e es ∙ rw (h e (member_first e es)) (omega (arith, count_none q es (λ x m. h x (member_later x e es m))))
 
 -- each end is a character boundary
-pub ends_boundaries : (t : Tells) → IsLawful t → (s : Bool) (u : List ℕ) (xs : List Token) (at e : ℕ) → IsUtf8 u → tokens_from t 0 s u ≡ xs → has (ends at xs) e ≡ true → IsCharBoundary u (e - at)
+pub ends_boundaries : (t : Tells) → IsLawful t → (s : Bool) (u : List ℕ) (xs : List Token) (at e : ℕ) → IsUtf8 u → tokens_from t 0 s u ≡ xs → is_among (token_ends at xs) e ≡ true → IsCharBoundary u (e - at)
 ends_boundaries t law s u [] at e utf8 is m = absurd (cc)
 ends_boundaries t law s u (x ∷ xs) at e utf8 is m =
     let f = first_of t law s u x xs utf8 is in
-    elim (or_parts (eqb (at + x.len) e) (has (ends (at + x.len) xs) e) m) [
+    elim (or_parts (eqb (at + x.len) e) (is_among (token_ends (at + x.len) xs) e) m) [
       | inl here ↦
-          let same = same_place (at + x.len) e here in
+          let same = same_offset (at + x.len) e here in
           let len : x.len ≡ e - at = omega arith in
           subst (IsCharBoundary u) len f.boundary
       | inr later ↦
           let past = end_from (at + x.len) xs e later in
           let rest = ends_boundaries t law false (drop x.len u) xs (at + x.len) e f.rest_utf8 f.rest later in
-          let place : x.len + (e - (at + x.len)) ≡ e - at = omega arith in
-          subst (IsCharBoundary u) place (IsCharBoundary-from_rest u x.len (e - (at + x.len)) f.boundary.0 rest)
+          let offset : x.len + (e - (at + x.len)) ≡ e - at = omega arith in
+          subst (IsCharBoundary u) offset (IsCharBoundary-from_rest u x.len (e - (at + x.len)) f.boundary.0 rest)
     ]
 
 -- a text that is not empty has a character
@@ -90,7 +91,7 @@ shared_boundary : (text : List ℕ) (start e : ℕ) → e < length (take start t
 shared_boundary text start e h b = boundary_front (take start text) (drop start text) e h (subst (λ w. IsCharBoundary w e) (sym (take-append-drop start text)) b)
 
 -- the test of the definition, at an end, is whether it lies at the limit or before
-kept_here : (text : List ℕ) (start m e : ℕ) → IsUtf8 (take start text) → IsLimit (take start text) (Some m) → IsCharBoundary text e → e ≤ m → has_two_before text start e ≡ true
+kept_here : (text : List ℕ) (start m e : ℕ) → IsUtf8 (take start text) → IsLastButOne (take start text) (Some m) → IsCharBoundary text e → e ≤ m → has_two_before text start e ≡ true
 kept_here text start m e utf8 limit b h =
     let inside : m < length (take start text) = limit_inside (take start text) m limit.1 in
     let low : e < length (take start text) = omega arith in
@@ -99,7 +100,7 @@ kept_here text start m e utf8 limit b h =
     limit_inside : (u : List ℕ) (m : ℕ) → length (chars (drop m u)) ≡ 2 → m < length u
     limit_inside u m two = elim (cases_lt m (length u)) [ inl lt ↦ lt | inr ge ↦ absurd (omega (arith, none_past u m ge)) ]
 
-past_limit : (text : List ℕ) (start m e : ℕ) → IsUtf8 (take start text) → IsLimit (take start text) (Some m) → IsCharBoundary text e → m < e → has_two_before text start e ≡ false
+past_limit : (text : List ℕ) (start m e : ℕ) → IsUtf8 (take start text) → IsLastButOne (take start text) (Some m) → IsCharBoundary text e → m < e → has_two_before text start e ≡ false
 past_limit text start m e utf8 limit b h = no_two text start e (elim (cases_lt e (length (take start text))) [
   | inl lt ↦ fewer (take start text) m e utf8 limit.0 (shared_boundary text start e lt b) h limit.1
   | inr ge ↦ none_past (take start text) e ge
@@ -112,43 +113,43 @@ no_limit text start e utf8 h b = no_two text start e (elim (cases_lt e (length (
 ])
 
 -- ends of the first tokens and of the others
-member_front : (xs ys : List ℕ) (e : ℕ) → has xs e ≡ true → has (xs ++ ys) e ≡ true
+member_front : (xs ys : List ℕ) (e : ℕ) → is_among xs e ≡ true → is_among (xs ++ ys) e ≡ true
 member_front [] ys e m = absurd (cc)
 member_front (x ∷ xs) ys e m = by (eqb x e) m (member_front xs ys e)
   where
-    by : (b : Bool) → (b || has xs e) ≡ true → (has xs e ≡ true → has (xs ++ ys) e ≡ true) → (b || has (xs ++ ys) e) ≡ true
+    by : (b : Bool) → (b || is_among xs e) ≡ true → (is_among xs e ≡ true → is_among (xs ++ ys) e ≡ true) → (b || is_among (xs ++ ys) e) ≡ true
     by true m h = refl
     by false m h = h m
 
-pub member_back : (xs ys : List ℕ) (e : ℕ) → has ys e ≡ true → has (xs ++ ys) e ≡ true
+pub member_back : (xs ys : List ℕ) (e : ℕ) → is_among ys e ≡ true → is_among (xs ++ ys) e ≡ true
 member_back [] ys e m = m
 member_back (x ∷ xs) ys e m = member_later e x (xs ++ ys) (member_back xs ys e m)
 
-first_end : (at : ℕ) (ys : List Token) (e m : ℕ) → (0 < length ys → m < at + total (take 1 ys)) → has (ends at ys) e ≡ true → m < e
+first_end : (at : ℕ) (ys : List Token) (e m : ℕ) → (0 < length ys → m < at + total_len (take 1 ys)) → is_among (token_ends at ys) e ≡ true → m < e
 first_end at [] e m h member = absurd (cc)
 first_end at (y ∷ ys) e m h member =
     let low : m < at + (y.len + 0) = h (omega arith) in
-    elim (or_parts (eqb (at + y.len) e) (has (ends (at + y.len) ys) e) member) [
-      | inl here ↦ let same = same_place (at + y.len) e here in omega arith
+    elim (or_parts (eqb (at + y.len) e) (is_among (token_ends (at + y.len) ys) e) member) [
+      | inl here ↦ let same = same_offset (at + y.len) e here in omega arith
       | inr later ↦ let past = end_from (at + y.len) ys e later in omega arith
     ]
 
 -- the number of front tokens
-pub front_count : (t : Tells) → IsLawful t → (text : List ℕ) (start m : ℕ) (fr ys : List Token) → IsUtf8 text → IsUtf8 (take start text) → IsLimit (take start text) (Some m)
-    → tokens_of t text ≡ fr ++ ys → total fr ≤ m → (0 < length ys → m < total fr + total (take 1 ys)) → front_tokens text start (fr ++ ys) ≡ length fr
+pub front_count : (t : Tells) → IsLawful t → (text : List ℕ) (start m : ℕ) (fr ys : List Token) → IsUtf8 text → IsUtf8 (take start text) → IsLastButOne (take start text) (Some m)
+    → tokens_of t text ≡ fr ++ ys → total_len fr ≤ m → (0 < length ys → m < total_len fr + total_len (take 1 ys)) → front_tokens text start (fr ++ ys) ≡ length fr
 front_count t law text start m fr ys utf8 shared_utf8 limit is low high =
-    let split : ends 0 (fr ++ ys) ≡ ends 0 fr ++ ends (0 + total fr) ys = ends-append 0 fr ys in
-    let boundary : (e : ℕ) → has (ends 0 (fr ++ ys)) e ≡ true → IsCharBoundary text e = λ e mem. let none : e - 0 ≡ e = omega arith in subst (IsCharBoundary text) none (ends_boundaries t law true text (fr ++ ys) 0 e utf8 is mem) in
-    let all = count_all (has_two_before text start) (ends 0 fr) (λ e mem.
-    kept_here text start m e shared_utf8 limit (boundary e (ap (λ es. has es e) split ∙ member_front (ends 0 fr) _ e mem)) (let within = end_within 0 fr e mem in omega arith)) in
-    let none = count_none (has_two_before text start) (ends (0 + total fr) ys) (λ e mem.
-    past_limit text start m e shared_utf8 limit (boundary e (ap (λ es. has es e) split ∙ member_back (ends 0 fr) _ e mem)) (first_end (0 + total fr) ys e m (λ h. let k = high h in omega arith) mem)) in
-    ap (count_by (has_two_before text start)) split ∙ sum_by-append _ (ends 0 fr) (ends (0 + total fr) ys) ∙ omega (arith, all, none, length-ends 0 fr)
+    let split : token_ends 0 (fr ++ ys) ≡ token_ends 0 fr ++ token_ends (0 + total_len fr) ys = token_ends-append 0 fr ys in
+    let boundary : (e : ℕ) → is_among (token_ends 0 (fr ++ ys)) e ≡ true → IsCharBoundary text e = λ e mem. let none : e - 0 ≡ e = omega arith in subst (IsCharBoundary text) none (ends_boundaries t law true text (fr ++ ys) 0 e utf8 is mem) in
+    let all = count_all (has_two_before text start) (token_ends 0 fr) (λ e mem.
+    kept_here text start m e shared_utf8 limit (boundary e (ap (λ es. is_among es e) split ∙ member_front (token_ends 0 fr) _ e mem)) (let within = end_within 0 fr e mem in omega arith)) in
+    let none = count_none (has_two_before text start) (token_ends (0 + total_len fr) ys) (λ e mem.
+    past_limit text start m e shared_utf8 limit (boundary e (ap (λ es. is_among es e) split ∙ member_back (token_ends 0 fr) _ e mem)) (first_end (0 + total_len fr) ys e m (λ h. let k = high h in omega arith) mem)) in
+    ap (count_by (has_two_before text start)) split ∙ sum_by-append _ (token_ends 0 fr) (token_ends (0 + total_len fr) ys) ∙ omega (arith, all, none, length-token_ends 0 fr)
 
 pub front_count_none : (t : Tells) → IsLawful t → (text : List ℕ) (start : ℕ) (ys : List Token) → IsUtf8 text → IsUtf8 (take start text) → length (chars (take start text)) < 2
     → tokens_of t text ≡ ys → front_tokens text start ys ≡ 0
 front_count_none t law text start ys utf8 shared_utf8 h is =
-    count_none (has_two_before text start) (ends 0 ys) (λ e mem.
+    count_none (has_two_before text start) (token_ends 0 ys) (λ e mem.
     let none : e - 0 ≡ e = omega arith in
     no_limit text start e shared_utf8 h (subst (IsCharBoundary text) none (ends_boundaries t law true text ys 0 e utf8 is mem)))
 
@@ -165,7 +166,7 @@ pub limit_one : (text mid : List ℕ) (b : ℕ) → IsUtf8 text → text ≡ mid
 limit_one text [] b utf8 e h = omega (arith, ap length (chars_one text b utf8 e))
 limit_one text (c ∷ cs) b utf8 e h = absurd (omega arith)
 
-pub limit_two : (text mid front : List ℕ) (a b : ℕ) → IsUtf8 text → IsUtf8 front → text ≡ mid ++ encode_utf8 b → mid ≡ front ++ encode_utf8 a → IsLimit text (Some (length front))
+pub limit_two : (text mid front : List ℕ) (a b : ℕ) → IsUtf8 text → IsUtf8 front → text ≡ mid ++ encode_utf8 b → mid ≡ front ++ encode_utf8 a → IsLastButOne text (Some (length front))
 limit_two text mid front a b utf8 front_utf8 e f =
     let parts : text ≡ front ++ (encode_utf8 a ++ encode_utf8 b) = e ∙ ap (λ w. w ++ encode_utf8 b) f ∙ append_assoc front (encode_utf8 a) (encode_utf8 b) in
     let front_is : take (length front) text ≡ front = ap (take (length front)) parts ∙ take_at front (encode_utf8 a ++ encode_utf8 b) (length front) refl in

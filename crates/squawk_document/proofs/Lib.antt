@@ -1,14 +1,14 @@
-pub mod Tests
+pub mod OffsetTests
 pub mod Cutting
-pub mod Passing
+pub mod Skipping
 pub mod CutSteps
 pub mod Meeting
 pub mod FrontSteps
-pub mod EditSteps
+pub mod TokenEditSteps
 pub mod ChildCutting
 pub mod ChildMeeting
-pub mod ChildPassing
+pub mod ChildSkipping
 pub mod ParseSteps
-pub mod ChildSteps
-pub mod ReparseSteps
-mod PutSteps
+pub mod ChildFrontSteps
+pub mod ChildEditSteps
+mod ReplaceSteps

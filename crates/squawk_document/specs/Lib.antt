@@ -1,11 +1,12 @@
 -- what public contracts cite
-pub mod Places
+pub mod Boundaries
 pub mod EditedTokens
-pub mod ChildPlaces
+pub mod ChildEnds
 pub mod EditedChildren
 pub mod Edited
-pub mod Held
+pub mod DocumentValue
 -- what the contracts of private functions cite
+pub mod FrontPart
 pub mod Recut
-pub mod Remade
-pub mod Reparse
+pub mod TokenEdit
+pub mod ChildEdit

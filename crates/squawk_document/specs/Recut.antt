@@ -1,4 +1,4 @@
--- What one run of cuts gives: tokens from a place on, up to where the texts meet.
+-- What a run of cuts returns: tokens from an offset on, up to the meeting.
 use Rattle.std.specs.Prelude.{ℕ, ◌≡◌, ◌+◌, ◌-◌, ◌<◌, ◌≤◌, ◌==◌, ◌&&◌, not, nat_lt, Bool, false, List, [], ◌∷◌, ◌++◌, length, take, drop}
 use Rattle.std.specs.List.{list_any}
 use Rattle.std.specs.Option.{MatchOption}
@@ -7,35 +7,51 @@ use Rattle.std.specs.declared.option.Option.{Option}
 use Rattle.squawk_lexer.specs.declared.token.Token.{Token}
 use Rattle.squawk_cut.specs.Tells.{Tells}
 use Rattle.squawk_cut.specs.Tokens.{tokens_from}
-use Rattle.squawk_document.specs.Places.{total, ends, is_boundary}
+use Rattle.squawk_document.specs.Boundaries.{total_len, token_ends, is_boundary}
+use Rattle.squawk_document.specs.declared.skip.Position.{Position}
 
--- a place of the new text from `from` on, whose old place is above 0 and a boundary of the old tokens
-abbrev pub is_met : ℕ → ℕ → List Token → ℕ → Bool
-is_met from end old p = not (nat_lt p from) && (nat_lt 0 (p - from + end) && is_boundary old (p - from + end))
+-- whether the texts may meet at an offset of the new text: it is at or past new_end, where the new
+-- bytes end, and its old offset is above 0 and a boundary of the old text
+abbrev pub is_new_meeting : ℕ → ℕ → List Token → ℕ → Bool
+is_new_meeting new_end end old p = not (nat_lt p new_end)
+    && (nat_lt 0 (p - new_end + end) && is_boundary old (p - new_end + end))
 
--- the tokens from the place `first` on are these so far, up to `at`, and then those from `at` on; none ends where the texts meet
-pub record IsCutting (t : Tells) (text : List ℕ) (old : List Token) (first from end : ℕ) (fresh : List Token) (at : ℕ) : Type 0 where
-  pub tokens : tokens_from t 0 (first == 0) (drop first text) ≡ fresh ++ tokens_from t 0 (at == 0) (drop at text)
-  pub place : at ≡ first + total fresh
+-- the tokens from the offset `restart` on are these so far, and then those from `at` on; the texts
+-- do not meet at an end of one of these
+pub record IsCutSoFar (t : Tells) (text : List ℕ) (old : List Token) (restart new_end end : ℕ)
+    (fresh_tokens : List Token) (at : ℕ) : Type 0 where
+  pub tokens : tokens_from t 0 (restart == 0) (drop restart text)
+      ≡ fresh_tokens ++ tokens_from t 0 (at == 0) (drop at text)
+  pub offset : at ≡ restart + total_len fresh_tokens
   pub boundary : IsCharBoundary text at
-  pub unmet : list_any (is_met from end old) (ends first fresh) ≡ false
+  pub none_meets :
+      list_any (is_new_meeting new_end end old) (token_ends restart fresh_tokens) ≡ false
 
--- the last token ends where the texts meet, and the old tokens from `next` on follow there in the old text
-pub record IsMeeting (t : Tells) (text : List ℕ) (old : List Token) (first from end : ℕ) (fresh : List Token) (next : ℕ) : Type 0 where
+-- the texts meet at the end of the last token and not before it, and in the old text the tokens
+-- from the index `next` on follow there
+pub record EndsAtMeeting (t : Tells) (text : List ℕ) (old : List Token) (restart new_end end : ℕ)
+    (fresh_tokens : List Token) (next : ℕ) : Type 0 where
   pub before : List Token
   pub last : Token
-  pub parts : fresh ≡ before ++ last ∷ []
-  pub unmet : list_any (is_met from end old) (ends first before) ≡ false
-  pub tokens : tokens_from t 0 (first == 0) (drop first text) ≡ fresh ++ tokens_from t 0 false (drop (first + total fresh) text)
-  pub low : from ≤ first + total fresh
+  pub parts : fresh_tokens ≡ before ++ last ∷ []
+  pub none_meets : list_any (is_new_meeting new_end end old) (token_ends restart before) ≡ false
+  pub tokens : tokens_from t 0 (restart == 0) (drop restart text)
+      ≡ fresh_tokens ++ tokens_from t 0 false (drop (restart + total_len fresh_tokens) text)
+  pub low : new_end ≤ restart + total_len fresh_tokens
   pub within : next ≤ length old
-  pub place : total (take next old) ≡ first + total fresh - from + end
-  pub some : 0 < total (take next old)
+  pub offset : total_len (take next old) ≡ restart + total_len fresh_tokens - new_end + end
+  pub some : 0 < total_len (take next old)
 
--- all tokens from `first` on, and none ends where the texts meet
-pub record IsUnmet (t : Tells) (text : List ℕ) (old : List Token) (first from end : ℕ) (fresh : List Token) : Type 0 where
-  pub tokens : tokens_from t 0 (first == 0) (drop first text) ≡ fresh
-  pub unmet : list_any (is_met from end old) (ends first fresh) ≡ false
+-- these are all tokens from the offset `restart` on, and the texts do not meet at an end of one
+pub record MeetsNowhere (t : Tells) (text : List ℕ) (old : List Token) (restart new_end end : ℕ)
+    (fresh_tokens : List Token) : Type 0 where
+  pub tokens : tokens_from t 0 (restart == 0) (drop restart text) ≡ fresh_tokens
+  pub none_meets :
+      list_any (is_new_meeting new_end end old) (token_ends restart fresh_tokens) ≡ false
 
-abbrev pub IsRecut : Tells → List ℕ → List Token → ℕ → ℕ → ℕ → List Token → Option ℕ → Type 0
-IsRecut t text old first from end fresh back = MatchOption back (IsUnmet t text old first from end fresh) (λ next. IsMeeting t text old first from end fresh next)
+-- the tokens from the offset `restart` on, up to the meeting if there is one; the position is that
+-- of the old token after it
+abbrev pub IsRecut : Tells → List ℕ → List Token → ℕ → ℕ → ℕ → List Token → Option Position → Type 0
+IsRecut t text old restart new_end end fresh_tokens meeting = MatchOption meeting
+    (MeetsNowhere t text old restart new_end end fresh_tokens)
+    (λ p. EndsAtMeeting t text old restart new_end end fresh_tokens p.index)

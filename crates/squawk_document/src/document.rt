@@ -1,21 +1,25 @@
-//! A text that is edited, with its tokens.
-ghost use Rattle.std.specs.Prelude.{◌≡◌, ◌+◌, ◌-◌, ◌<◌, ◌≤◌, ◌^◌, ◌↔◌, IfOk, OnOk, OnErr, IsErrOf, IfErr, IsTrue, length};
-ghost use Rattle.squawk_cut.specs.Join.{join_of};
-ghost use Rattle.squawk_events.specs.Refusals.{IsOutOfMemory};
-ghost use Rattle.squawk_cut.specs.Tokens.{tokens_of};
-ghost use Rattle.squawk_document.specs.Places.{spliced, IsRange};
-ghost use Rattle.squawk_document.specs.Edited.{edited_of};
+//! A document: a text, its tokens, the children of its root, and the front that cuts and parses it.
+ghost use Rattle.std.specs.Prelude.{◌≡◌, ◌+◌, ◌-◌, ◌<◌, ◌≤◌, ◌^◌, ◌↔◌, IfOk, IfErr, OnOk, OnErr, IsErrOf, IsTrue, length};
 ghost use Rattle.squawk_cut.specs.Children.{children_of};
+ghost use Rattle.squawk_cut.specs.Join.{join_of};
+ghost use Rattle.squawk_cut.specs.Tokens.{tokens_of};
+ghost use Rattle.squawk_document.specs.Boundaries.{splice, IsRange};
+ghost use Rattle.squawk_document.specs.Edited.{edited_of, IsTooLong, MayRefuseEdit};
+ghost use Rattle.squawk_events.specs.Limit.{limit};
+ghost use Rattle.squawk_events.specs.Refusals.{IsOutOfMemory, MayRefuse};
 
-use crate::recut::cut_on;
-use crate::renew::renew;
-use crate::reparse::parse_on;
+use crate::recut::cut_to_meeting;
+use crate::reparse::parse_to_return;
+use crate::skip::{FrontChildren, Position};
+use crate::update::edit_in_place;
 use crate::{Edited, FrontError};
 use squawk_cut::{Child, Front, Parse, Token, join};
+use squawk_events::LIMIT;
 use std::alloc::Global;
 use std::marker::Model;
 
-/// A text, its tokens, and the front that cuts it.
+/// A text of at most `LIMIT` bytes, its tokens and the children of its root, with the front that
+/// cuts and parses them. An edit cuts and parses only the part of the text that it changes.
 #[derive(Drop)]
 pub struct Document<F: Front> {
     alloc: Global,
@@ -28,20 +32,26 @@ pub struct Document<F: Front> {
 impl<F: Front> Model for Document<F> {
     ghost use Rattle.std.specs.Prelude.{◌≡◌, ◌<◌, ◌^◌, List, length};
     ghost use Rattle.std.specs.String.{string_bytes};
-    ghost use Rattle.squawk_lexer.specs.declared.token.Token.{Token};
-    ghost use Rattle.squawk_cut.specs.Tokens.{tokens_of};
-    ghost use Rattle.squawk_document.specs.Held.{Held};
-
-    ghost Value = { Held F };
-
-    ghost view = { λ d. record { front = d.front; text = string_bytes d.text; tokens = d.tokens.items; children = d.children.items } };
-
     ghost use Rattle.squawk_cut.specs.Children.{children_of};
+    ghost use Rattle.squawk_cut.specs.Tokens.{tokens_of};
+    ghost use Rattle.squawk_document.specs.DocumentValue.{DocumentValue};
+    ghost use Rattle.squawk_lexer.specs.declared.token.Token.{Token};
 
-    ghost invariant = { λ d. (length (string_bytes d.text) < 2 ^ 32) × (d.tokens.items ≡ tokens_of (F.tells d.front) (string_bytes d.text)) × (d.children.items ≡ children_of (F.tells d.front) (string_bytes d.text)) };
+    ghost Value = { DocumentValue F };
+
+    ghost view = { λ d. record {
+      front = d.front;
+      text = string_bytes d.text;
+      tokens = d.tokens.items;
+      children = d.children.items;
+    } };
+
+    ghost invariant = { λ d. (length (string_bytes d.text) < 2 ^ 32)
+        × (d.tokens.items ≡ tokens_of (F.tells d.front) (string_bytes d.text))
+        × (d.children.items ≡ children_of (F.tells d.front) (string_bytes d.text)) };
 }
 
-// Whether the range lies in the text and both its ends are character boundaries.
+// Whether both ends of a range are character boundaries, and it does not end before its start.
 fn is_range(text: &str, start: usize, end: usize) -> bool
     ensures { IsTrue result ↔ IsRange text.now start end }
 {
@@ -49,32 +59,39 @@ fn is_range(text: &str, start: usize, end: usize) -> bool
 }
 
 impl<F: Front> Document<F> {
-    /// A document of a text.
+    /// A document of a text. `TooLong` exactly if the text has more than `LIMIT` bytes; nothing is
+    /// allocated then. After an error the front is dropped.
+    ///
+    /// The front takes at most one step for each token and each child.
     pub fn new(alloc: Global, front: F, text: &str) -> Result<Document<F>, FrontError>
         ensures text { IfOk result (λ d. d.text ≡ text.now) }
         ensures tokens { IfOk result (λ d. d.tokens ≡ tokens_of (F.tells front) text.now) }
-        ensures tells { IfOk result (λ d. F.tells d.front ≡ F.tells front) }
         ensures children { IfOk result (λ d. d.children ≡ children_of (F.tells front) text.now) }
-        ensures steps { IfOk result (λ d. F.count d.front ≤ F.count front + length d.tokens + length d.children) }
-        ensures too_long { IsErrOf result FrontError.TooLong ↔ (2 ^ 32 ≤ length text.now) }
-        ensures not_bad_range { ¬ IsErrOf result FrontError.BadRange }
+        ensures tells { IfOk result (λ d. F.tells d.front ≡ F.tells front) }
+        ensures steps { IfOk result (λ d. F.count d.front
+            ≤ F.count front + length d.tokens + length d.children) }
+        ensures too_long { IsErrOf result FrontError.TooLong ↔ (limit < length text.now) }
+        ensures refusals { IfErr result (MayRefuse text.now) }
     {
-        if text.len() > u32::MAX as usize {
+        if text.len() as u64 > LIMIT {
             return Err(FrontError::TooLong);
         }
         let mut front = front;
-        let mut held = String::with_capacity(alloc, text.len())?;
-        held.push_str(text)?;
-        let cut = cut_on(alloc, &mut front, text, &[], 0, 0, 0, 0)?;
-        let parsed = parse_on(
+        let mut copy = String::with_capacity(alloc, text.len())?;
+        copy.push_str(text)?;
+        let start = Position {
+            index: 0,
+            offset: 0,
+        };
+        let cut = cut_to_meeting(alloc, &mut front, text, &[], start, 0, 0)?;
+        let none = FrontChildren { len: 0, end: start };
+        let parsed = parse_to_return(
             alloc,
             &mut front,
             text,
-            &cut.fresh,
+            &cut.tokens,
             &[],
-            0,
-            0,
-            0,
+            none,
             0,
             0,
             None,
@@ -82,31 +99,43 @@ impl<F: Front> Document<F> {
         Ok(Document {
             alloc,
             front,
-            text: held,
-            tokens: cut.fresh,
-            children: parsed.fresh,
+            text: copy,
+            tokens: cut.tokens,
+            children: parsed.children,
         })
     }
 
-    /// Replaces a range of the text.
+    /// Replaces the bytes of the text from `start` to `end` by `new`, and returns what was kept and
+    /// what was cut and parsed.
+    ///
+    /// `BadRange` exactly if `start` is above `end`, or one of them is no character boundary of the
+    /// text; otherwise `TooLong` exactly if the new text would have more than `LIMIT` bytes. On
+    /// every error text, tokens and children are unchanged. The front takes at most one step for
+    /// each token cut and each child parsed.
     pub fn edit(&mut self, start: usize, end: usize, new: &str) -> Result<Edited, FrontError>
-        ensures bad_range { IsErrOf result FrontError.BadRange ↔ (¬ IsRange self.old.text start end) }
-        ensures too_long { IsErrOf result FrontError.TooLong ↔ (IsRange self.old.text start end × (2 ^ 32 ≤ length (spliced self.old.text start end new.now))) }
-        ensures text { OnOk result (self.new.text ≡ spliced self.old.text start end new.now) }
+        ensures text { OnOk result (self.new.text ≡ splice self.old.text start end new.now) }
         ensures tokens { self.new.tokens ≡ tokens_of (F.tells self.new.front) self.new.text }
-        ensures tells { F.tells self.new.front ≡ F.tells self.old.front }
         ensures children { self.new.children ≡ children_of (F.tells self.new.front) self.new.text }
-        ensures counts { IfOk result (λ e. e ≡ edited_of (F.tells self.old.front) self.old.text start end new.now) }
-        ensures steps { IfOk result (λ e. F.count self.new.front ≤ F.count self.old.front + e.cut_tokens + e.parsed_children) }
-        ensures kept { OnErr result ((self.new.text ≡ self.old.text) × (self.new.tokens ≡ self.old.tokens) × (self.new.children ≡ self.old.children)) }
+        ensures tells { F.tells self.new.front ≡ F.tells self.old.front }
+        ensures counts { IfOk result (λ edited.
+            edited ≡ edited_of (F.tells self.old.front) self.old.text start end new.now) }
+        ensures steps { IfOk result (λ edited. F.count self.new.front
+            ≤ F.count self.old.front + edited.cut_tokens + edited.parsed_children) }
+        ensures bad_range { IsErrOf result FrontError.BadRange
+            ↔ (¬ IsRange self.old.text start end) }
+        ensures too_long { IsErrOf result FrontError.TooLong
+            ↔ IsTooLong self.old.text start end new.now }
+        ensures refusals { IfErr result (MayRefuseEdit self.old.text start end new.now) }
+        ensures unchanged { OnErr result ((self.new.text ≡ self.old.text)
+            × (self.new.tokens ≡ self.old.tokens) × (self.new.children ≡ self.old.children)) }
     {
         if !is_range(self.text.as_str(), start, end) {
             return Err(FrontError::BadRange);
         }
-        if self.text.len() - (end - start) + new.len() > u32::MAX as usize {
+        if (self.text.len() - (end - start) + new.len()) as u64 > LIMIT {
             return Err(FrontError::TooLong);
         }
-        let renewed = renew(
+        let update = edit_in_place(
             self.alloc,
             &mut self.front,
             self.text.as_str(),
@@ -116,8 +145,8 @@ impl<F: Front> Document<F> {
             end,
             new,
         )?;
-        self.text = renewed.text;
-        Ok(renewed.edited)
+        self.text = update.text;
+        Ok(update.edited)
     }
 
     /// The text.
@@ -127,38 +156,40 @@ impl<F: Front> Document<F> {
         self.text.as_str()
     }
 
-    /// The tokens.
+    /// The tokens of the text, in order.
     pub fn tokens(&self) -> &[Token]
         ensures { result.now ≡ self.now.tokens }
     {
         &self.tokens
     }
 
-    /// The front.
-    pub fn front(&self) -> &F
-        ensures { result.now ≡ self.now.front }
-    {
-        &self.front
-    }
-
-    /// The root children.
+    /// The children of the text's root, in order.
     pub fn children(&self) -> &[Child]
         ensures { result.now ≡ self.now.children }
     {
         &self.children
     }
 
-    /// Returns the tree of the current text: its root children in order.
+    /// The front that cuts and parses the text.
+    pub fn front(&self) -> &F
+        ensures { result.now ≡ self.now.front }
+    {
+        &self.front
+    }
+
+    /// The tree of the current text: that of its children, in order. The only error is
+    /// `OutOfMemory`.
     pub fn parse(&self, alloc: Global) -> Result<Parse, FrontError>
         ensures tree { IfOk result (λ parse. parse ≡ join_of self.now.children) }
-        ensures text { IfOk result (λ parse. parse ≡ join_of (children_of (F.tells self.now.front) self.now.text)) }
+        ensures text { IfOk result (λ parse.
+            parse ≡ join_of (children_of (F.tells self.now.front) self.now.text)) }
         ensures refusals { IfErr result IsOutOfMemory }
     {
         join_within(alloc, &self.front, self.text.as_str(), &self.children)
     }
 }
 
-// The tree of the root children of a text.
+// The tree of the children of a text's root.
 fn join_within<F: Front>(
     alloc: Global,
     front: &F,
@@ -168,7 +199,8 @@ fn join_within<F: Front>(
     requires small { length text.now < 2 ^ 32 }
     requires children { children.now ≡ children_of (F.tells front.now) text.now }
     ensures tree { IfOk result (λ parse. parse ≡ join_of children.now) }
-    ensures text { IfOk result (λ parse. parse ≡ join_of (children_of (F.tells front.now) text.now)) }
+    ensures text { IfOk result (λ parse.
+        parse ≡ join_of (children_of (F.tells front.now) text.now)) }
     ensures refusals { IfErr result IsOutOfMemory }
 {
     join(alloc, children)

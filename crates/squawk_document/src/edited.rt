@@ -1,19 +1,28 @@
-//! What an edit did.
+//! What an edit kept and what it did anew, as counts.
 ghost use Rattle.std.specs.Prelude.{◌≡◌};
 ghost use Rattle.squawk_document.specs.Edited.{both_counts};
 
-/// How many tokens and root children an edit kept before its range, made anew, and kept after it.
+/// How many tokens and children of the root an edit kept before and after the part that it did
+/// anew, and how many it cut and parsed there.
 #[derive(Clone, Copy, Debug, PartialEq, Eq)]
 pub struct Edited {
+    /// The tokens with at least two characters between their end and the range of the edit.
     pub front_tokens: usize,
+    /// The tokens of the new text between those at its front and those at its back.
     pub cut_tokens: usize,
+    /// The tokens after the meeting: the first offset at or past the end of the range at which a
+    /// token ends in the old text and in the new one.
     pub back_tokens: usize,
+    /// The children of front tokens alone that no open statement precedes, and that are closed.
     pub front_children: usize,
+    /// The children of the new text between those at its front and those at its back.
     pub parsed_children: usize,
+    /// The children after the first offset at or past the meeting at which a child ends in the old
+    /// text and in the new one, with no open statement before it.
     pub back_children: usize,
 }
 
-// How many tokens an edit kept and cut.
+// The number of tokens that an edit kept and cut.
 #[derive(Clone, Copy)]
 pub(crate) struct TokenCounts {
     pub(crate) front_tokens: usize,
@@ -21,7 +30,7 @@ pub(crate) struct TokenCounts {
     pub(crate) back_tokens: usize,
 }
 
-// How many children an edit kept and parsed.
+// The number of children that an edit kept and parsed.
 #[derive(Clone, Copy)]
 pub(crate) struct ChildCounts {
     pub(crate) front_children: usize,
@@ -29,7 +38,7 @@ pub(crate) struct ChildCounts {
     pub(crate) back_children: usize,
 }
 
-// The counts together.
+// The counts of tokens and of children together.
 pub(crate) fn both_counts(tokens: TokenCounts, children: ChildCounts) -> Edited
     ensures { result ≡ both_counts tokens children }
 {

@@ -1,127 +1,108 @@
-//! Cutting tokens from a place on, until they meet tokens that were cut before.
+//! Cutting tokens from an offset on, until they meet old ones.
 ghost use Rattle.std.specs.Prelude.{◌≡◌, ◌+◌, ◌-◌, ◌<◌, ◌≤◌, ◌^◌, ◌==◌, IfOk, IfSome, OnOk, length, take, true};
 ghost use Rattle.std.specs.Str.{IsCharBoundary};
-ghost use Rattle.squawk_document.specs.Places.{total};
-ghost use Rattle.squawk_document.specs.Recut.{is_met, IsRecut};
+ghost use Rattle.squawk_document.specs.Boundaries.{total_len};
+ghost use Rattle.squawk_document.specs.Recut.{is_new_meeting, IsRecut};
 
+use crate::skip::{Position, skip_tokens};
 use squawk_cut::{Front, Token};
 use std::alloc::{AllocError, Global};
 
-// Tokens that were cut, and how many old tokens stand before the place where they meet.
+// Cut tokens, and the position of the old token after the meeting, if there is one.
 #[derive(Drop)]
-pub(crate) struct Recut {
-    pub(crate) fresh: Vec<Token>,
-    pub(crate) back: Option<usize>,
-    pub(crate) place: usize,
+pub(crate) struct CutTokens {
+    pub(crate) tokens: Vec<Token>,
+    pub(crate) meeting: Option<Position>,
 }
 
-// How far the old tokens are passed, and whether a boundary is met there.
+// How far old tokens or children are skipped, and whether the texts meet there.
 #[derive(Clone, Copy)]
-pub(crate) struct Passed {
-    pub(crate) met: bool,
-    pub(crate) next: usize,
-    pub(crate) place: usize,
+pub(crate) struct Search {
+    pub(crate) found: bool,
+    pub(crate) position: Position,
 }
 
-// Passes the old tokens that end at the target or before.
-#[tactic(auto, using(crate::proofs::Passing::total_steps))]
-pub(crate) fn pass(old: &[Token], next: usize, place: usize, target: usize) -> (usize, usize)
-    requires small { total old.now < 2 ^ 32 }
-    requires within { next ≤ length old.now }
-    requires place { place ≡ total (take next old.now) }
-    requires low { place ≤ target }
-    ensures order { next ≤ result.0 }
-    ensures within { result.0 ≤ length old.now }
-    ensures place { result.1 ≡ total (take result.0 old.now) }
-    ensures low { result.1 ≤ target }
-    ensures last { result.0 < length old.now → target < total (take (result.0 + 1) old.now) }
-{
-    let mut i = next;
-    let mut at = place;
-    while i < old.len() && at + old[i].len as usize <= target {
-        at += old[i].len as usize;
-        i += 1;
-    }
-    (i, at)
-}
-
-// Passes old tokens up to the place that a new boundary has in the old text.
-fn pass_to(old: &[Token], next: usize, place: usize, at: usize, from: usize, end: usize) -> Passed
-    requires small { total old.now < 2 ^ 32 }
+// Skips old tokens from a position on up to the old offset of `at`, and returns whether the texts
+// may meet there. The replacing bytes end at `new_end`, the replaced ones at `end`.
+fn find_boundary(
+    old: &[Token],
+    from: Position,
+    at: usize,
+    new_end: usize,
+    end: usize,
+) -> Search
+    requires small { total_len old.now < 2 ^ 32 }
     requires at_small { at < 2 ^ 32 }
     requires end_small { end < 2 ^ 32 }
-    requires within { next ≤ length old.now }
-    requires place { place ≡ total (take next old.now) }
-    requires low { place ≤ at - from + end }
-    ensures met { result.met ≡ is_met from end old.now at }
-    ensures order { next ≤ result.next }
-    ensures within { result.next ≤ length old.now }
-    ensures place { result.place ≡ total (take result.next old.now) }
-    ensures low { result.place ≤ at - from + end }
-    ensures same { result.met ≡ true → result.place ≡ at - from + end }
+    requires within { from.index ≤ length old.now }
+    requires offset { from.offset ≡ total_len (take from.index old.now) }
+    requires low { from.offset ≤ at - new_end + end }
+    ensures found { result.found ≡ is_new_meeting new_end end old.now at }
+    ensures order { from.index ≤ result.position.index }
+    ensures within { result.position.index ≤ length old.now }
+    ensures offset { result.position.offset ≡ total_len (take result.position.index old.now) }
+    ensures low { result.position.offset ≤ at - new_end + end }
+    ensures same { result.found ≡ true → result.position.offset ≡ at - new_end + end }
 {
-    if at < from {
-        return Passed {
-            met: false,
-            next,
-            place,
+    if at < new_end {
+        return Search {
+            found: false,
+            position: from,
         };
     }
-    let target = at - from + end;
-    let (next, place) = pass(old, next, place, target);
-    Passed {
-        met: 0 < target && place == target,
-        next,
-        place,
+    let target = at - new_end + end;
+    let position = skip_tokens(old, from, target);
+    Search {
+        found: 0 < target && position.offset == target,
+        position,
     }
 }
 
-// The tokens of a text from a place on, up to where they meet old ones.
-pub(crate) fn cut_on<F: Front>(
+// Cuts the tokens of a text from an offset on, up to the meeting. The old tokens up to that offset
+// are the same; the position is that of the old token that begins there.
+pub(crate) fn cut_to_meeting<F: Front>(
     alloc: Global,
     front: &mut F,
     text: &str,
     old: &[Token],
-    kept: usize,
-    first: usize,
-    from: usize,
+    from: Position,
+    new_end: usize,
     end: usize,
-) -> Result<Recut, AllocError>
+) -> Result<CutTokens, AllocError>
     requires small { length text.now < 2 ^ 32 }
-    requires old_small { total old.now < 2 ^ 32 }
+    requires old_small { total_len old.now < 2 ^ 32 }
     requires end_small { end < 2 ^ 32 }
-    requires boundary { IsCharBoundary text.now first }
-    requires within { kept ≤ length old.now }
-    requires place { first ≡ total (take kept old.now) }
-    requires low { first ≤ end }
-    ensures tokens { IfOk result (λ r. IsRecut (F.tells front.old) text.now old.now first from end r.fresh.items r.back) }
-    ensures place { IfOk result (λ r. IfSome r.back (λ next. r.place ≡ total (take next old.now))) }
-    ensures order { IfOk result (λ r. IfSome r.back (λ next. kept ≤ next)) }
+    requires boundary { IsCharBoundary text.now from.offset }
+    requires within { from.index ≤ length old.now }
+    requires offset { from.offset ≡ total_len (take from.index old.now) }
+    requires low { from.offset ≤ end }
+    ensures tokens { IfOk result (λ r. IsRecut (F.tells front.old) text.now old.now from.offset
+        new_end end r.tokens.items r.meeting) }
+    ensures offset { IfOk result (λ r. IfSome r.meeting (λ p.
+        p.offset ≡ total_len (take p.index old.now))) }
+    ensures order { IfOk result (λ r. IfSome r.meeting (λ p. from.index ≤ p.index)) }
     ensures tells { F.tells front.new ≡ F.tells front.old }
-    ensures steps { IfOk result (λ r. F.count front.new ≤ F.count front.old + length r.fresh.items) }
+    ensures steps { IfOk result (λ r.
+        F.count front.new ≤ F.count front.old + length r.tokens.items) }
 {
-    let mut fresh = Vec::new(alloc);
-    let mut at = first;
-    let mut next = kept;
-    let mut place = first;
+    let mut tokens = Vec::new(alloc);
+    let mut at = from.offset;
+    let mut position = from;
     while at < text.len() {
         let token = front.cut_next(text, at);
-        fresh.push(token)?;
+        tokens.push(token)?;
         at += token.len as usize;
-        let passed = pass_to(old, next, place, at, from, end);
-        if passed.met {
-            return Ok(Recut {
-                fresh,
-                back: Some(passed.next),
-                place: passed.place,
+        let search = find_boundary(old, position, at, new_end, end);
+        if search.found {
+            return Ok(CutTokens {
+                tokens,
+                meeting: Some(search.position),
             });
         }
-        next = passed.next;
-        place = passed.place;
+        position = search.position;
     }
-    Ok(Recut {
-        fresh,
-        back: None,
-        place: 0,
+    Ok(CutTokens {
+        tokens,
+        meeting: None,
     })
 }

@@ -1,9 +1,0 @@
-use Rattle.std.proofs.Common.{◌-◌, ◌+◌, refl, ap, ◌∙◌}
-use Rattle.squawk_document.proofs.PutSteps.{put_is}
-use Rattle.squawk_document.proofs.place.put.Goals as goal
-
-pub returns-clause-items : goal.returns-clause-items
-returns-clause-items g c =
-    put_is c.args.items.now.items c.args.with.items _ _ _ _ c.args.kept c.args.next (c.args.next - c.args.kept) c.len-added.result _ c.requires.low c.requires.within
-    refl (c.len-added.ensures ∙ c.args.with.ok.0) (ap (λ n. n - (c.args.next - c.args.kept) + c.len-added.result) (c.len.ensures ∙ c.args.items.now.ok.0))
-    c.in-Ok.ensures.items c.rotate_from.ensures.parts c.truncate.ensures.items c.rotate_from-2.ensures.parts
