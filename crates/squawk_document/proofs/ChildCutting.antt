@@ -3,7 +3,7 @@ use Rattle.std.proofs.Common.{◌≡◌, ℕ, zero, suc, ◌+◌, ◌-◌, ◌<�
 use Rattle.std.proofs.lemmas.List.{append-nil, drop-drop, take-append-drop, drop_at, take_at, drop-append-le, take-append-le, length-take-le}
 use Rattle.std.specs.Str.{IsUtf8}
 use Rattle.squawk_lexer.specs.declared.token.Token.{Token}
-use Rattle.squawk_cut.specs.Shape.{Shape}
+use Rattle.squawk_cut.specs.ChildValue.{ChildValue}
 use Rattle.squawk_cut.specs.Tells.{Tells, IsLawful, Lexeme, lexeme_bytes}
 use Rattle.squawk_cut.specs.Tokens.{tokens_from, tokens_of}
 use Rattle.squawk_cut.specs.Children.{lexemes, children_from}
@@ -69,14 +69,14 @@ children_first t law (x ∷ xs) h =
     ap (λ cs. t.child_at (x ∷ xs) ∷ cs) (children_inside t ((t.child_at (x ∷ xs)).tokens - 1) xs ∙ ap (children_from t 0) (drop_end (t.child_at (x ∷ xs)).tokens x xs (law.child_some (x ∷ xs) h)))
 
 -- what is known of the first child
-pub record IsFirstChild (t : Tells) (xs : List Lexeme) (c : Shape) (cs : List Shape) : Type 0 where
+pub record IsFirstChild (t : Tells) (xs : List Lexeme) (c : ChildValue) (cs : List ChildValue) : Type 0 where
   pub child : c ≡ t.child_at xs
   pub some : 0 < c.tokens
   pub within : c.tokens ≤ length xs
   pub bytes : c.bytes ≡ lexeme_bytes (take c.tokens xs)
   pub rest : children_from t 0 (drop c.tokens xs) ≡ cs
 
-pub first_child : (t : Tells) → IsLawful t → (xs : List Lexeme) (c : Shape) (cs : List Shape) → children_from t 0 xs ≡ c ∷ cs → IsFirstChild t xs c cs
+pub first_child : (t : Tells) → IsLawful t → (xs : List Lexeme) (c : ChildValue) (cs : List ChildValue) → children_from t 0 xs ≡ c ∷ cs → IsFirstChild t xs c cs
 first_child t law [] c cs e = absurd (cc)
 first_child t law (x ∷ xs) c cs e =
     let all = x ∷ xs in
@@ -86,10 +86,10 @@ first_child t law (x ∷ xs) c cs e =
     let rest : children_from t 0 (drop (t.child_at all).tokens all) ≡ cs = cc in
     record {
       child = is;
-      some = subst (λ (d : Shape). 0 < d.tokens) (sym is) (law.child_some all h);
-      within = subst (λ (d : Shape). d.tokens ≤ length all) (sym is) (law.child_within all h);
-      bytes = subst (λ (d : Shape). d.bytes ≡ lexeme_bytes (take d.tokens all)) (sym is) (law.child_bytes all h);
-      rest = ap (λ (d : Shape). children_from t 0 (drop d.tokens all)) is ∙ rest;
+      some = subst (λ (d : ChildValue). 0 < d.tokens) (sym is) (law.child_some all h);
+      within = subst (λ (d : ChildValue). d.tokens ≤ length all) (sym is) (law.child_within all h);
+      bytes = subst (λ (d : ChildValue). d.bytes ≡ lexeme_bytes (take d.tokens all)) (sym is) (law.child_bytes all h);
+      rest = ap (λ (d : ChildValue). children_from t 0 (drop d.tokens all)) is ∙ rest;
     }
 
 bytes_split : (m n : ℕ) (xs : List Lexeme) → lexeme_bytes (take (m + n) xs) ≡ lexeme_bytes (take m xs) + lexeme_bytes (take n (drop m xs))
@@ -101,12 +101,12 @@ bytes_split (suc m) n (x ∷ xs) =
     ap (λ k. lexeme_bytes (take k (x ∷ xs))) one ∙ omega (arith, bytes_split m n xs)
 
 -- behind some children come those of the tokens that are left
-pub record IsRestOf (t : Tells) (xs : List Lexeme) (cs ds : List Shape) : Type 0 where
+pub record IsRestOf (t : Tells) (xs : List Lexeme) (cs ds : List ChildValue) : Type 0 where
   pub children : ds ≡ children_from t 0 (drop (child_tokens cs) xs)
   pub within : child_tokens cs ≤ length xs
   pub bytes : child_bytes cs ≡ lexeme_bytes (take (child_tokens cs) xs)
 
-pub rest_of : (t : Tells) → IsLawful t → (xs : List Lexeme) (cs ds : List Shape) → children_from t 0 xs ≡ cs ++ ds → IsRestOf t xs cs ds
+pub rest_of : (t : Tells) → IsLawful t → (xs : List Lexeme) (cs ds : List ChildValue) → children_from t 0 xs ≡ cs ++ ds → IsRestOf t xs cs ds
 rest_of t law xs [] ds e = record { children = sym e; within = omega arith; bytes = refl }
 rest_of t law xs (c ∷ cs) ds e =
     let f = first_child t law xs c (cs ++ ds) e in
@@ -120,7 +120,7 @@ rest_of t law xs (c ∷ cs) ds e =
 -- ---- children that two texts share
 
 -- closed children within tokens that two lists begin with are the same in both
-pub shared_children : (t : Tells) → IsLawful t → (same rest other : List Lexeme) (cs ds : List Shape) → AllClosed cs → child_tokens cs ≤ length same → children_from t 0 (same ++ rest) ≡ cs ++ ds
+pub shared_children : (t : Tells) → IsLawful t → (same rest other : List Lexeme) (cs ds : List ChildValue) → AllClosed cs → child_tokens cs ≤ length same → children_from t 0 (same ++ rest) ≡ cs ++ ds
     → children_from t 0 (same ++ other) ≡ cs ++ children_from t 0 (drop (child_tokens cs) (same ++ other))
 shared_children t law same rest other [] ds closed h e = refl
 shared_children t law same rest other (c ∷ cs) ds closed h e =
@@ -129,7 +129,7 @@ shared_children t law same rest other (c ∷ cs) ds closed h e =
     let split : (ws : List Lexeme) → same ++ ws ≡ take c.tokens same ++ (drop c.tokens same ++ ws) = λ ws. ap (λ xs. xs ++ ws) (sym (take-append-drop c.tokens same)) ∙ append_assoc (take c.tokens same) (drop c.tokens same) ws in
     let len : length (take c.tokens same) ≡ c.tokens = length-take-le c.tokens same low in
     let old_is : t.child_at (take c.tokens same ++ (drop c.tokens same ++ rest)) ≡ c = ap t.child_at (sym (split rest)) ∙ sym f.child in
-    let stays = law.stays (take c.tokens same) (drop c.tokens same ++ rest) (drop c.tokens same ++ other) (ap (λ (d : Shape). d.closed) old_is ∙ closed.0) (ap (λ (d : Shape). d.tokens) old_is ∙ sym len) in
+    let stays = law.stays (take c.tokens same) (drop c.tokens same ++ rest) (drop c.tokens same ++ other) (ap (λ (d : ChildValue). d.closed) old_is ∙ closed.0) (ap (λ (d : ChildValue). d.tokens) old_is ∙ sym len) in
     let is : t.child_at (same ++ other) ≡ c = ap t.child_at (split other) ∙ stays ∙ old_is in
     let some : 0 < c.tokens = f.some in
     let first = children_first t law (same ++ other) (omega (arith, length-append same other)) in
@@ -137,7 +137,7 @@ shared_children t law same rest other (c ∷ cs) ds closed h e =
     let after = drop-append-le c.tokens same other low in
     let tail = shared_children t law (drop c.tokens same) rest other cs ds closed.1 (omega (arith, length-drop c.tokens same)) (ap (children_from t 0) (sym after_old) ∙ f.rest) in
     first
-    ∙ ap (λ (d : Shape). d ∷ children_from t 0 (drop d.tokens (same ++ other))) is
+    ∙ ap (λ (d : ChildValue). d ∷ children_from t 0 (drop d.tokens (same ++ other))) is
     ∙ ap (λ xs. c ∷ children_from t 0 xs) after
     ∙ ap (λ ds. c ∷ ds) tail
     ∙ ap (λ xs. (c ∷ cs) ++ children_from t 0 xs) (ap (drop (child_tokens cs)) (sym after) ∙ drop-drop (child_tokens cs) c.tokens (same ++ other))
@@ -145,7 +145,7 @@ shared_children t law same rest other (c ∷ cs) ds closed h e =
 -- ---- from a common place on
 
 -- the children behind some, by the place in the text where these end
-pub children_after : (t : Tells) → IsLawful t → (u : List ℕ) (c : Shape) (cs ds : List Shape) → IsUtf8 u → children_of t u ≡ (c ∷ cs) ++ ds
+pub children_after : (t : Tells) → IsLawful t → (u : List ℕ) (c : ChildValue) (cs ds : List ChildValue) → IsUtf8 u → children_of t u ≡ (c ∷ cs) ++ ds
     → ds ≡ children_from t 0 (lexemes (drop (child_bytes (c ∷ cs)) u) (tokens_from t 0 false (drop (child_bytes (c ∷ cs)) u)))
 children_after t law u c cs ds utf8 e =
     let ts = tokens_of t u in
@@ -171,7 +171,7 @@ children_after t law u c cs ds utf8 e =
     some_total ts k utf8 is some within = positive_take ts k (tokens_positive t law true u ts utf8 is) some within
 
 -- where children end at a place of the old text and at its new place, the same children follow
-pub back_same : (t : Tells) → IsLawful t → (text new : List ℕ) (start end : ℕ) (c d : Shape) (cs ds old_rest new_rest : List Shape) → IsUtf8 text → IsUtf8 (splice text start end new) → start ≤ length text
+pub back_same : (t : Tells) → IsLawful t → (text new : List ℕ) (start end : ℕ) (c d : ChildValue) (cs ds old_rest new_rest : List ChildValue) → IsUtf8 text → IsUtf8 (splice text start end new) → start ≤ length text
     → children_of t text ≡ (c ∷ cs) ++ old_rest → children_of t (splice text start end new) ≡ (d ∷ ds) ++ new_rest
     → start + length new ≤ child_bytes (d ∷ ds) → child_bytes (c ∷ cs) ≡ child_bytes (d ∷ ds) - (start + length new) + end
     → new_rest ≡ old_rest
@@ -187,7 +187,7 @@ take_bytes (suc n) [] = omega arith
 take_bytes (suc n) (x ∷ xs) = omega (arith, take_bytes n xs)
 
 -- the children of a text have no more bytes than it
-pub children_bytes : (t : Tells) → IsLawful t → (u : List ℕ) (cs : List Shape) → IsUtf8 u → cs ≡ children_of t u → child_bytes cs ≤ length u
+pub children_bytes : (t : Tells) → IsLawful t → (u : List ℕ) (cs : List ChildValue) → IsUtf8 u → cs ≡ children_of t u → child_bytes cs ≤ length u
 children_bytes t law u cs utf8 is =
     let xs : List Lexeme = lexemes u (tokens_of t u) in
     let r = rest_of t law xs cs [] (sym is ∙ sym (append-nil cs)) in

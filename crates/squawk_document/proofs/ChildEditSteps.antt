@@ -6,7 +6,7 @@ use Rattle.std.specs.List.{find}
 use Rattle.std.specs.Str.{IsUtf8}
 use Rattle.std.proofs.lemmas.Str.{IsUtf8-take, IsUtf8-drop, IsUtf8-append}
 use Rattle.squawk_lexer.specs.declared.token.Token.{Token}
-use Rattle.squawk_cut.specs.Shape.{Shape}
+use Rattle.squawk_cut.specs.ChildValue.{ChildValue}
 use Rattle.squawk_cut.specs.Tells.{Tells, IsLawful}
 use Rattle.squawk_cut.specs.Tokens.{tokens_of}
 use Rattle.squawk_document.specs.Boundaries.{IsRange, is_among, new_offset, splice, token_ends, total_len}
@@ -49,7 +49,7 @@ meeting_offset start end new old cut m e =
     let says = is_meeting_says start end new cut m (find_passes (is_meeting start end new cut) (token_ends 0 old) m e) in
     record { past = says.past; some = says.some; new_some = says.new_some }
 
-bytes_take_le : (xs : List Shape) (i j : ℕ) → i ≤ j → child_bytes (take i xs) ≤ child_bytes (take j xs)
+bytes_take_le : (xs : List ChildValue) (i j : ℕ) → i ≤ j → child_bytes (take i xs) ≤ child_bytes (take j xs)
 bytes_take_le xs zero j h = omega arith
 bytes_take_le [] (suc i) zero h = absurd (omega arith)
 bytes_take_le [] (suc i) (suc j) h = omega arith
@@ -57,7 +57,7 @@ bytes_take_le (x ∷ xs) (suc i) zero h = absurd (omega arith)
 bytes_take_le (x ∷ xs) (suc i) (suc j) h = omega (arith, bytes_take_le xs i j (omega arith))
 
 -- what is known when the tokens are made
-pub record IsReady (t : Tells) (text : List ℕ) (start end : ℕ) (new : List ℕ) (old new_tokens : List Token) (front : Position) (children : List Shape) (front_len : ℕ) : Type 0 where
+pub record IsReady (t : Tells) (text : List ℕ) (start end : ℕ) (new : List ℕ) (old new_tokens : List Token) (front : Position) (children : List ChildValue) (front_len : ℕ) : Type 0 where
   pub utf8 : IsUtf8 text
   pub new_utf8 : IsUtf8 new
   pub range : IsRange text start end
@@ -70,7 +70,7 @@ pub record IsReady (t : Tells) (text : List ℕ) (start end : ℕ) (new : List �
   pub stopped : StopsBefore (drop front_len children) (front.offset - child_bytes (take front_len children))
   pub within : front_len ≤ length children
 
-pub ready_front : (t : Tells) → IsLawful t → (text : List ℕ) (start end : ℕ) (new : List ℕ) (old new_tokens : List Token) (front : Position) (children : List Shape) (front_len : ℕ) → IsReady t text start end new old new_tokens front children front_len
+pub ready_front : (t : Tells) → IsLawful t → (text : List ℕ) (start end : ℕ) (new : List ℕ) (old new_tokens : List Token) (front : Position) (children : List ChildValue) (front_len : ℕ) → IsReady t text start end new old new_tokens front children front_len
     → IsChildrenFront t (take start text) (new ++ drop end text) old new_tokens front.index children front_len
 ready_front t law text start end new old new_tokens front children front_len r =
     let whole : take start text ++ drop start text ≡ text = take-append-drop start text in
@@ -91,7 +91,7 @@ ready_front t law text start end new old new_tokens front children front_len r =
       within = r.within;
     })
 
-pub child_edit : (t : Tells) → IsLawful t → (text : List ℕ) (start end : ℕ) (new : List ℕ) (old new_tokens : List Token) (front : Position) (children : List Shape) (front_len : ℕ) (fresh_children : List Shape) (back m : Option ℕ)
+pub child_edit : (t : Tells) → IsLawful t → (text : List ℕ) (start end : ℕ) (new : List ℕ) (old new_tokens : List Token) (front : Position) (children : List ChildValue) (front_len : ℕ) (fresh_children : List ChildValue) (back m : Option ℕ)
     → IsReady t text start end new old new_tokens front children front_len → meeting start end new old new_tokens ≡ m
     → IsReparse t (splice text start end new) new_tokens children (end_of (take front_len children)) (start + length new) end (option_map (new_offset start end new) m) fresh_children back
     → IsChildEdit t text start end new old new_tokens front.index children front_len fresh_children (back_child_index children back)
@@ -166,7 +166,7 @@ meeting_from start end new old cut (Some m) e =
     let some : 0 < m = offset.some in
     (omega arith, omega arith)
 
-pub get_ready : (t : Tells) (text : List ℕ) (start end : ℕ) (new : List ℕ) (old new_tokens : List Token) (front : Position) (children : List Shape) (part : FrontChildren)
+pub get_ready : (t : Tells) (text : List ℕ) (start end : ℕ) (new : List ℕ) (old new_tokens : List Token) (front : Position) (children : List ChildValue) (part : FrontChildren)
     → IsUtf8 text → IsUtf8 new → IsRange text start end → old ≡ tokens_of t text → new_tokens ≡ tokens_of t (splice text start end new) → children ≡ children_of t text → BeginsWithFront old new_tokens start front
     → AreFrontChildren children front.offset part → IsReady t text start end new old new_tokens front children part.len
 get_ready t text start end new old new_tokens front children part utf8 new_utf8 range tokens new_tokens_are children_are begins f = record {
@@ -183,14 +183,14 @@ get_ready t text start end new old new_tokens front children part utf8 new_utf8 
   within = f.within;
 }
 
-end_is : (children : List Shape) (part : FrontChildren) → part.end.index ≡ child_tokens (take part.len children) → part.end.offset ≡ child_bytes (take part.len children) → part.end ≡ end_of (take part.len children)
+end_is : (children : List ChildValue) (part : FrontChildren) → part.end.index ≡ child_tokens (take part.len children) → part.end.offset ≡ child_bytes (take part.len children) → part.end ≡ end_of (take part.len children)
 end_is children part index offset = ap (λ n. at n part.end.offset) index ∙ ap (λ n. at (child_tokens (take part.len children)) n) offset
   where
     at : ℕ → ℕ → Position
     at n m = record { index = n; offset = m }
 
 -- the parses as the code has them
-pub child_edit_in : (t : Tells) → IsLawful t → (text : List ℕ) (start end : ℕ) (new : List ℕ) (old new_tokens : List Token) (front : Position) (children : List Shape) (part : FrontChildren) (fresh_children : List Shape) (back m new_m : Option ℕ) (new_text : List ℕ) (next : ℕ)
+pub child_edit_in : (t : Tells) → IsLawful t → (text : List ℕ) (start end : ℕ) (new : List ℕ) (old new_tokens : List Token) (front : Position) (children : List ChildValue) (part : FrontChildren) (fresh_children : List ChildValue) (back m new_m : Option ℕ) (new_text : List ℕ) (next : ℕ)
     → IsReady t text start end new old new_tokens front children part.len → AreFrontChildren children front.offset part → meeting start end new old new_tokens ≡ m → new_text ≡ splice text start end new
     → new_m ≡ option_map (new_offset start end new) m → next ≡ back_child_index children back → IsReparse t new_text new_tokens children part.end (start + length new) end new_m fresh_children back
     → IsChildEdit t text start end new old new_tokens front.index children part.len fresh_children next
@@ -200,7 +200,7 @@ child_edit_in t law text start end new old new_tokens front children part fresh_
     let d = subst (λ o. IsReparse t (splice text start end new) new_tokens children (end_of (take part.len children)) (start + length new) end o fresh_children back) new_m_is b in
     subst (λ n. IsChildEdit t text start end new old new_tokens front.index children part.len fresh_children n) (sym next_is) (child_edit t law text start end new old new_tokens front children part.len fresh_children back m r meeting_is d)
 
-pub child_counts : (t : Tells) (text : List ℕ) (start end : ℕ) (new : List ℕ) (old new_tokens : List Token) (front : ℕ) (children : List Shape) (front_len : ℕ) (fresh_children : List Shape) (next n : ℕ)
+pub child_counts : (t : Tells) (text : List ℕ) (start end : ℕ) (new : List ℕ) (old new_tokens : List Token) (front : ℕ) (children : List ChildValue) (front_len : ℕ) (fresh_children : List ChildValue) (next n : ℕ)
     → old ≡ tokens_of t text → new_tokens ≡ tokens_of t (splice text start end new) → children ≡ children_of t text → front ≡ front_tokens text start old → IsChildEdit t text start end new old new_tokens front children front_len fresh_children next → n ≡ length fresh_children
     → record { front_children = front_len; parsed_children = n; back_children = length children - next } ≡ child_counts_of t text start end new
 child_counts t text start end new old new_tokens front children front_len fresh_children next n old_is new_is children_are front_is r n_is =

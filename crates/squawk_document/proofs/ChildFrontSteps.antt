@@ -3,7 +3,7 @@ use Rattle.std.proofs.Common.{◌≡◌, ℕ, zero, suc, ◌+◌, ◌-◌, ◌<�
 use Rattle.std.proofs.lemmas.List.{take-append-drop, length-take-le, take-append-le, take-take}
 use Rattle.std.specs.Str.{IsUtf8}
 use Rattle.squawk_lexer.specs.declared.token.Token.{Token}
-use Rattle.squawk_cut.specs.Shape.{Shape}
+use Rattle.squawk_cut.specs.ChildValue.{ChildValue}
 use Rattle.squawk_cut.specs.Tells.{Tells, IsLawful, Lexeme, lexeme_bytes}
 use Rattle.squawk_cut.specs.Tokens.{tokens_of}
 use Rattle.squawk_cut.specs.Children.{lexemes, children_from}
@@ -29,7 +29,7 @@ fewer_tokens (x ∷ xs) (suc i) zero p h e = absurd (let some : 0 < x.len = p.0 
 fewer_tokens (x ∷ xs) (suc i) (suc j) p h e = omega (arith, fewer_tokens xs i j p.1 (omega arith) (omega arith))
 
 -- the children of a text lie along its tokens
-pub aligned : (t : Tells) → IsLawful t → (text : List ℕ) (tokens : List Token) (children : List Shape) → tokens ≡ tokens_of t text → children ≡ children_of t text → AreAligned tokens children
+pub aligned : (t : Tells) → IsLawful t → (text : List ℕ) (tokens : List Token) (children : List ChildValue) → tokens ≡ tokens_of t text → children ≡ children_of t text → AreAligned tokens children
 aligned t law text tokens children is children_are = record { bytes = λ n. bytes n; within = λ n. within n }
   where
     rest : (n : ℕ) → IsRestOf t (lexemes text tokens) (take n children) (drop n children)
@@ -42,7 +42,7 @@ aligned t law text tokens children is children_are = record { bytes = λ n. byte
     bytes n = (rest n).bytes ∙ ap lexeme_bytes (take-lexemes text tokens (child_tokens (take n children)) (within n)) ∙ bytes-lexemes text (take (child_tokens (take n children)) tokens)
 
 -- what is known before the parses: the tokens of both texts begin with the same ones, which lie in a part that the texts share
-pub record IsChildrenPrepared (t : Tells) (same rest other : List ℕ) (old new_tokens : List Token) (front : ℕ) (children : List Shape) (front_len : ℕ) : Type 0 where
+pub record IsChildrenPrepared (t : Tells) (same rest other : List ℕ) (old new_tokens : List Token) (front : ℕ) (children : List ChildValue) (front_len : ℕ) : Type 0 where
   pub utf8 : IsUtf8 (same ++ rest)
   pub tokens : old ≡ tokens_of t (same ++ rest)
   pub new_tokens_are : new_tokens ≡ tokens_of t (same ++ other)
@@ -55,13 +55,13 @@ pub record IsChildrenPrepared (t : Tells) (same rest other : List ℕ) (old new_
   pub stopped : StopsBefore (drop front_len children) (total_len (take front old) - child_bytes (take front_len children))
   pub within : front_len ≤ length children
 
-pub record IsChildrenFront (t : Tells) (same other : List ℕ) (old new_tokens : List Token) (front : ℕ) (children : List Shape) (front_len : ℕ) : Type 0 where
+pub record IsChildrenFront (t : Tells) (same other : List ℕ) (old new_tokens : List Token) (front : ℕ) (children : List ChildValue) (front_len : ℕ) : Type 0 where
   pub new_children_are : children_of t (same ++ other) ≡ take front_len children ++ children_at t (same ++ other) new_tokens (child_bytes (take front_len children)) (child_tokens (take front_len children))
   pub count : front_children front old children ≡ front_len
   pub index : child_bytes (take front_len children) ≡ total_len (take (child_tokens (take front_len children)) new_tokens)
   pub index_within : child_tokens (take front_len children) ≤ length new_tokens
 
-pub children_front : (t : Tells) → IsLawful t → (same rest other : List ℕ) (old new_tokens : List Token) (front : ℕ) (children : List Shape) (front_len : ℕ) → IsChildrenPrepared t same rest other old new_tokens front children front_len → IsChildrenFront t same other old new_tokens front children front_len
+pub children_front : (t : Tells) → IsLawful t → (same rest other : List ℕ) (old new_tokens : List Token) (front : ℕ) (children : List ChildValue) (front_len : ℕ) → IsChildrenPrepared t same rest other old new_tokens front children front_len → IsChildrenFront t same other old new_tokens front children front_len
 children_front t law same rest other old new_tokens front children front_len p =
     let cs = take front_len children in
     let ds = drop front_len children in
@@ -95,7 +95,7 @@ children_front t law same rest other old new_tokens front children front_len p =
     }
 
 -- each child has a byte at least
-abbrev pub PositiveChildren : List Shape → Type 0
+abbrev pub PositiveChildren : List ChildValue → Type 0
 PositiveChildren [] = Unit {0}
 PositiveChildren (c ∷ cs) = (0 < c.bytes) × PositiveChildren cs
 
@@ -117,42 +117,42 @@ taken_some zero xs p h l = absurd (omega arith)
 taken_some (suc n) [] p h l = absurd (omega arith)
 taken_some (suc n) (x ∷ xs) p h l = let first : 0 < x.token.len = p.0 in omega arith
 
-children_positive : (t : Tells) → IsLawful t → (xs : List Lexeme) (cs : List Shape) → PositiveLexemes xs → children_from t 0 xs ≡ cs → PositiveChildren cs
+children_positive : (t : Tells) → IsLawful t → (xs : List Lexeme) (cs : List ChildValue) → PositiveLexemes xs → children_from t 0 xs ≡ cs → PositiveChildren cs
 children_positive t law xs [] p e = tt
 children_positive t law xs (c ∷ cs) p e =
     let f = first_child t law xs c cs e in
     (omega (arith, f.bytes, taken_some c.tokens xs p f.some f.within), children_positive t law (drop c.tokens xs) cs (drop_positive c.tokens xs p) f.rest)
 
-pub children_of_positive : (t : Tells) → IsLawful t → (u : List ℕ) (cs : List Shape) → IsUtf8 u → cs ≡ children_of t u → PositiveChildren cs
+pub children_of_positive : (t : Tells) → IsLawful t → (u : List ℕ) (cs : List ChildValue) → IsUtf8 u → cs ≡ children_of t u → PositiveChildren cs
 children_of_positive t law u cs utf8 is =
     children_positive t law (lexemes u (tokens_of t u)) cs (lexemes_positive u (tokens_of t u) (tokens_positive t law true u (tokens_of t u) utf8 refl)) (sym is)
 
 -- children with a byte have a last one
-pub record LastChild (xs : List Shape) : Type 0 where
-  pub earlier : List Shape
-  pub last : Shape
+pub record LastChild (xs : List ChildValue) : Type 0 where
+  pub earlier : List ChildValue
+  pub last : ChildValue
   pub parts : xs ≡ earlier ++ last ∷ []
   pub some : 0 < last.bytes
 
-split_last : (x : Shape) (xs : List Shape) → PositiveChildren (x ∷ xs) → LastChild (x ∷ xs)
+split_last : (x : ChildValue) (xs : List ChildValue) → PositiveChildren (x ∷ xs) → LastChild (x ∷ xs)
 split_last x [] p = record { earlier = []; last = x; parts = refl; some = p.0 }
 split_last x (y ∷ ys) p = let l = split_last y ys p.1 in record { earlier = x ∷ l.earlier; last = l.last; parts = ap (λ cs. x ∷ cs) l.parts; some = l.some }
 
-some_last : (xs : List Shape) → PositiveChildren xs → 0 < child_bytes xs → LastChild xs
+some_last : (xs : List ChildValue) → PositiveChildren xs → 0 < child_bytes xs → LastChild xs
 some_last [] p h = absurd (omega arith)
 some_last (x ∷ xs) p h = split_last x xs p
 
-take_positive : (n : ℕ) (xs : List Shape) → PositiveChildren xs → PositiveChildren (take n xs)
+take_positive : (n : ℕ) (xs : List ChildValue) → PositiveChildren xs → PositiveChildren (take n xs)
 take_positive zero xs p = tt
 take_positive (suc n) [] p = tt
 take_positive (suc n) (x ∷ xs) p = (p.0, take_positive n xs p.1)
 
-AllClosed_both : (xs ys : List Shape) → AllClosed xs → AllClosed ys → AllClosed (xs ++ ys)
+AllClosed_both : (xs ys : List ChildValue) → AllClosed xs → AllClosed ys → AllClosed (xs ++ ys)
 AllClosed_both [] ys a b = b
 AllClosed_both (x ∷ xs) ys a b = (a.0, AllClosed_both xs ys a.1 b)
 
 -- the same children follow, where both lists of children before are not empty
-same_after : (t : Tells) → IsLawful t → (text new : List ℕ) (start end : ℕ) (cs ds old_rest new_rest : List Shape) → IsUtf8 text → IsUtf8 (splice text start end new) → start ≤ length text
+same_after : (t : Tells) → IsLawful t → (text new : List ℕ) (start end : ℕ) (cs ds old_rest new_rest : List ChildValue) → IsUtf8 text → IsUtf8 (splice text start end new) → start ≤ length text
     → children_of t text ≡ cs ++ old_rest → children_of t (splice text start end new) ≡ ds ++ new_rest → 0 < child_bytes cs → 0 < child_bytes ds
     → start + length new ≤ child_bytes ds → child_bytes cs ≡ child_bytes ds - (start + length new) + end → new_rest ≡ old_rest
 same_after t law text new start end [] ds old_rest new_rest utf8 new_utf8 inside a b c_some d_some low offset = absurd (omega arith)
@@ -164,16 +164,16 @@ not_true : (b : Bool) → not b ≡ true → b ≡ false
 not_true true e = absurd (cc)
 not_true false e = refl
 
-pub record AfterReturn (t : Tells) (text : List ℕ) (start end : ℕ) (new : List ℕ) (m : ℕ) (children : List Shape) (front_len next : ℕ) (fresh_children : List Shape) : Type 0 where
+pub record AfterReturn (t : Tells) (text : List ℕ) (start end : ℕ) (new : List ℕ) (m : ℕ) (children : List ChildValue) (front_len next : ℕ) (fresh_children : List ChildValue) : Type 0 where
   pub new_children_are : children_of t (splice text start end new) ≡ take front_len children ++ (fresh_children ++ drop next children)
   pub back : back_children start end new (Some m) children (children_of t (splice text start end new)) ≡ length children - next
 
 -- the position after children, which are the first of a text
-abbrev pub end_of : List Shape → Position
+abbrev pub end_of : List ChildValue → Position
 end_of cs = record { index = child_tokens cs; offset = child_bytes cs }
 
 -- after a return the old children follow
-pub children_return : (t : Tells) → IsLawful t → (text : List ℕ) (start end : ℕ) (new : List ℕ) (m : ℕ) (new_tokens : List Token) (children : List Shape) (front_len next : ℕ) (fresh_children : List Shape) → IsUtf8 text → IsUtf8 (splice text start end new) → start ≤ length text
+pub children_return : (t : Tells) → IsLawful t → (text : List ℕ) (start end : ℕ) (new : List ℕ) (m : ℕ) (new_tokens : List Token) (children : List ChildValue) (front_len next : ℕ) (fresh_children : List ChildValue) → IsUtf8 text → IsUtf8 (splice text start end new) → start ≤ length text
     → IsMeetingOffset start end new m → children ≡ children_of t text → AllClosed (take front_len children) → (0 < child_bytes (take front_len children) → child_bytes (take front_len children) < start)
     → children_of t (splice text start end new) ≡ take front_len children ++ children_at t (splice text start end new) new_tokens (child_bytes (take front_len children)) (child_tokens (take front_len children))
     → EndsAtReturn t (splice text start end new) new_tokens children (end_of (take front_len children)) (start + length new) end (Some (new_offset start end new m)) fresh_children next
@@ -206,7 +206,7 @@ children_return t law text start end new m new_tokens children front_len next fr
     }
 
 -- without a return the fresh ones are the last
-pub children_no_return : (t : Tells) (text : List ℕ) (start end : ℕ) (new : List ℕ) (m : ℕ) (new_tokens : List Token) (children : List Shape) (front_len : ℕ) (fresh_children : List Shape)
+pub children_no_return : (t : Tells) (text : List ℕ) (start end : ℕ) (new : List ℕ) (m : ℕ) (new_tokens : List Token) (children : List ChildValue) (front_len : ℕ) (fresh_children : List ChildValue)
     → IsMeetingOffset start end new m → (0 < child_bytes (take front_len children) → child_bytes (take front_len children) < start)
     → children_of t (splice text start end new) ≡ take front_len children ++ children_at t (splice text start end new) new_tokens (child_bytes (take front_len children)) (child_tokens (take front_len children))
     → ReturnsNowhere t (splice text start end new) new_tokens children (end_of (take front_len children)) (start + length new) end (Some (new_offset start end new m)) fresh_children
@@ -216,7 +216,7 @@ children_no_return t text start end new m new_tokens children front_len fresh_ch
     (all, back_children_none start end new m children (children_of t (splice text start end new)) (take front_len children) fresh_children at all low r.none_returns)
 
 -- a return lies at the meeting or past it
-pub return_is_late : (start end : ℕ) (new : List ℕ) (m : ℕ) (children : List Shape) (x p : ℕ) → end ≤ m → is_new_return (start + length new) end (Some (new_offset start end new m)) children x ≡ true → p ≡ x - (start + length new) + end → m ≤ p
+pub return_is_late : (start end : ℕ) (new : List ℕ) (m : ℕ) (children : List ChildValue) (x p : ℕ) → end ≤ m → is_new_return (start + length new) end (Some (new_offset start end new m)) children x ≡ true → p ≡ x - (start + length new) + end → m ≤ p
 return_is_late start end new m children x p past e is =
     let (late, quiet) = and_parts (not (nat_lt x (new_offset start end new m))) (is_quiet children (x - (start + length new) + end)) e in
     let late_is = not_true (nat_lt x (new_offset start end new m)) late in

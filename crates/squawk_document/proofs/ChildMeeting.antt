@@ -4,7 +4,7 @@ use Rattle.std.proofs.lemmas.List.{append-nil}
 use Rattle.std.proofs.lemmas.List.Sums.{sum_by-append}
 use Rattle.std.proofs.lemmas.Bool.Decides.{nat_tests}
 use Rattle.std.specs.List.{list_any, position_or_len, count_by}
-use Rattle.squawk_cut.specs.Shape.{Shape}
+use Rattle.squawk_cut.specs.ChildValue.{ChildValue}
 use Rattle.squawk_lexer.specs.declared.token.Token.{Token}
 use Rattle.squawk_document.specs.Boundaries.{is_among, new_offset, total_len}
 use Rattle.squawk_document.specs.ChildEdit.{is_new_return}
@@ -15,25 +15,25 @@ use Rattle.squawk_cut.specs.Join.{child_bytes}
 use Rattle.squawk_document.proofs.OffsetTests.{any-append, and_parts, or_parts, is_false, same_offset, none_by, member_fails, first_at, first_none}
 use Rattle.squawk_document.proofs.FrontSteps.{count_all, count_none, member_later}
 
-pub child_bytes-append : (xs ys : List Shape) → child_bytes (xs ++ ys) ≡ child_bytes xs + child_bytes ys
+pub child_bytes-append : (xs ys : List ChildValue) → child_bytes (xs ++ ys) ≡ child_bytes xs + child_bytes ys
 child_bytes-append [] ys = omega arith
 child_bytes-append (x ∷ xs) ys = omega (arith, child_bytes-append xs ys)
 
-pub child_ends-append : (at : ℕ) (xs ys : List Shape) → child_ends at (xs ++ ys) ≡ child_ends at xs ++ child_ends (at + child_bytes xs) ys
+pub child_ends-append : (at : ℕ) (xs ys : List ChildValue) → child_ends at (xs ++ ys) ≡ child_ends at xs ++ child_ends (at + child_bytes xs) ys
 child_ends-append at [] ys = ap (λ n. child_ends n ys) (omega arith)
 child_ends-append at (x ∷ xs) ys = ap (λ es. (at + x.bytes) ∷ es) (child_ends-append (at + x.bytes) xs ys ∙ ap (λ n. child_ends (at + x.bytes) xs ++ child_ends n ys) (omega arith))
 
-pub length-child_ends : (at : ℕ) (xs : List Shape) → length (child_ends at xs) ≡ length xs
+pub length-child_ends : (at : ℕ) (xs : List ChildValue) → length (child_ends at xs) ≡ length xs
 length-child_ends at [] = refl
 length-child_ends at (x ∷ xs) = ap suc (length-child_ends (at + x.bytes) xs)
 
 -- behind closed children the quiet ends go on
-pub quiet-append : (at : ℕ) (xs ys : List Shape) → AllClosed xs → quiet_ends at (xs ++ ys) ≡ child_ends at xs ++ quiet_ends (at + child_bytes xs) ys
+pub quiet-append : (at : ℕ) (xs ys : List ChildValue) → AllClosed xs → quiet_ends at (xs ++ ys) ≡ child_ends at xs ++ quiet_ends (at + child_bytes xs) ys
 quiet-append at [] ys closed = ap (λ n. quiet_ends n ys) (omega arith)
 quiet-append at (x ∷ xs) ys closed = rw closed.0 (ap (λ es. (at + x.bytes) ∷ es) (quiet-append (at + x.bytes) xs ys closed.1 ∙ ap (λ n. child_ends (at + x.bytes) xs ++ quiet_ends n ys) (omega arith)))
 
 -- a quiet end of some children and others is one of the first, or these are closed and it is one of the others
-pub quiet_parts : (at : ℕ) (xs ys : List Shape) (e : ℕ) → is_among (quiet_ends at (xs ++ ys)) e ≡ true → (is_among (quiet_ends at xs) e ≡ true) ⊎ (AllClosed xs × (is_among (quiet_ends (at + child_bytes xs) ys) e ≡ true))
+pub quiet_parts : (at : ℕ) (xs ys : List ChildValue) (e : ℕ) → is_among (quiet_ends at (xs ++ ys)) e ≡ true → (is_among (quiet_ends at xs) e ≡ true) ⊎ (AllClosed xs × (is_among (quiet_ends (at + child_bytes xs) ys) e ≡ true))
 quiet_parts at [] ys e m = inr (tt, ap (λ n. is_among (quiet_ends n ys) e) (omega arith) ∙ m)
 quiet_parts at (x ∷ xs) ys e m = by x.closed refl (quiet_parts (at + x.bytes) xs ys e) m
   where
@@ -48,7 +48,7 @@ quiet_parts at (x ∷ xs) ys e m = by x.closed refl (quiet_parts (at + x.bytes) 
     ]
     by false c more m = absurd (cc)
 
-pub quiet_from : (at : ℕ) (xs : List Shape) (e : ℕ) → is_among (quiet_ends at xs) e ≡ true → at ≤ e
+pub quiet_from : (at : ℕ) (xs : List ChildValue) (e : ℕ) → is_among (quiet_ends at xs) e ≡ true → at ≤ e
 quiet_from at [] e m = absurd (cc)
 quiet_from at (x ∷ xs) e m = by x.closed (quiet_from (at + x.bytes) xs e) m
   where
@@ -56,7 +56,7 @@ quiet_from at (x ∷ xs) e m = by x.closed (quiet_from (at + x.bytes) xs e) m
     by true more m = elim (or_parts (eqb (at + x.bytes) e) (is_among (quiet_ends (at + x.bytes) xs) e) m) [ inl here ↦ let same = same_offset (at + x.bytes) e here in omega arith | inr later ↦ let rest = more later in omega arith ]
     by false more m = absurd (cc)
 
-pub quiet_within : (at : ℕ) (xs : List Shape) (e : ℕ) → is_among (quiet_ends at xs) e ≡ true → e ≤ at + child_bytes xs
+pub quiet_within : (at : ℕ) (xs : List ChildValue) (e : ℕ) → is_among (quiet_ends at xs) e ≡ true → e ≤ at + child_bytes xs
 quiet_within at [] e m = absurd (cc)
 quiet_within at (x ∷ xs) e m = by x.closed (quiet_within (at + x.bytes) xs e) m
   where
@@ -64,12 +64,12 @@ quiet_within at (x ∷ xs) e m = by x.closed (quiet_within (at + x.bytes) xs e) 
     by true more m = elim (or_parts (eqb (at + x.bytes) e) (is_among (quiet_ends (at + x.bytes) xs) e) m) [ inl here ↦ let same = same_offset (at + x.bytes) e here in omega arith | inr later ↦ let rest = more later in omega arith ]
     by false more m = absurd (cc)
 
-pub child_end_within : (at : ℕ) (xs : List Shape) (e : ℕ) → is_among (child_ends at xs) e ≡ true → e ≤ at + child_bytes xs
+pub child_end_within : (at : ℕ) (xs : List ChildValue) (e : ℕ) → is_among (child_ends at xs) e ≡ true → e ≤ at + child_bytes xs
 child_end_within at [] e m = absurd (cc)
 child_end_within at (x ∷ xs) e m = elim (or_parts (eqb (at + x.bytes) e) (is_among (child_ends (at + x.bytes) xs) e) m) [ inl here ↦ let same = same_offset (at + x.bytes) e here in omega arith | inr later ↦ let rest = child_end_within (at + x.bytes) xs e later in omega arith ]
 
 -- the last of closed children ends at a quiet place
-pub last_quiet : (at : ℕ) (x : Shape) (xs ys : List Shape) (e : ℕ) → AllClosed (x ∷ xs) → e ≡ at + child_bytes (x ∷ xs) → is_among (quiet_ends at ((x ∷ xs) ++ ys)) e ≡ true
+pub last_quiet : (at : ℕ) (x : ChildValue) (xs ys : List ChildValue) (e : ℕ) → AllClosed (x ∷ xs) → e ≡ at + child_bytes (x ∷ xs) → is_among (quiet_ends at ((x ∷ xs) ++ ys)) e ≡ true
 last_quiet at x [] ys e closed is = let same : eqb (at + x.bytes) e ≡ true = grind (arith, nat_tests) in rw (closed.0, same) refl
 last_quiet at x (y ∷ xs) ys e closed is = rw closed.0 (member_later e (at + x.bytes) (quiet_ends (at + x.bytes) ((y ∷ xs) ++ ys)) (last_quiet (at + x.bytes) y xs ys e closed.1 (omega arith)))
 
@@ -78,10 +78,10 @@ not_true true e = absurd (cc)
 not_true false e = refl
 
 -- a quiet place above 0
-quiet_says : (xs : List Shape) (p : ℕ) → 0 < p → is_quiet xs p ≡ true → is_among (quiet_ends 0 xs) p ≡ true
+quiet_says : (xs : List ChildValue) (p : ℕ) → 0 < p → is_quiet xs p ≡ true → is_among (quiet_ends 0 xs) p ≡ true
 quiet_says xs p some e = elim (or_parts (eqb p 0) (is_among (quiet_ends 0 xs) p) e) [ inl z ↦ absurd (let same = same_offset p 0 z in omega arith) | inr m ↦ m ]
 
-quiet_is : (xs : List Shape) (p : ℕ) → is_among (quiet_ends 0 xs) p ≡ true → is_quiet xs p ≡ true
+quiet_is : (xs : List ChildValue) (p : ℕ) → is_among (quiet_ends 0 xs) p ≡ true → is_quiet xs p ≡ true
 quiet_is xs p m = by (eqb p 0)
   where
     by : (b : Bool) → (b || is_among (quiet_ends 0 xs) p) ≡ true
@@ -89,7 +89,7 @@ quiet_is xs p m = by (eqb p 0)
     by false = m
 
 -- what a return says
-pub record AtReturn (start end : ℕ) (new : List ℕ) (m : ℕ) (old new_children : List Shape) (p : ℕ) : Type 0 where
+pub record AtReturn (start end : ℕ) (new : List ℕ) (m : ℕ) (old new_children : List ChildValue) (p : ℕ) : Type 0 where
   pub past : m ≤ p
   pub quiet : is_among (quiet_ends 0 old) p ≡ true
   pub new_quiet : is_among (quiet_ends 0 new_children) (new_offset start end new p) ≡ true
@@ -100,7 +100,7 @@ pub record IsMeetingOffset (start end : ℕ) (new : List ℕ) (m : ℕ) : Type 0
   pub some : 0 < m
   pub new_some : 0 < new_offset start end new m
 
-is_return_says : (start end : ℕ) (new : List ℕ) (m : ℕ) (old new_children : List Shape) (p : ℕ) → IsMeetingOffset start end new m → is_return start end new m old new_children p ≡ true → AtReturn start end new m old new_children p
+is_return_says : (start end : ℕ) (new : List ℕ) (m : ℕ) (old new_children : List ChildValue) (p : ℕ) → IsMeetingOffset start end new m → is_return start end new m old new_children p ≡ true → AtReturn start end new m old new_children p
 is_return_says start end new m old new_children p at e =
     let some : 0 < m = at.some in
     let past_end : end ≤ m = at.past in
@@ -111,19 +111,19 @@ is_return_says start end new m old new_children p at e =
     let past : m ≤ p = grind (arith, nat_tests) in
     record { past = past; quiet = quiet_says old p (omega arith) b; new_quiet = quiet_says new_children (new_offset start end new p) (omega arith) high }
 
-is_return_from : (start end : ℕ) (new : List ℕ) (m : ℕ) (old new_children : List Shape) (p : ℕ) → AtReturn start end new m old new_children p → is_return start end new m old new_children p ≡ true
+is_return_from : (start end : ℕ) (new : List ℕ) (m : ℕ) (old new_children : List ChildValue) (p : ℕ) → AtReturn start end new m old new_children p → is_return start end new m old new_children p ≡ true
 is_return_from start end new m old new_children p r =
     let past : m ≤ p = r.past in
     let a : nat_lt p m ≡ false = grind (arith, nat_tests) in
     rw (a, quiet_is old p r.quiet, quiet_is new_children (new_offset start end new p) r.new_quiet) refl
 
-is_new_return_from : (new_end end m : ℕ) (old : List Shape) (x p : ℕ) → m ≤ x → p ≡ x - new_end + end → is_among (quiet_ends 0 old) p ≡ true → is_new_return new_end end (Some m) old x ≡ true
+is_new_return_from : (new_end end m : ℕ) (old : List ChildValue) (x p : ℕ) → m ≤ x → p ≡ x - new_end + end → is_among (quiet_ends 0 old) p ≡ true → is_new_return new_end end (Some m) old x ≡ true
 is_new_return_from new_end end m old x p low is quiet =
     let a : nat_lt x m ≡ false = grind (arith, nat_tests) in
     rw (a, ap (is_quiet old) (sym is) ∙ quiet_is old p quiet) refl
 
 -- no old end returns, where no new end does
-no_return : (start end : ℕ) (new : List ℕ) (m : ℕ) (old new_children fr fresh_children back : List Shape) (p : ℕ) → IsMeetingOffset start end new m → new_children ≡ fr ++ (fresh_children ++ back) → (0 < child_bytes fr → child_bytes fr < start)
+no_return : (start end : ℕ) (new : List ℕ) (m : ℕ) (old new_children fr fresh_children back : List ChildValue) (p : ℕ) → IsMeetingOffset start end new m → new_children ≡ fr ++ (fresh_children ++ back) → (0 < child_bytes fr → child_bytes fr < start)
     → list_any (is_new_return (start + length new) end (Some (new_offset start end new m)) old) (quiet_ends (child_bytes fr) fresh_children) ≡ false
     → (is_among (quiet_ends (child_bytes fr + child_bytes fresh_children) back) (new_offset start end new p) ≡ true → end ≤ p → ⊥) → is_return start end new m old new_children p ≡ false
 no_return start end new m old new_children fr fresh_children back p at new_children_are low none_returns none_after = is_false (is_return start end new m old new_children p) (λ e.
@@ -151,7 +151,7 @@ no_return start end new m old new_children fr fresh_children back p at new_child
     cases (suc n) = inr (omega arith)
 
 -- no return at all
-pub back_children_none : (start end : ℕ) (new : List ℕ) (m : ℕ) (old new_children fr fresh_children : List Shape) → IsMeetingOffset start end new m → new_children ≡ fr ++ fresh_children → (0 < child_bytes fr → child_bytes fr < start)
+pub back_children_none : (start end : ℕ) (new : List ℕ) (m : ℕ) (old new_children fr fresh_children : List ChildValue) → IsMeetingOffset start end new m → new_children ≡ fr ++ fresh_children → (0 < child_bytes fr → child_bytes fr < start)
     → list_any (is_new_return (start + length new) end (Some (new_offset start end new m)) old) (quiet_ends (child_bytes fr) fresh_children) ≡ false → back_children start end new (Some m) old new_children ≡ 0
 back_children_none start end new m old new_children fr fresh_children at new_children_are low none_returns =
     let all : new_children ≡ fr ++ (fresh_children ++ []) = new_children_are ∙ ap (λ cs. fr ++ cs) (sym (append-nil fresh_children)) in
@@ -159,7 +159,7 @@ back_children_none start end new m old new_children fr fresh_children at new_chi
     omega (arith, first_none (is_return start end new m old new_children) (child_ends 0 old) none, length-child_ends 0 old)
 
 -- a return where the last fresh child ends
-pub back_children_some : (start end : ℕ) (new : List ℕ) (m : ℕ) (old new_children fr before back old_back earlier : List Shape) (last old_last : Shape) → IsMeetingOffset start end new m
+pub back_children_some : (start end : ℕ) (new : List ℕ) (m : ℕ) (old new_children fr before back old_back earlier : List ChildValue) (last old_last : ChildValue) → IsMeetingOffset start end new m
     → new_children ≡ fr ++ ((before ++ last ∷ []) ++ back) → old ≡ (earlier ++ old_last ∷ []) ++ old_back → (0 < child_bytes fr → child_bytes fr < start) → 0 < old_last.bytes
     → AllClosed (fr ++ (before ++ last ∷ [])) → AllClosed (earlier ++ old_last ∷ [])
     → list_any (is_new_return (start + length new) end (Some (new_offset start end new m)) old) (quiet_ends (child_bytes fr) before) ≡ false
@@ -188,11 +188,11 @@ back_children_some start end new m old new_children fr before back old_back earl
     let first = ap (position_or_len (is_return start end new m old new_children)) ends_is ∙ first_at (is_return start end new m old new_children) (child_ends 0 earlier) p (child_ends p old_back) none passes in
     omega (arith, first, length-child_ends 0 earlier, ap length old_parts, length-append earlier (old_last ∷ old_back))
   where
-    end_quiet : (xs : List Shape) (x : Shape) (ys : List Shape) (e : ℕ) → AllClosed (xs ++ x ∷ []) → e ≡ child_bytes (xs ++ x ∷ []) → is_among (quiet_ends 0 ((xs ++ x ∷ []) ++ ys)) e ≡ true
+    end_quiet : (xs : List ChildValue) (x : ChildValue) (ys : List ChildValue) (e : ℕ) → AllClosed (xs ++ x ∷ []) → e ≡ child_bytes (xs ++ x ∷ []) → is_among (quiet_ends 0 ((xs ++ x ∷ []) ++ ys)) e ≡ true
     end_quiet [] x ys e closed is = last_quiet 0 x [] ys e closed (omega arith)
     end_quiet (y ∷ xs) x ys e closed is = last_quiet 0 y (xs ++ x ∷ []) ys e closed (omega arith)
 
-    after_last : (at : ℕ) (x : Shape) (xs : List Shape) (e : ℕ) → is_among (quiet_ends at (x ∷ xs)) e ≡ true → at + x.bytes ≤ e
+    after_last : (at : ℕ) (x : ChildValue) (xs : List ChildValue) (e : ℕ) → is_among (quiet_ends at (x ∷ xs)) e ≡ true → at + x.bytes ≤ e
     after_last at x xs e m = by x.closed m
       where
         by : (b : Bool) → is_among (cond b ((at + x.bytes) ∷ quiet_ends (at + x.bytes) xs) []) e ≡ true → at + x.bytes ≤ e
@@ -200,7 +200,7 @@ back_children_some start end new m old new_children fr before back old_back earl
         by false m = absurd (cc)
 
 -- quiet ends behind a stop lie past its place
-past_stop : (at used : ℕ) (ds : List Shape) (e limit : ℕ) → at ≡ used → StopsBefore ds (limit - used) → is_among (quiet_ends at ds) e ≡ true → limit < e
+past_stop : (at used : ℕ) (ds : List ChildValue) (e limit : ℕ) → at ≡ used → StopsBefore ds (limit - used) → is_among (quiet_ends at ds) e ≡ true → limit < e
 past_stop at used [] e limit is stopped m = absurd (cc)
 past_stop at used (d ∷ ds) e limit is stopped m = by d.closed refl m
   where
@@ -211,7 +211,7 @@ past_stop at used (d ∷ ds) e limit is stopped m = by d.closed refl m
     by false c m = absurd (cc)
 
 -- how many children are kept at the front: closed ones up to a place, behind which the next is unclosed or too long
-pub front_children_are : (front_tokens : ℕ) (old : List Token) (cs ds : List Shape) → AllClosed cs → child_bytes cs ≤ total_len (take front_tokens old) → StopsBefore ds (total_len (take front_tokens old) - child_bytes cs)
+pub front_children_are : (front_tokens : ℕ) (old : List Token) (cs ds : List ChildValue) → AllClosed cs → child_bytes cs ≤ total_len (take front_tokens old) → StopsBefore ds (total_len (take front_tokens old) - child_bytes cs)
     → front_children front_tokens old (cs ++ ds) ≡ length cs
 front_children_are front_tokens old cs ds closed low stopped =
     let limit = total_len (take front_tokens old) in
@@ -221,7 +221,7 @@ front_children_are front_tokens old cs ds closed low stopped =
     ap (count_by q) (quiet-append 0 cs ds closed) ∙ sum_by-append _ (child_ends 0 cs) (quiet_ends (0 + child_bytes cs) ds) ∙ omega (arith, all, none, length-child_ends 0 cs)
 
 -- where closed children end at a place or before, and then stop, the place is quiet exactly where they end at it
-pub quiet_at : (cs ds : List Shape) (p : ℕ) → 0 < p → AllClosed cs → child_bytes cs ≤ p → StopsBefore ds (p - child_bytes cs) → is_quiet (cs ++ ds) p ≡ eqb (child_bytes cs) p
+pub quiet_at : (cs ds : List ChildValue) (p : ℕ) → 0 < p → AllClosed cs → child_bytes cs ≤ p → StopsBefore ds (p - child_bytes cs) → is_quiet (cs ++ ds) p ≡ eqb (child_bytes cs) p
 quiet_at cs ds p some closed low stopped = by (eqb (child_bytes cs) p) refl
   where
     some_is : eqb p 0 ≡ false
@@ -233,11 +233,11 @@ quiet_at cs ds p some closed low stopped = by (eqb (child_bytes cs) p) refl
     none_after : is_among (quiet_ends (0 + child_bytes cs) ds) p ≡ false
     none_after = is_false (is_among (quiet_ends (0 + child_bytes cs) ds) p) (λ m. let past = past_stop (0 + child_bytes cs) (child_bytes cs) ds p p (omega arith) stopped m in omega arith)
 
-    at_end : (at : ℕ) (c : Shape) (xs : List Shape) → p ≡ at + child_bytes (c ∷ xs) → is_among (child_ends at (c ∷ xs)) p ≡ true
+    at_end : (at : ℕ) (c : ChildValue) (xs : List ChildValue) → p ≡ at + child_bytes (c ∷ xs) → is_among (child_ends at (c ∷ xs)) p ≡ true
     at_end at c [] e = let same : eqb (at + c.bytes) p ≡ true = grind (arith, nat_tests) in rw same refl
     at_end at c (d ∷ xs) e = member_later p (at + c.bytes) (child_ends (at + c.bytes) (d ∷ xs)) (at_end (at + c.bytes) d xs (omega arith))
 
-    there : (xs : List Shape) → child_bytes xs ≡ p → is_among (child_ends 0 xs) p ≡ true
+    there : (xs : List ChildValue) → child_bytes xs ≡ p → is_among (child_ends 0 xs) p ≡ true
     there [] e = absurd (omega arith)
     there (x ∷ xs) e = at_end 0 x xs (omega arith)
 

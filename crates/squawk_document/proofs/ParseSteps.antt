@@ -9,7 +9,7 @@ use Rattle.std.specs.Option.{IfSome}
 use Rattle.std.specs.Str.{IsUtf8, IsCharBoundary}
 use Rattle.std.proofs.lemmas.Str.{IsCharBoundary-start}
 use Rattle.squawk_lexer.specs.declared.token.Token.{Token}
-use Rattle.squawk_cut.specs.Shape.{Shape}
+use Rattle.squawk_cut.specs.ChildValue.{ChildValue}
 use Rattle.squawk_cut.specs.Tells.{Tells, IsLawful, lexeme_bytes}
 use Rattle.squawk_cut.specs.Tokens.{tokens_from, tokens_of}
 use Rattle.squawk_cut.specs.Children.{lexemes, children_from}
@@ -46,23 +46,23 @@ tokens_at t law u ts at i utf8 is offset within = elim (cases_lt 0 at) [
 ]
 
 -- what one more child gives
-pub record IsNextChild (t : Tells) (text : List ℕ) (tokens : List Token) (at i : ℕ) (c : Shape) : Type 0 where
+pub record IsNextChild (t : Tells) (text : List ℕ) (tokens : List Token) (at i : ℕ) (c : ChildValue) : Type 0 where
   pub children : children_at t text tokens at i ≡ c ∷ children_at t text tokens (at + c.bytes) (i + c.tokens)
   pub index : at + c.bytes ≡ total_len (take (i + c.tokens) tokens)
   pub within : i + c.tokens ≤ length tokens
   pub past : i < i + c.tokens
   pub inside : at + c.bytes ≤ length text
 
-pub next_child : (t : Tells) → IsLawful t → (text : List ℕ) (tokens : List Token) (at i : ℕ) (c : Shape) → IsUtf8 text → tokens ≡ tokens_of t text → at ≡ total_len (take i tokens) → i < length tokens
+pub next_child : (t : Tells) → IsLawful t → (text : List ℕ) (tokens : List Token) (at i : ℕ) (c : ChildValue) → IsUtf8 text → tokens ≡ tokens_of t text → at ≡ total_len (take i tokens) → i < length tokens
     → c ≡ t.child_at (lexemes (drop at text) (drop i tokens)) → IsNextChild t text tokens at i c
 next_child t law text tokens at i c utf8 is index inside child =
     let ls = lexemes (drop at text) (drop i tokens) in
     let rest_len = length-drop i tokens in
     let len : length ls ≡ length (drop i tokens) = length-lexemes (drop at text) (drop i tokens) in
     let filled : 0 < length ls = omega arith in
-    let some : 0 < c.tokens = subst (λ (d : Shape). 0 < d.tokens) (sym child) (law.child_some ls filled) in
-    let low : c.tokens ≤ length ls = subst (λ (d : Shape). d.tokens ≤ length ls) (sym child) (law.child_within ls filled) in
-    let bytes : c.bytes ≡ lexeme_bytes (take c.tokens ls) = subst (λ (d : Shape). d.bytes ≡ lexeme_bytes (take d.tokens ls)) (sym child) (law.child_bytes ls filled) in
+    let some : 0 < c.tokens = subst (λ (d : ChildValue). 0 < d.tokens) (sym child) (law.child_some ls filled) in
+    let low : c.tokens ≤ length ls = subst (λ (d : ChildValue). d.tokens ≤ length ls) (sym child) (law.child_within ls filled) in
+    let bytes : c.bytes ≡ lexeme_bytes (take c.tokens ls) = subst (λ (d : ChildValue). d.bytes ≡ lexeme_bytes (take d.tokens ls)) (sym child) (law.child_bytes ls filled) in
     let within : c.tokens ≤ length (drop i tokens) = omega arith in
     let bytes_is : c.bytes ≡ total_len (take c.tokens (drop i tokens)) = bytes ∙ ap lexeme_bytes (take-lexemes (drop at text) (drop i tokens) c.tokens within) ∙ bytes-lexemes (drop at text) (take c.tokens (drop i tokens)) in
     let offset : at + c.bytes ≡ total_len (take (i + c.tokens) tokens) = omega (arith, total_take_more tokens i c.tokens) in
@@ -74,14 +74,14 @@ next_child t law text tokens at i c utf8 is index inside child =
     let all = total_len-append (take (i + c.tokens) tokens) (drop (i + c.tokens) tokens) in
     let whole = ap total_len (take-append-drop (i + c.tokens) tokens) in
     record {
-      children = children_first t law ls filled ∙ ap (λ (d : Shape). d ∷ children_from t 0 (drop d.tokens ls)) (sym child) ∙ ap (λ xs. c ∷ children_from t 0 xs) left;
+      children = children_first t law ls filled ∙ ap (λ (d : ChildValue). d ∷ children_from t 0 (drop d.tokens ls)) (sym child) ∙ ap (λ xs. c ∷ children_from t 0 xs) left;
       index = offset;
       within = omega arith;
       past = omega arith;
       inside = omega (arith, tokens_total t law true text tokens utf8 (sym is), all, whole);
     }
 
-all_closed_push : (xs : List Shape) (c : Shape) → all_closed (xs ++ c ∷ []) ≡ (all_closed xs && c.closed)
+all_closed_push : (xs : List ChildValue) (c : ChildValue) → all_closed (xs ++ c ∷ []) ≡ (all_closed xs && c.closed)
 all_closed_push [] c = by c.closed
   where
     by : (b : Bool) → (b && true) ≡ b
@@ -93,16 +93,16 @@ all_closed_push (x ∷ xs) c = by x.closed (all_closed_push xs c)
     by true e = e
     by false e = refl
 
-pub closed_says : (xs : List Shape) → all_closed xs ≡ true → AllClosed xs
+pub closed_says : (xs : List ChildValue) → all_closed xs ≡ true → AllClosed xs
 closed_says [] e = tt
 closed_says (x ∷ xs) e = let (a, b) = and_parts x.closed (all_closed xs) e in (a, closed_says xs b)
 
-closed_is : (xs : List Shape) → AllClosed xs → all_closed xs ≡ true
+closed_is : (xs : List ChildValue) → AllClosed xs → all_closed xs ≡ true
 closed_is [] c = refl
 closed_is (x ∷ xs) c = rw c.0 (closed_is xs c.1)
 
 -- no return at one more end
-unmet_more : (q : ℕ → Bool) (first : ℕ) (fresh_children : List Shape) (c : Shape) (at : ℕ) (only_closed : Bool) → at ≡ first + child_bytes fresh_children → only_closed ≡ (all_closed fresh_children && c.closed) → (only_closed && q (at + c.bytes)) ≡ false
+unmet_more : (q : ℕ → Bool) (first : ℕ) (fresh_children : List ChildValue) (c : ChildValue) (at : ℕ) (only_closed : Bool) → at ≡ first + child_bytes fresh_children → only_closed ≡ (all_closed fresh_children && c.closed) → (only_closed && q (at + c.bytes)) ≡ false
     → list_any q (quiet_ends first fresh_children) ≡ false → list_any q (quiet_ends first (fresh_children ++ c ∷ [])) ≡ false
 unmet_more q first fresh_children c at only_closed offset is fails none = none_by q (quiet_ends first (fresh_children ++ c ∷ [])) (λ e member.
     elim (quiet_parts first fresh_children (c ∷ []) e member) [
@@ -122,7 +122,7 @@ unmet_more q first fresh_children c at only_closed offset is fails none = none_b
         ]
     at_last {e} false closed all m = absurd (cc)
 
-pub parsing_more : (t : Tells) → IsLawful t → (text : List ℕ) (tokens : List Token) (old : List Shape) (origin : Position) (new_end end : ℕ) (m : Option ℕ) (fresh_children more : List Shape) (at i : ℕ) (only_closed now : Bool) (c : Shape)
+pub parsing_more : (t : Tells) → IsLawful t → (text : List ℕ) (tokens : List Token) (old : List ChildValue) (origin : Position) (new_end end : ℕ) (m : Option ℕ) (fresh_children more : List ChildValue) (at i : ℕ) (only_closed now : Bool) (c : ChildValue)
     → IsParsedSoFar t text tokens old origin new_end end m fresh_children at i only_closed → IsNextChild t text tokens at i c → more ≡ fresh_children ++ c ∷ [] → now ≡ (only_closed && c.closed)
     → (now && is_new_return new_end end m old (at + c.bytes)) ≡ false → IsParsedSoFar t text tokens old origin new_end end m more (at + c.bytes) (i + c.tokens) now
 parsing_more t law text tokens old origin new_end end m fresh_children more at i only_closed now c parsing n push now_is fails =
@@ -137,11 +137,11 @@ parsing_more t law text tokens old origin new_end end m fresh_children more at i
       none_returns = unmet_more (is_new_return new_end end m old) origin.offset fresh_children c at now parsing.offset now_closed fails parsing.none_returns;
     })
   where
-    bytes_push : (xs : List Shape) (c : Shape) → child_bytes (xs ++ c ∷ []) ≡ child_bytes xs + c.bytes
+    bytes_push : (xs : List ChildValue) (c : ChildValue) → child_bytes (xs ++ c ∷ []) ≡ child_bytes xs + c.bytes
     bytes_push [] c = omega arith
     bytes_push (x ∷ xs) c = omega (arith, bytes_push xs c)
 
-pub parsing_returns : (t : Tells) → IsLawful t → (text : List ℕ) (tokens : List Token) (old : List Shape) (origin : Position) (new_end end : ℕ) (m : Option ℕ) (fresh_children more : List Shape) (at i next : ℕ) (only_closed now : Bool) (c : Shape)
+pub parsing_returns : (t : Tells) → IsLawful t → (text : List ℕ) (tokens : List Token) (old : List ChildValue) (origin : Position) (new_end end : ℕ) (m : Option ℕ) (fresh_children more : List ChildValue) (at i next : ℕ) (only_closed now : Bool) (c : ChildValue)
     → IsParsedSoFar t text tokens old origin new_end end m fresh_children at i only_closed → IsNextChild t text tokens at i c → more ≡ fresh_children ++ c ∷ [] → now ≡ (only_closed && c.closed) → now ≡ true
     → is_new_return new_end end m old (at + c.bytes) ≡ true → next ≤ length old → AllClosed (take next old) → child_bytes (take next old) ≡ at + c.bytes - new_end + end
     → EndsAtReturn t text tokens old origin new_end end m more next
@@ -163,11 +163,11 @@ parsing_returns t law text tokens old origin new_end end m fresh_children more a
       offset = here ∙ ap (λ k. k - new_end + end) offset_more;
     })
   where
-    bytes_push : (xs : List Shape) (c : Shape) → child_bytes (xs ++ c ∷ []) ≡ child_bytes xs + c.bytes
+    bytes_push : (xs : List ChildValue) (c : ChildValue) → child_bytes (xs ++ c ∷ []) ≡ child_bytes xs + c.bytes
     bytes_push [] c = omega arith
     bytes_push (x ∷ xs) c = omega (arith, bytes_push xs c)
 
-pub parsing_ends : (t : Tells) (text : List ℕ) (tokens : List Token) (old : List Shape) (origin : Position) (new_end end : ℕ) (m : Option ℕ) (fresh_children : List Shape) (at i : ℕ) (only_closed : Bool)
+pub parsing_ends : (t : Tells) (text : List ℕ) (tokens : List Token) (old : List ChildValue) (origin : Position) (new_end end : ℕ) (m : Option ℕ) (fresh_children : List ChildValue) (at i : ℕ) (only_closed : Bool)
     → IsParsedSoFar t text tokens old origin new_end end m fresh_children at i only_closed → length tokens ≤ i → ReturnsNowhere t text tokens old origin new_end end m fresh_children
 parsing_ends t text tokens old origin new_end end m fresh_children at i only_closed parsing past = record {
   children = parsing.children ∙ ap (λ ts. fresh_children ++ children_from t 0 (lexemes (drop at text) ts)) (drop_all i tokens past) ∙ append-nil fresh_children;
@@ -175,7 +175,7 @@ parsing_ends t text tokens old origin new_end end m fresh_children at i only_clo
 }
 
 -- the test for a return, by where the old children are passed
-pub is_new_return_at : (old : List Shape) (next p new_end end m q : ℕ) → m ≤ p → q ≡ p - new_end + end → 0 < q → AllClosed (take next old) → child_bytes (take next old) ≤ q → StopsBefore (drop next old) (q - child_bytes (take next old))
+pub is_new_return_at : (old : List ChildValue) (next p new_end end m q : ℕ) → m ≤ p → q ≡ p - new_end + end → 0 < q → AllClosed (take next old) → child_bytes (take next old) ≤ q → StopsBefore (drop next old) (q - child_bytes (take next old))
     → eqb (child_bytes (take next old)) q ≡ is_new_return new_end end (Some m) old p
 is_new_return_at old next p new_end end m q low is some closed under stopped =
     let a : nat_lt p m ≡ false = grind (arith, nat_tests) in
@@ -183,7 +183,7 @@ is_new_return_at old next p new_end end m q low is some closed under stopped =
     rw (a, b) refl
 
 -- the same in the words of the code
-pub new_return_here : (old : List Shape) (next offset p new_end end m : ℕ) (meeting : Option ℕ) → meeting ≡ Some m → IfSome meeting (λ m. (new_end ≤ m) × (0 < m - new_end + end)) → m ≤ p → offset ≡ child_bytes (take next old) → AllClosed (take next old)
+pub new_return_here : (old : List ChildValue) (next offset p new_end end m : ℕ) (meeting : Option ℕ) → meeting ≡ Some m → IfSome meeting (λ m. (new_end ≤ m) × (0 < m - new_end + end)) → m ≤ p → offset ≡ child_bytes (take next old) → AllClosed (take next old)
     → offset ≤ p - new_end + end → StopsBefore (drop next old) (p - new_end + end - offset) → eqb offset (p - new_end + end) ≡ is_new_return new_end end meeting old p
 new_return_here old next offset p new_end end m meeting is above low offset_is closed under stopped =
     let high : (new_end ≤ m) × (0 < m - new_end + end) = rw is at above in
@@ -205,7 +205,7 @@ inside_text t law text tokens at i utf8 is index h =
     below (x ∷ xs) (suc i) p h = omega (arith, below xs i p.1 (omega arith))
 
 -- the steps in the words of the code: b bytes and n tokens of the child
-pub parsing_step : (t : Tells) → IsLawful t → (text : List ℕ) (tokens : List Token) (old : List Shape) (origin : Position) (new_end end : ℕ) (m : Option ℕ) (fresh_children more : List Shape) (at i b n : ℕ) (only_closed now matches both : Bool) (c : Shape)
+pub parsing_step : (t : Tells) → IsLawful t → (text : List ℕ) (tokens : List Token) (old : List ChildValue) (origin : Position) (new_end end : ℕ) (m : Option ℕ) (fresh_children more : List ChildValue) (at i b n : ℕ) (only_closed now matches both : Bool) (c : ChildValue)
     → IsParsedSoFar t text tokens old origin new_end end m fresh_children at i only_closed → IsNextChild t text tokens at i c → more ≡ fresh_children ++ c ∷ [] → b ≡ c.bytes → n ≡ c.tokens → now ≡ (only_closed && c.closed)
     → matches ≡ is_new_return new_end end m old (at + b) → both ≡ (now && matches) → both ≡ false → IsParsedSoFar t text tokens old origin new_end end m more (at + b) (i + n) now
 parsing_step t law text tokens old origin new_end end m fresh_children more at i b n only_closed now matches both c parsing next push b_is n_is now_is matches_is both_is fails =
@@ -214,7 +214,7 @@ parsing_step t law text tokens old origin new_end end m fresh_children more at i
     let done = parsing_more t law text tokens old origin new_end end m fresh_children more at i only_closed now c parsing next push now_is no_both in
     subst (λ k. IsParsedSoFar t text tokens old origin new_end end m more (at + k) (i + n) now) (sym b_is) (subst (λ k. IsParsedSoFar t text tokens old origin new_end end m more (at + c.bytes) (i + k) now) (sym n_is) done)
 
-pub parsing_stop : (t : Tells) → IsLawful t → (text : List ℕ) (tokens : List Token) (old : List Shape) (origin : Position) (new_end end : ℕ) (m : Option ℕ) (fresh_children more : List Shape) (at i next b offset : ℕ) (only_closed now matches both : Bool) (c : Shape)
+pub parsing_stop : (t : Tells) → IsLawful t → (text : List ℕ) (tokens : List Token) (old : List ChildValue) (origin : Position) (new_end end : ℕ) (m : Option ℕ) (fresh_children more : List ChildValue) (at i next b offset : ℕ) (only_closed now matches both : Bool) (c : ChildValue)
     → IsParsedSoFar t text tokens old origin new_end end m fresh_children at i only_closed → IsNextChild t text tokens at i c → more ≡ fresh_children ++ c ∷ [] → b ≡ c.bytes → now ≡ (only_closed && c.closed)
     → matches ≡ is_new_return new_end end m old (at + b) → both ≡ (now && matches) → both ≡ true → next ≤ length old → AllClosed (take next old) → offset ≡ child_bytes (take next old) → (matches ≡ true → offset ≡ at + b - new_end + end)
     → EndsAtReturn t text tokens old origin new_end end m more next

@@ -4,28 +4,28 @@ use Rattle.std.specs.Option.{MatchOption}
 use Rattle.std.specs.Str.{chars, IsCharBoundary}
 use Rattle.squawk_lexer.specs.declared.token.Token.{Token}
 use Rattle.squawk_cut.specs.Join.{child_bytes}
-use Rattle.squawk_cut.specs.Shape.{Shape}
+use Rattle.squawk_cut.specs.ChildValue.{ChildValue}
 use Rattle.squawk_document.specs.Boundaries.{total_len}
 use Rattle.squawk_document.specs.declared.skip.FrontChildren.{FrontChildren}
 use Rattle.squawk_document.specs.declared.skip.Position.{Position}
 
 -- the number of tokens of children
-abbrev pub child_tokens : List Shape → ℕ
+abbrev pub child_tokens : List ChildValue → ℕ
 child_tokens [] = 0
 child_tokens (c ∷ cs) = c.tokens + child_tokens cs
 
 -- none of these children is open
-abbrev pub AllClosed : List Shape → Type 0
+abbrev pub AllClosed : List ChildValue → Type 0
 AllClosed [] = Unit {0}
 AllClosed (c ∷ cs) = (c.closed ≡ true) × AllClosed cs
 
 -- the same as a test
-abbrev pub all_closed : List Shape → Bool
+abbrev pub all_closed : List ChildValue → Bool
 all_closed [] = true
 all_closed (c ∷ cs) = c.closed && all_closed cs
 
 -- the first child is open or has more than n bytes
-abbrev pub StopsBefore : List Shape → ℕ → Type 0
+abbrev pub StopsBefore : List ChildValue → ℕ → Type 0
 StopsBefore [] n = Unit {0}
 StopsBefore (c ∷ cs) n = c.closed ≡ true → n < c.bytes
 
@@ -40,7 +40,7 @@ EndsByLimit tokens limit n = MatchOption limit (n ≡ 0) (λ m. (total_len (take
     × (n < length tokens → m < total_len (take (n + 1) tokens)))
 
 -- children lie along tokens: the first n children have the bytes of the tokens that they hold
-pub record AreAligned (tokens : List Token) (children : List Shape) : Type 0 where
+pub record AreAligned (tokens : List Token) (children : List ChildValue) : Type 0 where
   pub bytes : (n : ℕ) → child_bytes (take n children)
       ≡ total_len (take (child_tokens (take n children)) tokens)
   pub within : (n : ℕ) → child_tokens (take n children) ≤ length tokens
@@ -55,7 +55,7 @@ pub record IsFrontEnd (before : List ℕ) (old : List Token) (p : Position) : Ty
 
 -- the closed children at the front that end at or before a limit, and the position of the token
 -- after them
-pub record AreFrontChildren (children : List Shape) (limit : ℕ) (front : FrontChildren) : Type 0 where
+pub record AreFrontChildren (children : List ChildValue) (limit : ℕ) (front : FrontChildren) : Type 0 where
   pub within : front.len ≤ length children
   pub index : front.end.index ≡ child_tokens (take front.len children)
   pub offset : front.end.offset ≡ child_bytes (take front.len children)
