@@ -50,3 +50,27 @@ replace_back {T} old fresh_items old_items now front_len next added low within a
     let offset : front_len + (next - front_len) ≡ next = omega (arith, low) in
     ap (λ xs. xs ++ (old_items ++ drop (front_len + added) now)) first ∙ ap (λ xs. a ++ (old_items ++ xs)) rest ∙ ap (λ xs. a ++ (xs ++ b)) old_items_are
     ∙ ap (λ n. a ++ (take (next - front_len) (drop front_len old) ++ drop n old)) (sym offset) ∙ parts old front_len (next - front_len)
+
+-- the part that both have changes places, and the rest is replaced
+pub exchange_is : {T : Type 0} (xs ws ys vs zs out : List T) (start end common : ℕ) → start ≤ end → end ≤ length xs → common ≤ end - start → common ≤ length ws
+    → ys ≡ take start xs ++ (take common ws ++ drop (start + common) xs) → vs ≡ take common (drop start xs) ++ drop common ws → zs ≡ drop common vs
+    → out ≡ take (start + common) ys ++ (zs ++ drop end ys) → out ≡ take start xs ++ (ws ++ drop end xs)
+exchange_is {T} xs ws ys vs zs out start end common low within common_in common_of ys_is vs_is zs_is out_is =
+    let a : List T = take start xs in
+    let b : List T = take common ws in
+    let rest : List T = drop (start + common) xs in
+    let a_len : length a ≡ start = length-take-le start xs (omega (arith, low, within)) in
+    let b_len : length b ≡ common = length-take-le common ws common_of in
+    let old_len : length (take common (drop start xs)) ≡ common = length-take-le common (drop start xs) (omega (arith, length-drop start xs, low, within, common_in)) in
+    let ab_len : length (a ++ b) ≡ start + common = omega (arith, length-append a b, a_len, b_len) in
+    let split : ys ≡ (a ++ b) ++ rest = ys_is ∙ sym (append_assoc a b rest) in
+    let first : take (start + common) ys ≡ a ++ b = ap (take (start + common)) split ∙ take_at (a ++ b) rest (start + common) ab_len in
+    let after : drop (start + common) ys ≡ rest = ap (drop (start + common)) split ∙ drop_at (a ++ b) rest (start + common) ab_len in
+    let n : ℕ = end - (start + common) in
+    let place : start + common + n ≡ end = omega (arith, low, common_in) in
+    let last : drop end ys ≡ drop end xs =
+    ap (λ m. drop m ys) (sym place) ∙ sym (drop-drop n (start + common) ys) ∙ ap (drop n) after ∙ drop-drop n (start + common) xs ∙ ap (λ m. drop m xs) place in
+    let left : zs ≡ drop common ws = zs_is ∙ ap (drop common) vs_is ∙ drop_at (take common (drop start xs)) (drop common ws) common old_len in
+    out_is ∙ ap (λ us. us ++ (zs ++ drop end ys)) first ∙ ap (λ us. (a ++ b) ++ (us ++ drop end ys)) left ∙ ap (λ us. (a ++ b) ++ (drop common ws ++ us)) last
+    ∙ append_assoc a b (drop common ws ++ drop end xs) ∙ ap (λ us. a ++ us) (sym (append_assoc b (drop common ws) (drop end xs)))
+    ∙ ap (λ us. a ++ (us ++ drop end xs)) (take-append-drop common ws)
