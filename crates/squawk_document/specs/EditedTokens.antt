@@ -17,7 +17,7 @@ abbrev pub is_meeting : ℕ → ℕ → List ℕ → List Token → ℕ → Bool
 is_meeting start end new new_tokens p =
     (not (nat_lt p end) && nat_lt 0 p)
     && (nat_lt 0 (new_offset start end new p)
-        && is_boundary new_tokens (new_offset start end new p))
+    && is_boundary new_tokens (new_offset start end new p))
 
 -- the meeting: the first old boundary at which the texts may meet
 abbrev pub meeting : ℕ → ℕ → List ℕ → List Token → List Token → Option ℕ

@@ -85,17 +85,7 @@ impl<F: Front> Document<F> {
         };
         let cut = cut_to_meeting(alloc, &mut front, text, &[], start, 0, 0)?;
         let none = FrontChildren { len: 0, end: start };
-        let parsed = parse_to_return(
-            alloc,
-            &mut front,
-            text,
-            &cut.tokens,
-            &[],
-            none,
-            0,
-            0,
-            None,
-        )?;
+        let parsed = parse_to_return(alloc, &mut front, text, &cut.tokens, &[], none, 0, 0, None)?;
         Ok(Document {
             alloc,
             front,

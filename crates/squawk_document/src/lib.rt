@@ -12,6 +12,8 @@ mod recut;
 mod reparse;
 mod replace;
 mod skip;
+#[cfg(test)]
+mod tests;
 mod token_edit;
 mod update;
 

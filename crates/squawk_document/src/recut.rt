@@ -24,13 +24,7 @@ pub(crate) struct Search {
 
 // Skips old tokens from a position on up to the old offset of `at`, and returns whether the texts
 // may meet there. The replacing bytes end at `new_end`, the replaced ones at `end`.
-fn find_boundary(
-    old: &[Token],
-    from: Position,
-    at: usize,
-    new_end: usize,
-    end: usize,
-) -> Search
+fn find_boundary(old: &[Token], from: Position, at: usize, new_end: usize, end: usize) -> Search
     requires small { total_len old.now < 2 ^ 32 }
     requires at_small { at < 2 ^ 32 }
     requires end_small { end < 2 ^ 32 }

@@ -92,12 +92,7 @@ fn update_children<F: Front>(
         back_children: children.len() - edit.back_index,
     };
     children.try_reserve(edit.children.len())?;
-    replace_range(
-        children,
-        part.children.len,
-        edit.back_index,
-        edit.children,
-    );
+    replace_range(children, part.children.len, edit.back_index, edit.children);
     Ok(counts)
 }
 

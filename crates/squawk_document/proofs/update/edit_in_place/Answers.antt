@@ -12,7 +12,7 @@ pub find_front-part-requires-clause-aligned : goal.find_front-part-requires-clau
 find_front-part-requires-clause-aligned g c = aligned _ (g.met.F.Front.lawful c.args.front.now) c.args.text.now _ _ (c.deref.ensures.value ∙ c.requires.tokens) (c.deref-2.ensures.value ∙ c.requires.children)
 
 pub edit_tokens-requires-clause-front : goal.edit_tokens-requires-clause-front
-edit_tokens-requires-clause-front g c = 
+edit_tokens-requires-clause-front g c =
     subst (λ ts. IsFrontEnd (take c.args.start c.args.text.now) ts c.find_front-part.result.tokens_end) (c.deref.ensures.value ∙ sym c.deref-3.ensures.value)
     (front_in c.args.text.now _ c.args.start _ _ c.range.ensures.value c.find_front-part.ensures.tokens)
 
