@@ -2,3 +2,6 @@ pub mod NumberSteps
 pub mod RecordSteps
 pub mod ScriptSteps
 pub mod RecordLaws
+pub mod RecordForm
+pub mod FormRecord
+pub mod FormLaws

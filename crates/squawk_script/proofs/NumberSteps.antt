@@ -85,7 +85,7 @@ some_number byte bytes at count value is number follows same =
     rw (a, b, ← same, is) refl
 
 -- the digits that begin at an offset are digits
-all_digits : (xs : List ℕ) → all_ascii_digits (take (prefix_len is_ascii_digit xs) xs) ≡ true
+pub all_digits : (xs : List ℕ) → all_ascii_digits (take (prefix_len is_ascii_digit xs) xs) ≡ true
 all_digits [] = refl
 all_digits (x ∷ xs) = by (all_digits xs) (is_ascii_digit x) refl
   where

@@ -2,7 +2,7 @@
 use Rattle.std.proofs.Common.{◌≡◌, ℕ, zero, suc, ◌+◌, ◌-◌, ◌<◌, ◌≤◌, Bool, true, false, List, [], ◌∷◌, take, drop, length, map, slice_index, Option, Some, None, refl, sym, eqb, eqb-true, cond, arith, length-take, inl, inr}
 use Rattle.std.proofs.lemmas.Bool.{cases_lt}
 use Rattle.squawk_script.specs.Laws.{new_bytes, NewTextsAreShort}
-use Rattle.squawk_script.specs.Script.{header, record_after, first_record, and_then, then_records, records_after, Record}
+use Rattle.squawk_script.specs.Script.{header, record_after, first_record, and_then, then_records, records_after, ScriptEdit, Record}
 use Rattle.squawk_script.specs.declared.record.Header.{Header}
 use Rattle.squawk_script.proofs.NumberSteps.{none_past_end}
 
@@ -65,24 +65,28 @@ record_short bytes r is =
     omega (arith, length-take line.new_len (drop line.after bytes)) in
     rw h.is (record { new = omega (arith, few); within = omega (arith, inside) })
 
--- the new texts of the records after some bytes are within the others
+-- the bytes of the new texts, and a byte for each
+abbrev texts_len : List ScriptEdit → ℕ
+texts_len edits = new_bytes edits + length edits
+
+-- those of the records after some bytes are within the others
 new_texts : (n : ℕ) (bytes : List ℕ) → n ≤ length bytes
-    → n + new_bytes (map (λ r. r.edit) (records_after n bytes)) ≤ length bytes
+    → n + texts_len (map (λ r. r.edit) (records_after n bytes)) ≤ length bytes
 new_texts n [] within = omega arith
-new_texts (suc n) (b ∷ bs) within =
-    omega (arith, new_texts n bs (omega arith))
+new_texts (suc n) (b ∷ bs) within = omega (arith, new_texts n bs (omega arith))
 new_texts zero (b ∷ bs) within = by (λ m. new_texts m bs) (first_record (b ∷ bs)) refl
   where
     by : ((m : ℕ) → m ≤ length bs
-        → m + new_bytes (map (λ r. r.edit) (records_after m bs)) ≤ length bs)
+        → m + texts_len (map (λ r. r.edit) (records_after m bs)) ≤ length bs)
         → (o : Option Record) → first_record (b ∷ bs) ≡ o
-        → 0 + new_bytes (map (λ r. r.edit) (then_records o (λ len. records_after (len - 1) bs)))
+        → 0 + texts_len (map (λ r. r.edit) (then_records o (λ len. records_after (len - 1) bs)))
         ≤ length (b ∷ bs)
     by rest None e = omega arith
     by rest (Some r) e =
         let short = record_short (b ∷ bs) r (sym e) in
         let within : r.len ≤ length (b ∷ bs) = short.within in
-        omega (arith, short.new, within, rest (r.len - 1) (omega (arith, within)))
+        let others = rest (r.len - 1) (omega (arith, within)) in
+        omega (arith, short.new, within, others)
 
 pub new_texts_are_short : NewTextsAreShort
 new_texts_are_short bytes = omega (arith, new_texts 0 bytes (omega arith))

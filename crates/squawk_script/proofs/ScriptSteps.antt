@@ -9,7 +9,7 @@ records_skip (suc n) [] = refl
 records_skip (suc n) (b ∷ bs) = records_skip n bs
 
 -- a byte and n - 1 more are n
-drop_after : (n b : ℕ) (bs : List ℕ) → 0 < n → drop (n - 1) bs ≡ drop n (b ∷ bs)
+pub drop_after : (n b : ℕ) (bs : List ℕ) → 0 < n → drop (n - 1) bs ≡ drop n (b ∷ bs)
 drop_after zero b bs h = absurd (omega arith)
 drop_after (suc n) b bs h = ap (λ m. drop m bs) (let e : suc n - 1 ≡ n = omega arith in e)
 
