@@ -17,15 +17,18 @@ take_both bytes own n t is len =
 
 -- the records after some bytes are records
 are_records : (n : ℕ) (bytes : List ℕ)
-    → AreRecords (take (total_len (records_after n bytes)) (drop n bytes)) (map (λ r. r.edit) (records_after n bytes))
+    → AreRecords (take (total_len (records_after n bytes)) (drop n bytes)) (map (λ r. r.edit)
+    (records_after n bytes))
 are_records zero [] = refl
 are_records (suc n) [] = refl
 are_records (suc n) (b ∷ bs) = are_records n bs
 are_records zero (b ∷ bs) = by (λ m. are_records m bs) (first_record (b ∷ bs)) refl
   where
-    by : ((m : ℕ) → AreRecords (take (total_len (records_after m bs)) (drop m bs)) (map (λ r. r.edit) (records_after m bs)))
+    by : ((m : ℕ) → AreRecords (take (total_len (records_after m bs)) (drop m bs))
+        (map (λ r. r.edit) (records_after m bs)))
         → (o : Option Record) → first_record (b ∷ bs) ≡ o
-        → AreRecords (take (total_len (then_records o (λ len. records_after (len - 1) bs))) (b ∷ bs)) (map (λ r. r.edit) (then_records o (λ len. records_after (len - 1) bs)))
+        → AreRecords (take (total_len (then_records o (λ len. records_after (len - 1) bs)))
+        (b ∷ bs)) (map (λ r. r.edit) (then_records o (λ len. records_after (len - 1) bs)))
     by rest None e = refl
     by rest (Some r) e =
         let h = has_record (b ∷ bs) r (sym e) in
@@ -50,13 +53,21 @@ some_bytes own edit h = omega (arith, ap length h.is)
 pub records_stand_alone : RecordsStandAlone
 records_stand_alone own others [] none = rw none (refl, omega arith)
 records_stand_alone own others (edit ∷ edits) h =
-    let whole : own ++ others ≡ h.first ++ (h.others ++ others) = ap (λ xs. xs ++ others) h.is ∙ append_assoc h.first h.others others in
+    let tail : List ℕ = h.others ++ others in
+    let whole : own ++ others ≡ h.first ++ tail =
+    ap (λ xs. xs ++ others) h.is ∙ append_assoc h.first h.others others in
     let rest = records_stand_alone h.others others edits h.are_others in
     let first : Record = record { edit = edit; len = length h.first } in
-    let len : length (h.first ++ (h.others ++ others)) ≡ length h.first + length (h.others ++ others) = length-append h.first (h.others ++ others) in
-    let all : records_after 0 (h.first ++ (h.others ++ others)) ≡ first ∷ records_after 0 (drop (length h.first) (h.first ++ (h.others ++ others))) = records_first (h.first ++ (h.others ++ others)) first (some_bytes h.first edit h.is_record) (omega (arith, len)) (record_read h.first (h.others ++ others) edit h.is_record) in
-    let all_rest : records_after 0 (own ++ others) ≡ first ∷ records_after 0 (h.others ++ others) = ap (records_after 0) whole ∙ all ∙ ap (λ xs. first ∷ records_after 0 xs) (drop-append_seam h.first (h.others ++ others)) in
-    let own_len : length own ≡ length h.first + length h.others = ap length h.is ∙ length-append h.first h.others in (
-      ap (map (λ r. r.edit)) all_rest ∙ ap (λ xs. edit ∷ xs) rest.0,
-      ap total_len all_rest ∙ omega (arith, rest.1, own_len),
-    )
+    let len : length (h.first ++ tail) ≡ length h.first + length tail =
+    length-append h.first tail in
+    let all : records_after 0 (h.first ++ tail)
+    ≡ first ∷ records_after 0 (drop (length h.first) (h.first ++ tail)) =
+    records_first (h.first ++ tail) first (some_bytes h.first edit h.is_record)
+    (omega (arith, len)) (record_read h.first tail edit h.is_record) in
+    let all_rest : records_after 0 (own ++ others) ≡ first ∷ records_after 0 tail =
+    ap (records_after 0) whole ∙ all
+    ∙ ap (λ xs. first ∷ records_after 0 xs) (drop-append_seam h.first tail) in
+    let own_len : length own ≡ length h.first + length h.others =
+    ap length h.is ∙ length-append h.first h.others in
+    let edits_are = ap (map (λ r. r.edit)) all_rest ∙ ap (λ xs. edit ∷ xs) rest.0 in
+    (edits_are, ap total_len all_rest ∙ omega (arith, rest.1, own_len))

@@ -16,7 +16,8 @@ digits_run : (digits rest : List ℕ) (byte : ℕ) → is_ascii_digit byte ≡ f
     → all_ascii_digits digits ≡ true
     → prefix_len is_ascii_digit (digits ++ byte ∷ rest) ≡ length digits
 digits_run [] rest byte other all = rw other refl
-digits_run (d ∷ ds) rest byte other all = by (digits_run ds rest byte other) (is_ascii_digit d) refl all
+digits_run (d ∷ ds) rest byte other all = by (digits_run ds rest byte other)
+    (is_ascii_digit d) refl all
   where
     by : (all_ascii_digits ds ≡ true
         → prefix_len is_ascii_digit (ds ++ byte ∷ rest) ≡ length ds)
@@ -31,7 +32,8 @@ byte_at_seam [] ys byte = refl
 byte_at_seam (x ∷ xs) ys byte = byte_at_seam xs ys byte
 
 -- a number's digits at an offset, and a byte after them
-record StandsAt (byte : ℕ) (bytes : List ℕ) (at : ℕ) (digits rest : List ℕ) (value : ℕ) : Type 0 where
+record StandsAt (byte : ℕ) (bytes : List ℕ) (at : ℕ) (digits rest : List ℕ)
+    (value : ℕ) : Type 0 where
   is : drop at bytes ≡ digits ++ byte ∷ rest
   number : IsNumber digits value
 
@@ -42,7 +44,8 @@ number_read : (byte : ℕ) (bytes : List ℕ) (at : ℕ) (digits rest : List ℕ
 number_read byte bytes at digits rest value other h =
     let count : prefix_len is_ascii_digit (drop at bytes) ≡ length digits =
     ap (prefix_len is_ascii_digit) h.is ∙ digits_run digits rest byte other h.number.are_digits in
-    let same : digits_at bytes at ≡ digits = rw (count, h.is) (take-append_seam digits (byte ∷ rest)) in
+    let same : digits_at bytes at ≡ digits = rw (count, h.is) (take-append_seam digits (byte ∷
+    rest)) in
     let follows : slice_index bytes (at + length digits) ≡ byte =
     sym (get_or-drop at bytes (length digits) 0) ∙ ap (λ xs. slice_index xs (length digits)) h.is
     ∙ byte_at_seam digits rest byte in
@@ -58,7 +61,8 @@ number_read byte bytes at digits rest value other h =
 rest_at : (byte : ℕ) (bytes : List ℕ) (at : ℕ) (digits rest : List ℕ) (value : ℕ)
     → StandsAt byte bytes at digits rest value → drop (at + length digits + 1) bytes ≡ rest
 rest_at byte bytes at digits rest value h =
-    sym (drop-drop 1 (at + length digits) bytes) ∙ ap (drop 1) (sym (drop-drop (length digits) at bytes)
+    sym (drop-drop 1 (at + length digits) bytes) ∙ ap (drop 1) (sym (drop-drop (length digits) at
+    bytes)
     ∙ ap (drop (length digits)) h.is ∙ drop-append_seam digits (byte ∷ rest))
 
 -- the bytes of a record, and of what follows it
@@ -70,13 +74,15 @@ form_bytes own rest edit h = ap (λ xs. xs ++ rest) h.is ∙ simp append_assoc
 own_len : (own : List ℕ) (edit : ScriptEdit) (h : IsRecord own edit) → length own
     ≡ 1 + length h.start + 1 + length h.end + 1 + length h.len + 1 + length edit.new + 1
 own_len own edit h =
-    let new : length (edit.new ++ 10 ∷ []) ≡ length edit.new + 1 = length-append edit.new (10 ∷ []) in
+    let new : length (edit.new ++ 10 ∷ []) ≡ length edit.new + 1 =
+    length-append edit.new (10 ∷ []) in
     let len : length (h.len ++ 10 ∷ (edit.new ++ 10 ∷ []))
     ≡ length h.len + length (10 ∷ (edit.new ++ 10 ∷ [])) = length-append h.len _ in
     let end : length (h.end ++ 32 ∷ (h.len ++ 10 ∷ (edit.new ++ 10 ∷ [])))
     ≡ length h.end + length (32 ∷ (h.len ++ 10 ∷ (edit.new ++ 10 ∷ []))) = length-append h.end _ in
     let start : length (h.start ++ 32 ∷ (h.end ++ 32 ∷ (h.len ++ 10 ∷ (edit.new ++ 10 ∷ []))))
-    ≡ length h.start + length (32 ∷ (h.end ++ 32 ∷ (h.len ++ 10 ∷ (edit.new ++ 10 ∷ [])))) = length-append h.start _ in
+    ≡ length h.start + length (32 ∷ (h.end ++ 32 ∷ (h.len ++ 10 ∷ (edit.new ++ 10 ∷ [])))) =
+    length-append h.start _ in
     ap length h.is ∙ omega (arith, new, len, end, start)
 
 -- the record is read
@@ -85,14 +91,18 @@ pub record_read : (own rest : List ℕ) (edit : ScriptEdit) → IsRecord own edi
 record_read own rest edit h =
     let bytes = own ++ rest in
     let form = form_bytes own rest edit h in
-    let start : StandsAt 32 bytes 1 h.start (h.end ++ 32 ∷ (h.len ++ 10 ∷ (edit.new ++ 10 ∷ rest))) edit.start =
+    let start : StandsAt 32 bytes 1 h.start (h.end ++ 32 ∷ (h.len ++ 10 ∷ (edit.new
+    ++ 10 ∷ rest))) edit.start =
     record { is = ap (drop 1) form; number = h.start_is } in
-    let end : StandsAt 32 bytes (1 + length h.start + 1) h.end (h.len ++ 10 ∷ (edit.new ++ 10 ∷ rest)) edit.end =
+    let end : StandsAt 32 bytes (1 + length h.start + 1) h.end (h.len ++ 10 ∷ (edit.new
+    ++ 10 ∷ rest)) edit.end =
     record { is = rest_at 32 bytes 1 _ _ _ start; number = h.end_is } in
-    let len : StandsAt 10 bytes (1 + length h.start + 1 + length h.end + 1) h.len (edit.new ++ 10 ∷ rest) (length edit.new) =
+    let len : StandsAt 10 bytes (1 + length h.start + 1 + length h.end + 1) h.len (edit.new
+    ++ 10 ∷ rest) (length edit.new) =
     record { is = rest_at 32 bytes (1 + length h.start + 1) _ _ _ end; number = h.len_is } in
     let after : ℕ = 1 + length h.start + 1 + length h.end + 1 + length h.len + 1 in
-    let new_at : drop after bytes ≡ edit.new ++ 10 ∷ rest = rest_at 10 bytes (1 + length h.start + 1 + length h.end + 1) _ _ _ len in
+    let new_at : drop after bytes ≡ edit.new ++ 10 ∷ rest =
+    rest_at 10 bytes (1 + length h.start + 1 + length h.end + 1) _ _ _ len in
     let line = whole_line bytes (record { value = edit.start; after = 1 + length h.start + 1 })
     (record { value = edit.end; after = 1 + length h.start + 1 + length h.end + 1 })
     (record { value = length edit.new; after = after }) (ap (λ xs. slice_index xs 0) form)

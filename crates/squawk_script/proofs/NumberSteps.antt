@@ -57,7 +57,8 @@ pub no_number : (byte : ℕ) (bytes : List ℕ) (at count : ℕ)
     → None ≡ number_at byte bytes at
 unfolding number_at
 no_number byte bytes at count is never =
-    by (is_number (digits_at bytes at)) (eqb (slice_index bytes (at + prefix_len is_ascii_digit (drop at bytes))) byte) refl refl
+    by (is_number (digits_at bytes at)) (eqb (slice_index bytes (at + prefix_len is_ascii_digit
+    (drop at bytes))) byte) refl refl
   where
     found : Number
     found = record {
@@ -68,7 +69,8 @@ no_number byte bytes at count is never =
     by : (a b : Bool) → is_number (digits_at bytes at) ≡ a
         → eqb (slice_index bytes (at + prefix_len is_ascii_digit (drop at bytes))) byte ≡ b
         → None ≡ cond (a && b) (Some found) None
-    by true true x y = absurd (never (are_number _ x) (ap (λ n. slice_index bytes (at + n)) is ∙ eqb-true _ _ y))
+    by true true x y = absurd (never (are_number _ x)
+        (ap (λ n. slice_index bytes (at + n)) is ∙ eqb-true _ _ y))
     by true false x y = refl
     by false b x y = refl
 
@@ -81,7 +83,8 @@ unfolding number_at
 some_number byte bytes at count value is number follows same =
     let a : is_number (digits_at bytes at) ≡ true = is_number_from _ number in
     let b : eqb (slice_index bytes (at + prefix_len is_ascii_digit (drop at bytes))) byte ≡ true =
-    ap (λ n. eqb (slice_index bytes (at + n)) byte) (sym is) ∙ ap (λ x. eqb x byte) follows ∙ search rules in
+    ap (λ n. eqb (slice_index bytes (at + n)) byte) (sym is) ∙ ap (λ x. eqb x byte) follows
+    ∙ search rules in
     rw (a, b, ← same, is) refl
 
 -- the digits that begin at an offset are digits
@@ -105,14 +108,16 @@ slice_digits : (bytes digits : List ℕ) (at count : ℕ)
     → count ≡ prefix_len is_ascii_digit (drop at bytes) → digits ≡ slice_range bytes at (at + count)
     → digits ≡ digits_at bytes at
 slice_digits bytes digits at count is slice =
-    slice ∙ ap (λ n. take n (drop at bytes)) (let e : at + count - at ≡ prefix_len is_ascii_digit (drop at bytes) = omega (arith, is) in e)
+    slice ∙ ap (λ n. take n (drop at bytes)) (let e : at + count - at ≡ prefix_len is_ascii_digit
+    (drop at bytes) = omega (arith, is) in e)
 
 -- the result of `parse` for the digits that begin at an offset
 parsed_digits : {E : Type 0} (bytes digits : List ℕ) (at : ℕ) (r : Result ℕ E)
     → digits ≡ digits_at bytes at → ParsesUnsigned 32 10 digits r
     → OkIff r ((0 < length (digits_at bytes at)) × (digits_value 10 (digits_at bytes at) < 2 ^ 32))
     (digits_value 10 (digits_at bytes at))
-parsed_digits bytes digits at r same parses = parse_digits numerals 32 (digits_at bytes at) r (rw same at parses) (all_digits (drop at bytes))
+parsed_digits bytes digits at r same parses = parse_digits numerals 32 (digits_at bytes at) r (rw
+    same at parses) (all_digits (drop at bytes))
 
 -- `number_parsed`, `number_refused`: by the result of `parse` for the digits
 pub number_parsed : {E : Type 0} (byte : ℕ) (bytes digits : List ℕ) (at count value : ℕ)
@@ -121,9 +126,11 @@ pub number_parsed : {E : Type 0} (byte : ℕ) (bytes digits : List ℕ) (at coun
     → ParsesUnsigned 32 10 digits r → r ≡ Ok value
     → Some (record { value = value; after = at + count + 1 }) ≡ number_at byte bytes at
 number_parsed byte bytes digits at count value r is few follows slice parses was =
-    let parsed = parsed_digits bytes digits at r (slice_digits bytes digits at count is slice) parses in
+    let parsed = parsed_digits bytes digits at r (slice_digits bytes digits at count is slice)
+    parses in
     let ok = rw was at parsed in
-    let len : length (digits_at bytes at) ≡ prefix_len is_ascii_digit (drop at bytes) = length-prefix_len is_ascii_digit (drop at bytes) in
+    let len : length (digits_at bytes at) ≡ prefix_len is_ascii_digit (drop at bytes) =
+    length-prefix_len is_ascii_digit (drop at bytes) in
     let short : length (digits_at bytes at) ≤ 10 = omega (arith, len, is, few) in
     some_number byte bytes at count value is
     (record { some = ok.0.0; few = short; within = omega (arith, ok.0.1) }) follows (sym ok.1)
@@ -133,6 +140,13 @@ pub number_refused : {E : Type 0} (byte : ℕ) (bytes digits : List ℕ) (at cou
     → digits ≡ slice_range bytes at (at + count) → ParsesUnsigned 32 10 digits r → r ≡ Err e
     → None ≡ number_at byte bytes at
 number_refused byte bytes digits at count r e is slice parses was =
-    let parsed = parsed_digits bytes digits at r (slice_digits bytes digits at count is slice) parses in
+    let parsed = parsed_digits bytes digits at r (slice_digits bytes digits at count is slice)
+    parses in
     let refused = rw was at parsed in
-    no_number byte bytes at count is (λ number follows. refused (number.some, omega (arith, number.within)))
+    no_number byte bytes at count is (λ number follows. refused (
+      number.some,
+      omega (
+        arith,
+        number.within,
+      ),
+    ))

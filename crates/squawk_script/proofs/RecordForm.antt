@@ -79,7 +79,13 @@ record HasForm (bytes : List ℕ) (line : Header) : Type 0 where
 form_of : (bytes : List ℕ) (start end len : Number) → slice_index bytes 0 ≡ 64
     → HasNumber 32 bytes 1 start → HasNumber 32 bytes start.after end
     → HasNumber 10 bytes end.after len
-    → HasForm bytes (record { start = start.value; end = end.value; new_len = len.value; after = len.after })
+    → HasForm bytes (record {
+      start = start.value;
+      end = end.value;
+      new_len =
+          len.value;
+      after = len.after;
+    })
 form_of [] start end len first s e l = absurd (omega arith)
 form_of (b ∷ bs) start end len first s e l = record {
   start = s.digits;
@@ -99,11 +105,23 @@ has_form bytes line is = by_first (eqb (slice_index bytes 0) 64) refl is
     by_len : (start end : Number) → slice_index bytes 0 ≡ 64
         → number_at 32 bytes 1 ≡ Some start → number_at 32 bytes start.after ≡ Some end
         → (o : Option Number) → number_at 10 bytes end.after ≡ o
-        → and_then o (λ len. Some (record { start = start.value; end = end.value; new_len = len.value; after = len.after })) ≡ Some line
+        → and_then o (λ len. Some (record {
+          start = start.value;
+          end = end.value;
+          new_len =
+              len.value;
+          after = len.after;
+        })) ≡ Some line
         → HasForm bytes line
     by_len start end first s e None l same = absurd (cc)
     by_len start end first s e (Some len) l same =
-        let found : Header = record { start = start.value; end = end.value; new_len = len.value; after = len.after } in
+        let found : Header = record {
+          start = start.value;
+          end = end.value;
+          new_len =
+              len.value;
+          after = len.after;
+        } in
         let at_line : found ≡ line = cc in
         subst (HasForm bytes) at_line (form_of bytes start end len first
         (has_number 32 bytes 1 start (omega arith) s)
@@ -113,20 +131,45 @@ has_form bytes line is = by_first (eqb (slice_index bytes 0) 64) refl is
     by_end : (start : Number) → slice_index bytes 0 ≡ 64
         → number_at 32 bytes 1 ≡ Some start
         → (o : Option Number) → number_at 32 bytes start.after ≡ o
-        → and_then o (λ end. and_then (number_at 10 bytes end.after) (λ len. Some (record { start = start.value; end = end.value; new_len = len.value; after = len.after }))) ≡ Some line
+        → and_then o (λ end. and_then (number_at 10 bytes end.after)
+        (λ len. Some (record {
+          start = start.value;
+          end = end.value;
+          new_len =
+              len.value;
+          after = len.after;
+        }))) ≡ Some line
         → HasForm bytes line
     by_end start first s None e same = absurd (cc)
-    by_end start first s (Some end) e same = by_len start end first s e (number_at 10 bytes end.after) refl same
+    by_end start first s (Some end) e same = by_len start end first s e (number_at 10 bytes
+        end.after) refl same
 
     by_start : slice_index bytes 0 ≡ 64
         → (o : Option Number) → number_at 32 bytes 1 ≡ o
-        → and_then o (λ start. and_then (number_at 32 bytes start.after) (λ end. and_then (number_at 10 bytes end.after) (λ len. Some (record { start = start.value; end = end.value; new_len = len.value; after = len.after })))) ≡ Some line
+        → and_then o (λ start. and_then (number_at 32 bytes start.after)
+        (λ end. and_then (number_at 10 bytes end.after) (λ len. Some (record {
+          start =
+              start.value;
+          end = end.value;
+          new_len = len.value;
+          after =
+              len.after;
+        })))) ≡ Some line
         → HasForm bytes line
     by_start first None s same = absurd (cc)
-    by_start first (Some start) s same = by_end start first s (number_at 32 bytes start.after) refl same
+    by_start first (Some start) s same = by_end start first s (number_at 32 bytes start.after)
+        refl same
 
     by_first : (b : Bool) → eqb (slice_index bytes 0) 64 ≡ b
-        → cond b (and_then (number_at 32 bytes 1) (λ start. and_then (number_at 32 bytes start.after) (λ end. and_then (number_at 10 bytes end.after) (λ len. Some (record { start = start.value; end = end.value; new_len = len.value; after = len.after }))))) None ≡ Some line
+        → cond b (and_then (number_at 32 bytes 1) (λ start. and_then (number_at 32 bytes
+        start.after) (λ end. and_then (number_at 10 bytes end.after)
+        (λ len. Some (record {
+          start = start.value;
+          end = end.value;
+          new_len =
+              len.value;
+          after = len.after;
+        }))))) None ≡ Some line
         → HasForm bytes line
     by_first true e same = by_start (eqb-true _ 64 e) (number_at 32 bytes 1) refl same
     by_first false e same = absurd (cc)

@@ -28,7 +28,12 @@ has_line bytes r is = by (header bytes) refl is
     with_line : (line : Header) → header bytes ≡ Some line → (b : Bool)
         → eqb (slice_index bytes (line.after + line.new_len)) 10 ≡ b
         → Some r ≡ cond b (Some (record {
-          edit = record { start = line.start; end = line.end; new = take line.new_len (drop line.after bytes) };
+          edit = record {
+            start = line.start;
+            end = line.end;
+            new =
+                take line.new_len (drop line.after bytes);
+          };
           len = line.after + line.new_len + 1;
         })) None
         → HasLine bytes r
@@ -37,7 +42,12 @@ has_line bytes r is = by (header bytes) refl is
       begins = begins;
       line_feed = eqb-true _ 10 e;
       is = let s : r ≡ record {
-        edit = record { start = line.start; end = line.end; new = take line.new_len (drop line.after bytes) };
+        edit = record {
+          start = line.start;
+          end = line.end;
+          new =
+              take line.new_len (drop line.after bytes);
+        };
         len = line.after + line.new_len + 1;
       } = cc in s;
     }
@@ -46,7 +56,8 @@ has_line bytes r is = by (header bytes) refl is
     by : (o : Option Header) → header bytes ≡ o → Some r ≡ and_then o (record_after bytes)
         → HasLine bytes r
     by None e same = absurd (cc)
-    by (Some line) e same = with_line line e (eqb (slice_index bytes (line.after + line.new_len)) 10) refl same
+    by (Some line) e same = with_line line e (eqb (slice_index bytes (line.after + line.new_len))
+        10) refl same
 
 -- its new text has fewer bytes than it has, and it lies within the bytes
 pub record IsShort (bytes : List ℕ) (r : Record) : Type 0 where
@@ -57,9 +68,11 @@ pub record_short : (bytes : List ℕ) (r : Record) → Some r ≡ first_record b
 record_short bytes r is =
     let h = has_line bytes r is in
     let line = h.line in
-    let inside : line.after + line.new_len < length bytes = elim (cases_lt (line.after + line.new_len) (length bytes)) [
+    let inside : line.after + line.new_len < length bytes =
+    elim (cases_lt (line.after + line.new_len) (length bytes)) [
       | inl inside ↦ inside
-      | inr past ↦ absurd (none_past_end bytes 10 (line.after + line.new_len) (omega arith) past h.line_feed)
+      | inr past ↦ absurd (none_past_end bytes 10 (line.after + line.new_len)
+          (omega arith) past h.line_feed)
     ] in
     let few : length (take line.new_len (drop line.after bytes)) ≤ line.new_len =
     omega (arith, length-take line.new_len (drop line.after bytes)) in

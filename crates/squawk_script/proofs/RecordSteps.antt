@@ -11,7 +11,8 @@ use Rattle.squawk_script.specs.declared.record.Header.{Header}
 -- a text that begins with another byte
 pub other_byte : (bytes : List ℕ) → slice_index bytes 0 ≢ 64 → None ≡ header bytes
 unfolding header
-other_byte bytes other = let e : eqb (slice_index bytes 0) 64 ≡ false = grind (arith, nat_tests) in rw e refl
+other_byte bytes other = let e : eqb (slice_index bytes 0) 64 ≡ false =
+    grind (arith, nat_tests) in rw e refl
 
 -- a text that begins with `@` is not empty
 pub some_bytes : (bytes : List ℕ) → slice_index bytes 0 ≡ 64 → 0 < length bytes
@@ -46,7 +47,8 @@ pub whole_line : (bytes : List ℕ) (start end len : Number) → slice_index byt
     → Some (record { start = start.value; end = end.value; new_len = len.value; after = len.after })
     ≡ header bytes
 unfolding header
-whole_line bytes start end len first is_start is_end is_len = rw (first, ← is_start, ← is_end, ← is_len) refl
+whole_line bytes start end len first is_start is_end is_len =
+    rw (first, ← is_start, ← is_end, ← is_len) refl
 
 -- a byte of what follows an offset
 pub byte_after : (bytes rest : List ℕ) (at n : ℕ) → rest ≡ drop at bytes
@@ -73,7 +75,8 @@ pub no_line_feed : (bytes : List ℕ) (line : Header) → Some line ≡ header b
     → slice_index bytes (line.after + line.new_len) ≢ 10 → None ≡ first_record bytes
 unfolding first_record record_after
 no_line_feed bytes line is other =
-    let e : eqb (slice_index bytes (line.after + line.new_len)) 10 ≡ false = grind (arith, nat_tests) in
+    let e : eqb (slice_index bytes (line.after + line.new_len)) 10 ≡ false =
+    grind (arith, nat_tests) in
     rw (← is, e) refl
 
 -- a whole record

@@ -24,7 +24,8 @@ pub records_first : (bytes : List ℕ) (first : Record) → 0 < first.len
     → records_after 0 bytes ≡ first ∷ records_after 0 (drop first.len bytes)
 records_first [] first some within is = absurd (omega arith)
 records_first (b ∷ bs) first some within is = rw (← is)
-    (ap (λ rs. first ∷ rs) (records_skip (first.len - 1) bs ∙ ap (records_after 0) (drop_after first.len b bs some)))
+    (ap (λ rs. first ∷ rs) (records_skip (first.len - 1) bs
+    ∙ ap (records_after 0) (drop_after first.len b bs some)))
 
 -- the edits that are left, and the number of bytes of the records
 pub edits_none : (bytes : List ℕ) → None ≡ first_record bytes → records bytes ≡ []

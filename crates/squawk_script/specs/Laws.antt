@@ -20,10 +20,12 @@ pub record IsRecord (bytes : List ℕ) (edit : ScriptEdit) : Type 0 where
   pub start_is : IsNumber start edit.start
   pub end_is : IsNumber end edit.end
   pub len_is : IsNumber len (length edit.new)
-  pub is : bytes ≡ at_sign ∷ (start ++ space ∷ (end ++ space ∷ (len ++ line_feed ∷ (edit.new ++ line_feed ∷ []))))
+  pub is : bytes ≡ at_sign ∷ (start ++ space ∷ (end ++ space ∷ (len ++ line_feed
+      ∷ (edit.new ++ line_feed ∷ []))))
 
 -- a record with this edit begins the bytes, and the others are such
-pub record BeginsWithRecord (bytes : List ℕ) (edit : ScriptEdit) (AreOthers : List ℕ → Type 0) : Type 0 where
+pub record BeginsWithRecord (bytes : List ℕ) (edit : ScriptEdit)
+    (AreOthers : List ℕ → Type 0) : Type 0 where
   pub first : List ℕ
   pub others : List ℕ
   pub is : bytes ≡ first ++ others
@@ -35,11 +37,11 @@ abbrev pub AreRecords : List ℕ → List ScriptEdit → Type 0
 AreRecords bytes [] = bytes ≡ []
 AreRecords bytes (edit ∷ edits) = BeginsWithRecord bytes edit (λ others. AreRecords others edits)
 
--- the records that begin the bytes are records, and they have as many bytes as is said
+-- the records that begin the bytes have a record's form, and as many bytes as is said
 abbrev pub RecordsBeginBytes : Type 0
 RecordsBeginBytes = (bytes : List ℕ) → AreRecords (take (records_len bytes) bytes) (records bytes)
 
--- bytes that are records are records also before others, so the records that are read are the most
+-- bytes that are records are read as these, whatever follows them: none is left out
 abbrev pub RecordsStandAlone : Type 0
 RecordsStandAlone = (own others : List ℕ) (edits : List ScriptEdit) → AreRecords own edits
     → (records (own ++ others) ≡ edits ++ records others)

@@ -37,7 +37,10 @@ pub(crate) fn read_number(text: &str, at: usize, byte: u8) -> Option<Number>
 {
     let bytes = text.as_bytes();
     let end = at + digit_count(bytes, at);
-    if end - at > MAX_DIGITS || end >= bytes.len() || bytes[end] != byte {
+    if end - at > MAX_DIGITS {
+        return None;
+    }
+    if end >= bytes.len() || bytes[end] != byte {
         return None;
     }
     match text[at..end].parse::<u32>() {

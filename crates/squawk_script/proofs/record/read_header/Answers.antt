@@ -13,13 +13,16 @@ read_number-requires-clause-boundary c =
 pub returns-then-is_empty-clause-header : goal.returns-then-is_empty-clause-header
 returns-then-is_empty-clause-header c = steps.other_byte c.args.text.now (λ first.
     elim c.then-is_empty.branch [
-      | goal.then-is_empty-via-then-is_empty w ↦ steps.none_if_empty c.args.text.now (sym c.is_empty.ensures ∙ w.if-is_empty.true) first
-      | goal.then-is_empty-via-else-is_empty+then-as_bytes-ne-AT_SIGN w ↦ (rw w.as_bytes.ensures.value at w.if-as_bytes-ne-AT_SIGN.true) first
+      | goal.then-is_empty-via-then-is_empty w ↦ steps.none_if_empty c.args.text.now (sym
+          c.is_empty.ensures ∙ w.if-is_empty.true) first
+      | goal.then-is_empty-via-else-is_empty+then-as_bytes-ne-AT_SIGN w ↦
+          (rw w.as_bytes.ensures.value at w.if-as_bytes-ne-AT_SIGN.true) first
     ])
 
 pub returns-in_err-start-clause-header : goal.returns-in_err-start-clause-header
 returns-in_err-start-clause-header c = c.from_residual.ensures
-    ∙ steps.no_start c.args.text.now (rw c.as_bytes.ensures.value at c.if-as_bytes-ne-AT_SIGN.false) c.in_err-start.ensures.number
+    ∙ steps.no_start c.args.text.now (rw c.as_bytes.ensures.value at
+    c.if-as_bytes-ne-AT_SIGN.false) c.in_err-start.ensures.number
 
 pub returns-in_err-end-clause-header : goal.returns-in_err-end-clause-header
 returns-in_err-end-clause-header c = c.from_residual-in_err-end.ensures

@@ -16,7 +16,8 @@ returns-then-line-rest-clause-first c = steps.no_line_feed c.args.text.now c.in_
           c.range_from-rest.result.now c.in_ok-line.line.after c.in_ok-line.line.new_len
           c.range_from-rest.ensures.value w.if-line-rest.true follows
       | goal.then-line-rest-via-else-line-rest+then-as_bytes-line-ne-LINE_FEED w ↦
-          (rw w.as_bytes.ensures.value at w.if-as_bytes-line-ne-LINE_FEED.true) (steps.byte_after c.args.text.now
+          (rw w.as_bytes.ensures.value at w.if-as_bytes-line-ne-LINE_FEED.true)
+          (steps.byte_after c.args.text.now
           c.range_from-rest.result.now c.in_ok-line.line.after c.in_ok-line.line.new_len
           c.range_from-rest.ensures.value ∙ follows)
     ])
@@ -37,9 +38,14 @@ returns-clause-first c = steps.whole_record c.args.text.now c.range.result.now c
 pub returns-clause-within : goal.returns-clause-within
 returns-clause-within c =
     let ascii = line_feed c in
-    let small : slice_index_or c.args.text.now (c.in_ok-line.line.after + c.in_ok-line.line.new_len) 0 < 128 = omega (arith, ascii) in
-    let inside : c.in_ok-line.line.new_len < length c.range_from-rest.result.now = c.if-line-rest.false in
+    let small : slice_index_or c.args.text.now (c.in_ok-line.line.after +
+    c.in_ok-line.line.new_len) 0 < 128 = omega (arith, ascii) in
+    let inside : c.in_ok-line.line.new_len < length c.range_from-rest.result.now =
+    c.if-line-rest.false in
     let within : c.in_ok-line.line.after + c.in_ok-line.line.new_len < length c.args.text.now =
     omega (arith, inside, c.range_from-rest.ensures.len) in
-    let positive : 0 < c.in_ok-line.line.after + c.in_ok-line.line.new_len + 1 = omega arith in
-    (positive, IsCharBoundary-after_ascii c.args.text.now (c.in_ok-line.line.after + c.in_ok-line.line.new_len) c.utf8.text within small)
+    let positive : 0 < c.in_ok-line.line.after + c.in_ok-line.line.new_len + 1 = omega arith in (
+      positive,
+      IsCharBoundary-after_ascii c.args.text.now (c.in_ok-line.line.after +
+          c.in_ok-line.line.new_len) c.utf8.text within small,
+    )

@@ -7,11 +7,13 @@ use Rattle.squawk_script.proofs.script.EditsIterator.next.Goals as goal
 
 pub returns-in_err-record-clause-steps : goal.returns-in_err-record-clause-steps
 returns-in_err-record-clause-steps c =
-    let left = sym c.self.view_is ∙ edits_none c.self.inside.rest.now c.in_err-record.ensures.first in
+    let left = sym c.self.view_is ∙ edits_none c.self.inside.rest.now
+    c.in_err-record.ensures.first in
     rw c.from_residual.ensures (left, left)
 
 pub invariant_of-self : goal.invariant_of-self
-invariant_of-self c = is_utf8-from_IsUtf8 c.range_from-self-inside.result.now c.range_from-self-inside.utf8
+invariant_of-self c = is_utf8-from_IsUtf8 c.range_from-self-inside.result.now
+    c.range_from-self-inside.utf8
 
 -- the first edit, and those of the text after its record
 stepped : (c : goal.After-result-1) → c.args.self.now
