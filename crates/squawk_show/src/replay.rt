@@ -10,16 +10,18 @@ ghost use Rattle.squawk_statements.specs.declared.division.Division.{Division};
 ghost use Rattle.squawk_tree.specs.Tree.{IsTree};
 
 use crate::{Command, RunError, Source, append_report, read_all};
+use squawk_cut::PlainFront;
 use squawk_cut::laws::plain_fronts_parse;
+use squawk_document::Document;
 use squawk_events::{FrontError, LIMIT};
-use squawk_replay::{Document, PlainFront, Replayed, replay};
+use squawk_replay::{Replayed, replay};
 use squawk_script::Script;
 use squawk_tree::Parse;
 use squawk_tree::laws::parses_have_the_tokens;
 use std::alloc::Global;
 
 // Makes the tree of the text of a document.
-fn parse_document(alloc: Global, document: &Document) -> Result<Parse, FrontError>
+fn parse_document(alloc: Global, document: &Document<PlainFront>) -> Result<Parse, FrontError>
     requires short { length document.now.text ≤ limit }
     requires plain { plain_tells document.now.front.strings document.now.front.division
         ≡ plain_tells Strings.Standard Division.Flat }
