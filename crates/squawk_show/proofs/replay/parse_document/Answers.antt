@@ -16,5 +16,5 @@ returns-clause-parsed c =
     is_parse c.parses_have_the_tokens.ensures.leaves c.parses_have_the_tokens.ensures.children
     text parse (record { within = c.requires.short; valid = utf8 })
     (is ∙ ap (λ tells. join_of (children_of tells text)) c.requires.plain
-    ∙ c.plain_fronts_parse.ensures Standard Flat text utf8))
+    ∙ c.plain_fronts_parse.ensures.children Standard Flat text utf8))
     c.parse.result c.parse.ensures.text
