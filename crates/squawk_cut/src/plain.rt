@@ -5,7 +5,7 @@ ghost use Rattle.squawk_cut.specs.ChildValue.{IsChild, child_value};
 ghost use Rattle.squawk_cut.specs.Children.{lexemes};
 ghost use Rattle.squawk_cut.specs.Join.{only_child};
 ghost use Rattle.squawk_cut.specs.PlainTells.{lexed_of, kinds_of, plain_child, plain_tells};
-ghost use Rattle.squawk_cut.specs.Tells.{IsLawful};
+ghost use Rattle.squawk_cut.specs.Tells.{IsLawful, next_count};
 ghost use Rattle.squawk_events.specs.Refusals.{IsOutOfMemory};
 ghost use Rattle.squawk_lexed.specs.LexedText.{EndAtBoundaries};
 ghost use Rattle.squawk_lexer.specs.Flags.{AreCut};
@@ -126,6 +126,13 @@ fn first_child(
     only_child(alloc, &parse, shape)
 }
 
+// The number of steps after one more.
+fn next_count(steps: u64) -> u64
+    ensures { result ≡ next_count steps }
+{
+    steps.saturating_add(1)
+}
+
 /// A front of the tokens of the lexer and the children of the division into statements.
 #[derive(Drop)]
 pub struct PlainFront {
@@ -201,7 +208,7 @@ impl Front for PlainFront {
     ghost lawful = { λ s. s.lawful };
 
     fn cut_next(&mut self, text: &str, at: usize) -> Token {
-        self.steps = self.steps.saturating_add(1);
+        self.steps = next_count(self.steps);
         cut_at_in(text, at, self.strings)
     }
 
@@ -212,7 +219,7 @@ impl Front for PlainFront {
         at: usize,
         tokens: &[Token],
     ) -> Result<Child, FrontError> {
-        self.steps = self.steps.saturating_add(1);
+        self.steps = next_count(self.steps);
         tokens_progress();
         tokens_restart();
         first_child(alloc, text, at, tokens, self.division)
