@@ -1,5 +1,5 @@
 -- What the edits of a script make of a text, the empty one at first, and the line of each edit.
-use Rattle.std.specs.Prelude.{ℕ, ◌+◌, ⊤, ¬◌, List, [], ◌∷◌, ◌++◌, codes, decimal}
+use Rattle.std.specs.Prelude.{ℕ, ◌+◌, ⊤, List, [], ◌∷◌, ◌++◌, codes, decimal}
 use Rattle.squawk_cut.specs.Tells.{Tells}
 use Rattle.squawk_document.specs.Boundaries.{IsRange, splice}
 use Rattle.squawk_document.specs.Edited.{edited_of}

@@ -22,7 +22,7 @@ pub(crate) fn apply_edits<F: Front>(
     ensures lines { IfOk result (λ lines. lines.items
         ≡ lines_from (F.tells document.old.front) 1 document.old.text edits.entry) }
     ensures tells { F.tells document.new.front ≡ F.tells document.old.front }
-    ensures ranges { IfOk result (λ lines. AreRanges document.old.text edits.entry) }
+    ensures ranges { OnOk result (AreRanges document.old.text edits.entry) }
     ensures refusals { IfErr result (MayRefuseEdits document.old.text edits.entry) }
 {
     let mut lines = Vec::new(alloc);

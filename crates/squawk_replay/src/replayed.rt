@@ -1,5 +1,5 @@
 //! Scripts that are applied to the empty document.
-ghost use Rattle.std.specs.Prelude.{◌≡◌, ◌≤◌, [], length, IfOk, IfErr};
+ghost use Rattle.std.specs.Prelude.{◌≡◌, ◌≤◌, [], length, IfOk, IfErr, OnOk};
 ghost use Rattle.squawk_cut.specs.PlainTells.{plain_tells};
 ghost use Rattle.squawk_events.specs.Limit.{limit};
 ghost use Rattle.squawk_lexer.specs.declared.token.Strings.TheVariants.{Standard};
@@ -35,7 +35,7 @@ pub fn replay(alloc: Global, script: &Script<'_>) -> Result<Replayed, FrontError
         ≡ edit_lines (plain_tells Standard Flat) (records script.now)) }
     ensures tells { IfOk result (λ done. plain_tells done.document.front.strings
         done.document.front.division ≡ plain_tells Standard Flat) }
-    ensures ranges { IfOk result (λ done. AreRanges [] (records script.now)) }
+    ensures ranges { OnOk result (AreRanges [] (records script.now)) }
     ensures refusals { IfErr result (MayRefuseReplay (records script.now)) }
 {
     replay_in(alloc, script, Strings::Standard, Division::Flat)
@@ -63,7 +63,7 @@ pub fn replay_in(
         ≡ edit_lines (plain_tells strings division) (records script.now)) }
     ensures tells { IfOk result (λ done. plain_tells done.document.front.strings
         done.document.front.division ≡ plain_tells strings division) }
-    ensures ranges { IfOk result (λ done. AreRanges [] (records script.now)) }
+    ensures ranges { OnOk result (AreRanges [] (records script.now)) }
     ensures refusals { IfErr result (MayRefuseReplay (records script.now)) }
 {
     new_texts_are_short();

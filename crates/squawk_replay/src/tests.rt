@@ -27,7 +27,8 @@ const ROWS: &[(&str, &str, &str, &str)] = &[
     ),
     (
         "numbers of two digits",
-        "@0 0 0\n\n@0 0 0\n\n@0 0 0\n\n@0 0 0\n\n@0 0 0\n\n@0 0 0\n\n@0 0 0\n\n@0 0 0\n\n@0 0 0\n\n@0 0 1\n;\n",
+        "@0 0 0\n\n@0 0 0\n\n@0 0 0\n\n@0 0 0\n\n@0 0 0\n\n@0 0 0\n\n\
+         @0 0 0\n\n@0 0 0\n\n@0 0 0\n\n@0 0 1\n;\n",
         ";",
         "edit 1: tokens 0+0+0 children 0+0+0\nedit 2: tokens 0+0+0 children 0+0+0\n\
          edit 3: tokens 0+0+0 children 0+0+0\nedit 4: tokens 0+0+0 children 0+0+0\n\
