@@ -1,18 +1,18 @@
 -- Steps and errors of children as a sink receives them.
-use Rattle.std.proofs.Common.{◌≡◌, ℕ, zero, suc, ◌+◌, ◌<◌, ◌≤◌, ◌==◌, Bool, true, false, ◌&&◌, List, [], ◌∷◌, ◌++◌, map, refl, ap, sym, subst, ◌∙◌, arith, nat_eq, nat_le, nat_lt, length, drop, drop-cons, get_or, append_assoc}
+use Rattle.std.proofs.Common.{◌≡◌, ℕ, zero, suc, ◌+◌, ◌<◌, ◌≤◌, ◌==◌, Bool, true, false, ◌&&◌, List, [], ◌∷◌, ◌++◌, map, refl, ap, sym, subst, ◌∙◌, arith, nat_le, nat_lt, length, drop, drop-cons, get_or, append_assoc}
 use Rattle.std.proofs.lemmas.Bool.{and_parts, eqb-true, ltb-true}
 use Rattle.std.proofs.lemmas.Bool.Decides.{nat_tests}
 use Rattle.std.proofs.lemmas.List.{drop_all, append-nil}
 use Rattle.std.proofs.lemmas.List.Elements.{All-append, All-map, All-weaker}
 use Rattle.std.specs.Prelude.{All, IsTrue, IfOk, Result, Ok, Err}
 use Rattle.squawk_cut.specs.ChildValue.{ChildValue, IsChild, child_tree}
-use Rattle.squawk_cut.specs.Join.{join_of, child_bytes, step_within, steps_within}
+use Rattle.squawk_cut.specs.Join.{join_of, child_bytes, steps_within}
 use Rattle.squawk_events.specs.declared.error.FrontError.{FrontError}
 use Rattle.squawk_events.specs.declared.steps.ParseError.{ParseError}
 use Rattle.squawk_events.specs.declared.steps.StrStep.{StrStep}
 use Rattle.squawk_events.specs.declared.steps.StrStep.TheVariants.{Enter, Token, Exit, Error}
 use Rattle.squawk_tree.specs.Children.{is_leaf_or_node}
-use Rattle.squawk_tree.specs.Join.{ChildTree, steps_from, errors_from, shifted_step, shifted_error, children_len}
+use Rattle.squawk_tree.specs.Join.{steps_from, errors_from, shifted_step, shifted_error, children_len}
 use Rattle.squawk_tree.specs.Steps.{closes, is_balanced, has_no_errors, leaves, tiles, without_errors}
 use Rattle.squawk_tree.specs.Taken.{EndsBy, end_after, tokens_end}
 use Rattle.squawk_tree.specs.Tree.{Tree, IsErrorWithin}

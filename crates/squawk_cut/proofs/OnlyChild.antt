@@ -1,7 +1,7 @@
 -- The only child of a parse of the tokens of a first child.
 use Rattle.std.proofs.Common.{◌≡◌, ℕ, zero, suc, ◌+◌, ◌-◌, ◌<◌, ◌≤◌, true, List, [], ◌∷◌, ◌++◌, length, length-append, take, drop, map, refl, sym, ap, subst, ◌∙◌, arith}
 use Rattle.std.proofs.lemmas.List.{append-nil, length-map, length-take-le, take-map}
-use Rattle.squawk_cut.specs.ChildValue.{ChildValue, IsChild, child_value}
+use Rattle.squawk_cut.specs.ChildValue.{IsChild, child_value}
 use Rattle.squawk_cut.specs.Children.{lexemes}
 use Rattle.squawk_cut.specs.Join.{only_child}
 use Rattle.squawk_cut.specs.PlainTells.{lexed_of, kinds_of, plain_child}
@@ -9,14 +9,12 @@ use Rattle.squawk_cut.specs.Tells.{Lexeme}
 use Rattle.squawk_events.specs.declared.steps.ParseError.{ParseError}
 use Rattle.squawk_events.specs.declared.steps.StrStep.{StrStep}
 use Rattle.squawk_events.specs.declared.steps.StrStep.TheVariants.{Enter, Token, Exit, Error}
-use Rattle.squawk_kinds.specs.Role.{role}
 use Rattle.squawk_kinds.specs.declared.numbers.TheConstants.Number.{SOURCE_FILE}
 use Rattle.squawk_lexed.specs.LexedText.{CutTokensAreSound, EndAtBoundaries, are_sound}
 use Rattle.squawk_lexed.specs.LexedToken.{LexedToken}
-use Rattle.squawk_lexed.specs.Stored as stored
 use Rattle.squawk_lexer.specs.Flags.{AreCut}
 use Rattle.squawk_lexer.specs.declared.token.Token as lexer
-use Rattle.squawk_statements.specs.Children.{first_child, first_child_len}
+use Rattle.squawk_statements.specs.Children.{first_child}
 use Rattle.squawk_statements.specs.First.{first_shape, child_node}
 use Rattle.squawk_statements.specs.declared.division.Division.{Division}
 use Rattle.squawk_statements.specs.declared.first.ChildShape.{ChildShape}

@@ -1,11 +1,11 @@
 -- The children that a plain front tells are those of the parse.
-use Rattle.std.proofs.Common.{◌≡◌, ℕ, zero, suc, ◌-◌, ◌≤◌, true, List, [], ◌∷◌, length, take, map, refl, sym, ap, subst, ◌∙◌, arith}
+use Rattle.std.proofs.Common.{◌≡◌, ℕ, zero, suc, ◌-◌, true, List, [], ◌∷◌, take, map, refl, sym, ap, ◌∙◌}
 use Rattle.std.proofs.lemmas.List.{take-map}
 use Rattle.std.specs.Str.{chars, IsUtf8}
 use Rattle.squawk_cut.specs.ChildValue.{child_tree}
 use Rattle.squawk_cut.specs.Children.{lexemes, children_from, children_of}
 use Rattle.squawk_cut.specs.Join.{join_of}
-use Rattle.squawk_cut.specs.PlainTells.{lexed_of, kinds_of, plain_child, plain_tells}
+use Rattle.squawk_cut.specs.PlainTells.{lexed_of, plain_child, plain_tells}
 use Rattle.squawk_cut.specs.Tells.{Lexeme}
 use Rattle.squawk_cut.specs.Tokens.{tokens_of}
 use Rattle.squawk_lexed.specs.LexedText.{CutTokensAreSound, are_sound}

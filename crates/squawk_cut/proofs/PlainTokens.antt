@@ -1,5 +1,5 @@
 -- The tokens that a plain front tells are the lexer's, and end at character boundaries.
-use Rattle.std.proofs.Common.{◌≡◌, ℕ, zero, suc, ◌+◌, ◌-◌, ◌<◌, ◌≤◌, Bool, true, false, List, [], ◌∷◌, length, length-drop, drop, refl, sym, ap, subst, ◌∙◌, arith}
+use Rattle.std.proofs.Common.{◌≡◌, ℕ, zero, suc, ◌+◌, ◌-◌, ◌<◌, ◌≤◌, Bool, false, List, [], ◌∷◌, length, length-drop, drop, refl, sym, ap, subst, ◌∙◌, arith}
 use Rattle.std.proofs.lemmas.List.{drop-drop}
 use Rattle.std.proofs.lemmas.Str.{chars-nil, IsUtf8-drop, IsCharBoundary-from_rest}
 use Rattle.std.specs.Str.{chars, IsUtf8, IsCharBoundary}
@@ -12,7 +12,6 @@ use Rattle.squawk_lexer.specs.Flags.{AreCut}
 use Rattle.squawk_lexer.specs.LookAhead.{TextsProgress, TextsRestart}
 use Rattle.squawk_lexer.specs.Token.{lexeme_at, token_at}
 use Rattle.squawk_lexer.specs.declared.token.Strings.{Strings}
-use Rattle.squawk_lexer.specs.declared.token.Token.{Token}
 use Rattle.squawk_statements.specs.declared.division.Division.{Division}
 
 -- the tokens after one that began before are those of the rest

@@ -1,5 +1,6 @@
 -- Passing tokens one by one.
-use Rattle.std.proofs.Common.{inl, inr, ◌≡◌, ℕ, zero, suc, ◌+◌, ◌-◌, ◌<◌, ◌≤◌, Bool, true, false, nat_lt, ◌||◌, eqb, List, [], ◌∷◌, ◌++◌, length, get_or, take, drop, refl, sym, ◌∙◌, ap, arith, length-drop}
+use Rattle.std.proofs.Common.{inl, inr, ◌≡◌, ℕ, zero, suc, ◌+◌, ◌-◌, ◌<◌, ◌≤◌, Bool, true, false, nat_lt, ◌||◌, ◌&&◌, eqb, List, [], ◌∷◌, ◌++◌, length, get_or, take, drop, refl, sym, ◌∙◌, ap, subst, arith, length-drop}
+use Rattle.std.proofs.lemmas.Bool.{cases_lt}
 use Rattle.std.proofs.lemmas.Bool.Decides.{nat_tests}
 use Rattle.std.proofs.lemmas.List.{take-append-drop, take_more, drop_more}
 use Rattle.squawk_lexer.specs.declared.token.Token.{Token}
@@ -82,3 +83,22 @@ is_new_meeting_at ts i p new_end end q low is some under high =
     let b : nat_lt 0 (p - new_end + end) ≡ true = grind (arith, nat_tests) in
     let c : is_boundary ts (p - new_end + end) ≡ eqb (total_len (take i ts)) q = ap (is_boundary ts) (sym is) ∙ boundary_at ts i q some under high in
     rw (a, b, c) refl
+
+-- the same in the words of the code
+pub is_new_meeting_here : (ts : List Token) (i offset p new_end end : ℕ) → new_end ≤ p
+    → offset ≡ total_len (take i ts) → offset ≤ p - new_end + end
+    → (i < length ts → p - new_end + end < total_len (take (i + 1) ts))
+    → (nat_lt 0 (p - new_end + end) && eqb offset (p - new_end + end)) ≡ is_new_meeting new_end end ts p
+is_new_meeting_here ts i offset p new_end end low offset_is under high =
+    let a : nat_lt p new_end ≡ false = grind (arith, nat_tests) in
+    elim (cases_lt 0 (p - new_end + end)) [
+      | inl some ↦
+          let b : nat_lt 0 (p - new_end + end) ≡ true = grind (arith, nat_tests) in
+          ap (λ t. t && eqb offset (p - new_end + end)) b
+          ∙ ap (λ n. eqb n (p - new_end + end)) offset_is
+          ∙ is_new_meeting_at ts i p new_end end (p - new_end + end) low refl some
+          (subst (λ n. n ≤ p - new_end + end) offset_is under) high
+      | inr none ↦
+          let b : nat_lt 0 (p - new_end + end) ≡ false = grind (arith, nat_tests) in
+          rw (a, b) refl
+    ]

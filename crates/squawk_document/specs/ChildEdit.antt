@@ -29,8 +29,8 @@ children_at t text tokens at i = children_from t 0 (lexemes (drop at text) (drop
 -- the children from a position on are these so far, and then those from `at` on; the children do
 -- not return at a quiet end of one of these
 pub record IsParsedSoFar (t : Tells) (text : List ℕ) (tokens : List Token) (old : List ChildValue)
-    (restart : Position) (new_end end : ℕ) (m : Option ℕ) (fresh_children : List ChildValue) (at i : ℕ)
-    (only_closed : Bool) : Type 0 where
+    (restart : Position) (new_end end : ℕ) (m : Option ℕ) (fresh_children : List ChildValue)
+    (at i : ℕ) (only_closed : Bool) : Type 0 where
   pub children : children_at t text tokens restart.offset restart.index
       ≡ fresh_children ++ children_at t text tokens at i
   pub offset : at ≡ restart.offset + child_bytes fresh_children
@@ -43,8 +43,8 @@ pub record IsParsedSoFar (t : Tells) (text : List ℕ) (tokens : List Token) (ol
 -- the children are closed, they return at the end of the last and not before it, and in the old
 -- text the children from the index `next` on follow there
 pub record EndsAtReturn (t : Tells) (text : List ℕ) (tokens : List Token) (old : List ChildValue)
-    (restart : Position) (new_end end : ℕ) (m : Option ℕ) (fresh_children : List ChildValue) (next : ℕ)
-    : Type 0 where
+    (restart : Position) (new_end end : ℕ) (m : Option ℕ) (fresh_children : List ChildValue)
+    (next : ℕ) : Type 0 where
   pub before : List ChildValue
   pub last : ChildValue
   pub parts : fresh_children ≡ before ++ last ∷ []

@@ -30,7 +30,8 @@ is_return start end new m old new_children p =
 abbrev pub back_children : ℕ → ℕ → List ℕ → Option ℕ → List ChildValue → List ChildValue → ℕ
 back_children start end new None old new_children = 0
 back_children start end new (Some m) old new_children =
-    length old - (position_or_len (is_return start end new m old new_children) (child_ends 0 old) + 1)
+    length old
+    - (position_or_len (is_return start end new m old new_children) (child_ends 0 old) + 1)
 
 -- the counts of front, parsed and back children; the parsed children are the new children between
 -- the others

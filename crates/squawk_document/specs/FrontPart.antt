@@ -55,7 +55,8 @@ pub record IsFrontEnd (before : List ℕ) (old : List Token) (p : Position) : Ty
 
 -- the closed children at the front that end at or before a limit, and the position of the token
 -- after them
-pub record AreFrontChildren (children : List ChildValue) (limit : ℕ) (front : FrontChildren) : Type 0 where
+pub record AreFrontChildren (children : List ChildValue) (limit : ℕ) (front : FrontChildren)
+    : Type 0 where
   pub within : front.len ≤ length children
   pub index : front.end.index ≡ child_tokens (take front.len children)
   pub offset : front.end.offset ≡ child_bytes (take front.len children)

@@ -22,7 +22,8 @@ joined_tokens old front_len fresh_tokens meeting =
     take front_len old ++ (fresh_tokens ++ drop (back_index old meeting) old)
 
 -- the new tokens begin with the front tokens, which end before start or are none
-pub record BeginsWithFront (old new_tokens : List Token) (start : ℕ) (front : Position) : Type 0 where
+pub record BeginsWithFront (old new_tokens : List Token) (start : ℕ) (front : Position)
+    : Type 0 where
   pub within : front.index ≤ length old
   pub offset : front.offset ≡ total_len (take front.index old)
   pub low : 0 < front.offset → front.offset < start

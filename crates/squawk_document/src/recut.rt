@@ -4,7 +4,7 @@ ghost use Rattle.std.specs.Str.{IsCharBoundary};
 ghost use Rattle.squawk_document.specs.Boundaries.{total_len};
 ghost use Rattle.squawk_document.specs.Recut.{is_new_meeting, IsRecut};
 
-use crate::skip::{Position, skip_tokens};
+use crate::skip::{Position, both, skip_tokens};
 use squawk_cut::{Front, Token};
 use std::alloc::{AllocError, Global};
 
@@ -47,7 +47,7 @@ fn find_boundary(old: &[Token], from: Position, at: usize, new_end: usize, end: 
     let target = at - new_end + end;
     let position = skip_tokens(old, from, target);
     Search {
-        found: 0 < target && position.offset == target,
+        found: both(0 < target, position.offset == target),
         position,
     }
 }

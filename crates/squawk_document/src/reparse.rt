@@ -8,7 +8,7 @@ ghost use Rattle.squawk_document.specs.FrontPart.{AllClosed};
 ghost use Rattle.squawk_events.specs.Refusals.{IsOutOfMemory};
 
 use crate::recut::Search;
-use crate::skip::{FrontChildren, Position, skip_children};
+use crate::skip::{FrontChildren, Position, both, skip_children};
 use squawk_cut::{Child, Front, FrontError, Token};
 use std::alloc::Global;
 
@@ -17,12 +17,6 @@ use std::alloc::Global;
 pub(crate) struct ParsedChildren {
     pub(crate) children: Vec<Child>,
     pub(crate) back: Option<usize>,
-}
-
-fn both(a: bool, b: bool) -> bool
-    ensures { result ≡ (a && b) }
-{
-    a && b
 }
 
 // Skips old children from a position on up to the old offset of `at`, and returns whether the

@@ -62,7 +62,8 @@ fn swap_ranges<T>(items: &mut Vec<T>, at: usize, others: &mut Vec<T>, n: usize)
     requires others_within { n ≤ length others.old.items }
     ensures items { items.new.items
         ≡ take at items.old.items ++ (take n others.old.items ++ drop (at + n) items.old.items) }
-    ensures others { others.new.items ≡ take n (drop at items.old.items) ++ drop n others.old.items }
+    ensures others { others.new.items
+        ≡ take n (drop at items.old.items) ++ drop n others.old.items }
     ensures capacity { vec_capacity items.new ≡ vec_capacity items.old }
 {
     swap_parts(items.as_mut_slice(), at, others.as_mut_slice(), n);

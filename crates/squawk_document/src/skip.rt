@@ -1,5 +1,5 @@
 //! Skipping old tokens and old children up to an offset.
-ghost use Rattle.std.specs.Prelude.{◌≡◌, ◌+◌, ◌-◌, ◌<◌, ◌≤◌, ◌^◌, ◌↔◌, IsTrue, length, take, drop, true};
+ghost use Rattle.std.specs.Prelude.{◌≡◌, ◌+◌, ◌-◌, ◌<◌, ◌≤◌, ◌^◌, ◌↔◌, ◌&&◌, IsTrue, length, take, drop, true};
 ghost use Rattle.squawk_cut.specs.Join.{child_bytes};
 ghost use Rattle.squawk_document.specs.Boundaries.{total_len};
 ghost use Rattle.squawk_document.specs.FrontPart.{AllClosed, AreAligned, AreFrontChildren, StopsBefore};
@@ -45,6 +45,13 @@ pub(crate) fn skip_tokens(tokens: &[Token], from: Position, target: usize) -> Po
         index: i,
         offset: at,
     }
+}
+
+// Whether both are true. A call, unlike `&&`, does not branch, which keeps proofs short.
+pub(crate) fn both(a: bool, b: bool) -> bool
+    ensures { result ≡ (a && b) }
+{
+    a && b
 }
 
 // Whether a child is closed and has at most so many bytes.

@@ -32,7 +32,8 @@ fn replace_tokens(
     requires within { end ≤ length tokens.old.items }
     ensures items { OnOk result (tokens.new.items
         ≡ take start tokens.old.items ++ (with.items ++ drop end tokens.old.items)) }
-    ensures old { IfOk result (λ old. old.items ≡ take (end - start) (drop start tokens.old.items)) }
+    ensures old { IfOk result (λ old.
+        old.items ≡ take (end - start) (drop start tokens.old.items)) }
     ensures room { IfOk result (λ old.
         length tokens.new.items + length old.items ≤ vec_capacity tokens.new) }
     ensures err { OnErr result (tokens.new.items ≡ tokens.old.items) }

@@ -110,7 +110,8 @@ const ROWS: &[Row<'static>] = &[
         end: 8,
         new: "2;",
         counts: "tokens 1+3+0 children 0+1+0",
-        lines: "+ select\n\"select\" `select`\n\" \" whitespace\n\"12\" integer literal\n\";\" `;`\n",
+        lines: "+ select\n\"select\" `select`\n\" \" whitespace\n\"12\" integer literal\n\
+            \";\" `;`\n",
     },
     Row {
         name: "open_statement_grows",

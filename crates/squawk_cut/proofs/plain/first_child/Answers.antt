@@ -1,7 +1,7 @@
-use Rattle.std.proofs.Common.{◌≡◌, ◌∙◌, subst}
+use Rattle.std.proofs.Common.{◌≡◌, subst}
 use Rattle.std.specs.Prelude.{IfOk}
 use Rattle.squawk_cut.specs.ChildValue.{ChildValue}
-use Rattle.squawk_cut.proofs.OnlyChild.{IsFirst, take_cut, take_laid, first_of_tokens}
+use Rattle.squawk_cut.proofs.OnlyChild.{take_cut, take_laid, first_of_tokens}
 use Rattle.squawk_cut.proofs.plain.first_child.Goals as goal
 
 pub parse_own-requires-clause-cut : goal.parse_own-requires-clause-cut

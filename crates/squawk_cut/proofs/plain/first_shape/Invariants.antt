@@ -1,4 +1,4 @@
-use Rattle.std.proofs.Common.{◌≡◌, ◌<◌, ◌++◌, drop, length}
+use Rattle.std.proofs.Common.{◌≡◌, ◌++◌, drop, length}
 use Rattle.std.specs.Str.{IsCharBoundary}
 use Rattle.squawk_cut.specs.Children.{lexemes}
 use Rattle.squawk_cut.specs.PlainTells.{kinds_of}
