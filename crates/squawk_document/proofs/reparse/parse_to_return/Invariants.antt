@@ -6,7 +6,8 @@ use Rattle.squawk_document.proofs.reparse.parse_to_return.Given as goal
 
 abbrev pub invariant-loop-i : goal.invariant-loop-i
 invariant-loop-i g l = record {
-  parsing : IsParsedSoFar (g.F.Front.tells l.fn.front) l.text l.tokens l.old l.fn.from.end l.new_end l.end l.meeting l.children.items l.at l.i l.only_closed;
+  parsing : IsParsedSoFar (g.F.Front.tells l.fn.front) l.text l.tokens l.old l.fn.from.end l.new_end
+      l.end l.meeting l.children.items l.at l.i l.only_closed;
   tells : g.F.Front.tells l.front ≡ g.F.Front.tells l.fn.front;
   steps : g.F.Front.count l.front ≤ g.F.Front.count l.fn.front + length l.children.items;
   within : l.position.index ≤ length l.old;

@@ -9,5 +9,7 @@ returns-clause-counts g c =
     let seen = same_tells g.F.Front.tells _ _ c.self.view_is in
     let text = c.as_str-2.ensures.value ∙ same_text _ _ c.self.view_is in
     c.in_ok-update.ensures.edited
-    ∙ ap (λ (t : Tells). edited_of t c.as_str-2.result.now c.args.start c.args.end c.args.new.now) seen
-    ∙ ap (λ (w : List ℕ). edited_of (g.F.Front.tells c.args.self.now.front) w c.args.start c.args.end c.args.new.now) text
+    ∙ ap (λ (t : Tells). edited_of t c.as_str-2.result.now c.args.start c.args.end c.args.new.now)
+    seen
+    ∙ ap (λ (w : List ℕ). edited_of (g.F.Front.tells c.args.self.now.front) w c.args.start
+    c.args.end c.args.new.now) text
