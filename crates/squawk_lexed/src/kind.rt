@@ -8,7 +8,7 @@ use squawk_lexer::{LiteralKind, TokenKind};
 use squawk_words::from_keyword;
 
 // The kind of a word: a keyword, which is compared ASCII case-insensitively, else `IDENT`.
-// Documents call it too: without the attribute it would stay a call.
+// Inlined into every loop over tokens, however many there are: a call costs more than its work.
 #[inline(always)]
 #[tactic(auto, unfolding(squawk_kinds::specs::Role::role))]
 fn word_kind(word: &str) -> SyntaxKind
@@ -44,7 +44,7 @@ fn literal_kind(kind: LiteralKind) -> SyntaxKind
 ///
 /// An unquoted word is a keyword, compared ASCII case-insensitively, or else an `IDENT`; a quoted
 /// word is always an `IDENT`. The leaf has the role of the token in the division into statements.
-// Documents call it too: without the attribute it would stay a call.
+// Inlined into every loop over tokens, however many there are: a call costs more than its work.
 #[inline(always)]
 #[tactic(auto, unfolding(squawk_kinds::specs::Role::role))]
 pub fn kind_of(kind: TokenKind, text: &str) -> SyntaxKind

@@ -18,6 +18,8 @@ use crate::token::{LiteralKind, Strings, Token, TokenKind, literal};
 pub const BOM: &str = "\u{feff}";
 
 // The kind of the one-character token `b`. The bytes that are not listed are control characters.
+// Inlined into every loop over tokens, however many there are: a call costs more than its work.
+#[inline(always)]
 #[tactic(auto, unfolding(crate::specs::Symbols::symbol))]
 fn symbol_kind(b: u8) -> TokenKind
     ensures { result ≡ symbol b }
@@ -56,6 +58,8 @@ fn symbol_kind(b: u8) -> TokenKind
 
 // The form of a token, by the first bytes of its first two characters. These suffice, since all
 // characters beyond ASCII are alike here: they begin a word, and none is the second one of a form.
+// Inlined into every loop over tokens, however many there are: a call costs more than its work.
+#[inline(always)]
 #[tactic(auto, unfolding(crate::specs::Token::token_form))]
 fn token_form(first: u8, second: u8) -> TokenForm
     ensures { result ≡ token_form first second }
@@ -78,6 +82,8 @@ fn token_form(first: u8, second: u8) -> TokenForm
 
 impl<'a> Cursor<'a> {
     // The form of the token that begins here.
+    // Inlined into every loop over tokens, however many there are: a call costs more than its work.
+    #[inline(always)]
     fn next_token_form(&self) -> TokenForm
         requires { self.now.at ≡ 0 }
         ensures { result ≡ token_form (slice_index self.now.text 0) (slice_index self.now.text 1) }
@@ -86,6 +92,8 @@ impl<'a> Cursor<'a> {
     }
 
     // Consumes a token of one character: punctuation, an operator or an unknown character.
+    // Inlined into every loop over tokens, however many there are: a call costs more than its work.
+    #[inline(always)]
     fn symbol(&mut self) -> TokenKind
         requires at { self.old.at ≡ 0 }
         requires not_empty { 0 < length self.old.text }
@@ -109,7 +117,7 @@ impl<'a> Cursor<'a> {
     }
 
     // Consumes the next token, and returns its kind.
-    // Documents call it too: without the attribute it would stay a call.
+    // Inlined into every loop over tokens, however many there are: a call costs more than its work.
     #[inline(always)]
     #[tactic(auto, using(crate::proofs::FormSteps::form_steps))]
     fn advance_token(&mut self, strings: Strings) -> TokenKind
@@ -167,7 +175,7 @@ impl<'a> Cursor<'a> {
 
 // Cuts the first token off `text`, and returns it with the rest. `at_start` says that the input
 // begins here, so that a byte order mark is white space.
-// Documents call it too: without the attribute it would stay a call.
+// Inlined into every loop over tokens, however many there are: a call costs more than its work.
 #[inline(always)]
 pub(crate) fn cut(text: &str, at_start: bool, strings: Strings) -> (Token, &str)
     requires not_empty { 0 < length text.now }

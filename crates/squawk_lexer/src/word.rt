@@ -45,6 +45,8 @@ macro_rules! prefixed_literal {
 
 impl<'a> Cursor<'a> {
     // The prefix of the token that begins here.
+    // Inlined into every loop over tokens, however many there are: a call costs more than its work.
+    #[inline(always)]
     fn string_prefix(&self) -> StringPrefix
         requires { self.now.at ≡ 0 }
         ensures { result ≡ prefix_of (slice_index self.now.text 0) (slice_index self.now.text 1)
@@ -82,6 +84,8 @@ impl<'a> Cursor<'a> {
     }
 
     // Consumes a token that begins as an identifier does.
+    // Inlined into every loop over tokens, however many there are: a call costs more than its work.
+    #[inline(always)]
     #[tactic(auto, using(crate::proofs::WordSteps::word_steps))]
     pub(crate) fn ident_or_string(&mut self) -> TokenKind
         requires at { self.old.at ≡ 0 }
