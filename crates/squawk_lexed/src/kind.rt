@@ -44,7 +44,6 @@ fn literal_kind(kind: LiteralKind) -> SyntaxKind
 ///
 /// An unquoted word is a keyword, compared ASCII case-insensitively, or else an `IDENT`; a quoted
 /// word is always an `IDENT`. The leaf has the role of the token in the division into statements.
-// Inlined into every loop over tokens, however many there are: a call costs more than its work.
 #[inline(always)]
 #[tactic(auto, unfolding(squawk_kinds::specs::Role::role))]
 pub fn kind_of(kind: TokenKind, text: &str) -> SyntaxKind

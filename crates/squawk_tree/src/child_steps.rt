@@ -17,6 +17,10 @@ use squawk_lexed::LexedStr;
 use squawk_statements::{ChildShape, Division, first_child_in};
 use std::alloc::Global;
 
+// The number of tokens for each `Enter` or `Exit` in most SQL is higher: room is reserved for one
+// such step for so many tokens.
+const TOKENS_PER_NODE_STEP: usize = 4;
+
 // Emits an `Exit` for each of `groups` open groups.
 fn emit_exits(groups: usize, sink: &mut TreeSink) -> Result<(), FrontError>
     ensures steps { OnOk result (sink.new.steps ≡ sink.old.steps ++ exit_steps groups) }
@@ -111,8 +115,8 @@ fn emit_tokens(
     Ok(())
 }
 
-// The number of tokens of a child of these kinds before the token that ends it and the trivia there.
-// A child that is not closed has neither.
+// The number of tokens of a child of these kinds before the token that ends it and the trivia
+// there. A child that is not closed has neither.
 fn body_len(kinds: &[SyntaxKind], closed: bool) -> usize
     requires { 0 < length kinds.now }
     ensures len { result ≡ trimmed_len (map role
@@ -210,7 +214,8 @@ pub(crate) fn statement_steps(
     ensures refusals { IfErr result IsOutOfMemory }
 {
     let count = lexed.len();
-    let mut sink = TreeSink::with_room(alloc, count.saturating_add(count / 4));
+    let room = count.saturating_add(count / TOKENS_PER_NODE_STEP);
+    let mut sink = TreeSink::with_room(alloc, room);
     sink.step(StrStep::Enter {
         kind: SyntaxKind::SOURCE_FILE,
     })?;

@@ -63,7 +63,7 @@ fn errors_in(
     }
 }
 
-// The steps, the errors and the length of the parse of these tokens whose steps a sink has received.
+// The steps, the errors and the length of the parse of these tokens. A sink has received its steps.
 fn tree_parts(alloc: Global, lexed: &LexedStr<'_>, sink: TreeSink) -> Result<TreeParts, FrontError>
     requires { IsWoven lexed.now.tokens sink.steps }
     ensures parse { (told : List ℕ → List Step)
