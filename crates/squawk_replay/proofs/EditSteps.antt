@@ -12,12 +12,12 @@ use Rattle.squawk_replay.specs.Replay.{text_after, edited_text, lines_from, edit
 use Rattle.squawk_script.specs.Laws.{new_bytes}
 use Rattle.squawk_script.specs.Script.{ScriptEdit}
 
--- What some edits did to a text, and what the others, that are left, have to do. `number` edits were
--- applied, and made these lines.
+-- Some edits are applied to a text, and others are left. `number` edits were applied, and these are
+-- their lines.
 pub record Applied (t : Tells) (first : List ℕ) (all : List ScriptEdit) (text lines : List ℕ)
     (number : ℕ) (left : List ScriptEdit) : Type 0 where
-  pub texts : text_after text left ≡ text_after first all
-  pub made : lines ++ lines_from t (number + 1) text left ≡ lines_from t 1 first all
+  pub same_text : text_after text left ≡ text_after first all
+  pub same_lines : lines ++ lines_from t (number + 1) text left ≡ lines_from t 1 first all
   pub ranges : AreRanges text left → AreRanges first all
   pub left_ranges : AreRanges first all → AreRanges text left
   pub short : length text + new_bytes left + length left + number ≤ limit
@@ -27,8 +27,8 @@ pub none_applied : (t : Tells) (first : List ℕ) (all : List ScriptEdit) (lines
     (left : List ScriptEdit) → lines ≡ [] → left ≡ all
     → length first + new_bytes all + length all ≤ limit → Applied t first all first lines 0 left
 none_applied t first all lines left none same short = record {
-  texts = ap (text_after first) same;
-  made = ap (λ xs. lines ++ lines_from t 1 first xs) same
+  same_text = ap (text_after first) same;
+  same_lines = ap (λ xs. lines ++ lines_from t 1 first xs) same
       ∙ ap (λ xs. xs ++ lines_from t 1 first all) none;
   ranges = λ ranges. rw same at ranges;
   left_ranges = λ ranges. rw same ranges;
@@ -48,8 +48,8 @@ pub all_applied : (t : Tells) (first : List ℕ) (all : List ScriptEdit) (text l
 all_applied t first all text lines number left h none =
     let e : Applied t first all text lines number [] = rw none at h in
     record {
-      text_is = e.texts;
-      lines_are = sym (append-nil lines) ∙ e.made;
+      text_is = e.same_text;
+      lines_are = sym (append-nil lines) ∙ e.same_lines;
       ranges = e.ranges tt;
     }
 
@@ -126,10 +126,10 @@ one_more t u first all text lines number edit left all_left new_text new_lines e
     made ∙ ap (λ e. lines ++ edit_line (number + 1) e) (counts
     ∙ ap (λ v. edited_of v text edit.start edit.end edit.new) tells) in
     rw (is, line) (record {
-      texts = before.texts;
-      made = append_assoc lines (edit_line (number + 1)
+      same_text = before.same_text;
+      same_lines = append_assoc lines (edit_line (number + 1)
           (edited_of t text edit.start edit.end edit.new))
-          (lines_from t (number + 1 + 1) (edited_text text edit) left) ∙ before.made;
+          (lines_from t (number + 1 + 1) (edited_text text edit) left) ∙ before.same_lines;
       ranges = λ ranges. before.ranges (range, ranges);
       left_ranges = λ ranges. (before.left_ranges ranges).1;
       short = omega (arith, len, short);

@@ -30,11 +30,11 @@ pub struct Replayed {
 /// ordinary character, and each semicolon ends a statement.
 pub fn replay(alloc: Global, script: &Script<'_>) -> Result<Replayed, FrontError>
     requires short { length script.now ≤ limit }
-    ensures text { IfOk result (λ done. done.document.text ≡ last_text (records script.now)) }
-    ensures lines { IfOk result (λ done. done.lines.items
+    ensures text { IfOk result (λ replayed. replayed.document.text ≡ last_text (records script.now)) }
+    ensures lines { IfOk result (λ replayed. replayed.lines.items
         ≡ edit_lines (plain_tells Standard Flat) (records script.now)) }
-    ensures tells { IfOk result (λ done. plain_tells done.document.front.strings
-        done.document.front.division ≡ plain_tells Standard Flat) }
+    ensures tells { IfOk result (λ replayed. plain_tells replayed.document.front.strings
+        replayed.document.front.division ≡ plain_tells Standard Flat) }
     ensures ranges { OnOk result (AreRanges [] (records script.now)) }
     ensures refusals { IfErr result (MayRefuseReplay (records script.now)) }
 {
@@ -58,11 +58,11 @@ pub fn replay_in(
     division: Division,
 ) -> Result<Replayed, FrontError>
     requires short { length script.now ≤ limit }
-    ensures text { IfOk result (λ done. done.document.text ≡ last_text (records script.now)) }
-    ensures lines { IfOk result (λ done. done.lines.items
+    ensures text { IfOk result (λ replayed. replayed.document.text ≡ last_text (records script.now)) }
+    ensures lines { IfOk result (λ replayed. replayed.lines.items
         ≡ edit_lines (plain_tells strings division) (records script.now)) }
-    ensures tells { IfOk result (λ done. plain_tells done.document.front.strings
-        done.document.front.division ≡ plain_tells strings division) }
+    ensures tells { IfOk result (λ replayed. plain_tells replayed.document.front.strings
+        replayed.document.front.division ≡ plain_tells strings division) }
     ensures ranges { OnOk result (AreRanges [] (records script.now)) }
     ensures refusals { IfErr result (MayRefuseReplay (records script.now)) }
 {

@@ -2,7 +2,7 @@
 use Rattle.std.proofs.Common.{◌≡◌, ℕ, zero, suc, ◌+◌, ◌-◌, ◌<◌, List, [], ◌∷◌, ◌++◌, take, drop, length, map, Option, Some, None, refl, sym, ap, ◌∙◌, arith, append_assoc, length-append}
 use Rattle.std.proofs.Math.Seq.{drop-append_seam, take-append-add}
 use Rattle.squawk_script.specs.Laws.{IsRecord, AreRecords, RecordsBeginBytes, RecordsStandAlone}
-use Rattle.squawk_script.specs.Script.{first_record, then_records, records_after, total_len, ScriptEdit, Record}
+use Rattle.squawk_script.specs.Script.{first_record, then_records, records_from, total_len, ScriptEdit, Record}
 use Rattle.squawk_script.proofs.RecordForm.{has_record}
 use Rattle.squawk_script.proofs.RecordLaws.{record_short}
 use Rattle.squawk_script.proofs.FormRecord.{record_read}
@@ -17,22 +17,22 @@ take_both bytes own n t is len =
 
 -- the records after some bytes are records
 are_records : (n : ℕ) (bytes : List ℕ)
-    → AreRecords (take (total_len (records_after n bytes)) (drop n bytes)) (map (λ r. r.edit)
-    (records_after n bytes))
+    → AreRecords (take (total_len (records_from n bytes)) (drop n bytes)) (map (λ r. r.edit)
+    (records_from n bytes))
 are_records zero [] = refl
 are_records (suc n) [] = refl
 are_records (suc n) (b ∷ bs) = are_records n bs
 are_records zero (b ∷ bs) = by (λ m. are_records m bs) (first_record (b ∷ bs)) refl
   where
-    by : ((m : ℕ) → AreRecords (take (total_len (records_after m bs)) (drop m bs))
-        (map (λ r. r.edit) (records_after m bs)))
+    by : ((m : ℕ) → AreRecords (take (total_len (records_from m bs)) (drop m bs))
+        (map (λ r. r.edit) (records_from m bs)))
         → (o : Option Record) → first_record (b ∷ bs) ≡ o
-        → AreRecords (take (total_len (then_records o (λ len. records_after (len - 1) bs)))
-        (b ∷ bs)) (map (λ r. r.edit) (then_records o (λ len. records_after (len - 1) bs)))
+        → AreRecords (take (total_len (then_records o (λ len. records_from (len - 1) bs)))
+        (b ∷ bs)) (map (λ r. r.edit) (then_records o (λ len. records_from (len - 1) bs)))
     by rest None e = refl
     by rest (Some r) e =
         let h = has_record (b ∷ bs) r (sym e) in
-        let t = total_len (records_after (r.len - 1) bs) in
+        let t = total_len (records_from (r.len - 1) bs) in
         let some : 0 < r.len = omega (arith, (record_short (b ∷ bs) r (sym e)).new) in
         record {
           first = h.own;
@@ -60,13 +60,13 @@ records_stand_alone own others (edit ∷ edits) h =
     let first : Record = record { edit = edit; len = length h.first } in
     let len : length (h.first ++ tail) ≡ length h.first + length tail =
     length-append h.first tail in
-    let all : records_after 0 (h.first ++ tail)
-    ≡ first ∷ records_after 0 (drop (length h.first) (h.first ++ tail)) =
+    let all : records_from 0 (h.first ++ tail)
+    ≡ first ∷ records_from 0 (drop (length h.first) (h.first ++ tail)) =
     records_first (h.first ++ tail) first (some_bytes h.first edit h.is_record)
     (omega (arith, len)) (record_read h.first tail edit h.is_record) in
-    let all_rest : records_after 0 (own ++ others) ≡ first ∷ records_after 0 tail =
-    ap (records_after 0) whole ∙ all
-    ∙ ap (λ xs. first ∷ records_after 0 xs) (drop-append_seam h.first tail) in
+    let all_rest : records_from 0 (own ++ others) ≡ first ∷ records_from 0 tail =
+    ap (records_from 0) whole ∙ all
+    ∙ ap (λ xs. first ∷ records_from 0 xs) (drop-append_seam h.first tail) in
     let own_len : length own ≡ length h.first + length h.others =
     ap length h.is ∙ length-append h.first h.others in
     let edits_are = ap (map (λ r. r.edit)) all_rest ∙ ap (λ xs. edit ∷ xs) rest.0 in

@@ -27,7 +27,7 @@ digits_run (d ∷ ds) rest byte other all = by (digits_run ds rest byte other)
     by others false e all = absurd (cc)
 
 -- the first byte of the second part
-byte_at_seam : (xs ys : List ℕ) (byte : ℕ) → slice_index (xs ++ byte ∷ ys) (length xs) ≡ byte
+pub byte_at_seam : (xs ys : List ℕ) (byte : ℕ) → slice_index (xs ++ byte ∷ ys) (length xs) ≡ byte
 byte_at_seam [] ys byte = refl
 byte_at_seam (x ∷ xs) ys byte = byte_at_seam xs ys byte
 
@@ -66,7 +66,7 @@ rest_at byte bytes at digits rest value h =
     ∙ ap (drop (length digits)) h.is ∙ drop-append_seam digits (byte ∷ rest))
 
 -- the bytes of a record, and of what follows it
-form_bytes : (own rest : List ℕ) (edit : ScriptEdit) (h : IsRecord own edit)
+pub form_bytes : (own rest : List ℕ) (edit : ScriptEdit) (h : IsRecord own edit)
     → own ++ rest ≡ 64 ∷ (h.start ++ 32 ∷ (h.end ++ 32 ∷ (h.len ++ 10 ∷ (edit.new ++ 10 ∷ rest))))
 form_bytes own rest edit h = ap (λ xs. xs ++ rest) h.is ∙ simp append_assoc
 

@@ -5,3 +5,4 @@ pub mod RecordLaws
 pub mod RecordForm
 pub mod FormRecord
 pub mod FormLaws
+pub mod Utf8Laws

@@ -2,7 +2,7 @@
 use Rattle.std.proofs.Common.{◌≡◌, ℕ, zero, suc, ◌+◌, ◌-◌, ◌<◌, ◌≤◌, Bool, true, false, List, [], ◌∷◌, take, drop, length, map, slice_index, Option, Some, None, refl, sym, eqb, eqb-true, cond, arith, length-take, inl, inr}
 use Rattle.std.proofs.lemmas.Bool.{cases_lt}
 use Rattle.squawk_script.specs.Laws.{new_bytes, NewTextsAreShort}
-use Rattle.squawk_script.specs.Script.{header, record_after, first_record, and_then, then_records, records_after, ScriptEdit, Record}
+use Rattle.squawk_script.specs.Script.{header, record_with_line, first_record, and_then, then_records, records_from, ScriptEdit, Record}
 use Rattle.squawk_script.specs.declared.record.Header.{Header}
 use Rattle.squawk_script.proofs.NumberSteps.{none_past_end}
 
@@ -22,7 +22,7 @@ pub record HasLine (bytes : List ℕ) (r : Record) : Type 0 where
 
 -- a record begins with its line
 pub has_line : (bytes : List ℕ) (r : Record) → Some r ≡ first_record bytes → HasLine bytes r
-unfolding first_record record_after
+unfolding first_record record_with_line
 has_line bytes r is = by (header bytes) refl is
   where
     with_line : (line : Header) → header bytes ≡ Some line → (b : Bool)
@@ -53,7 +53,7 @@ has_line bytes r is = by (header bytes) refl is
     }
     with_line line begins false e same = absurd (cc)
 
-    by : (o : Option Header) → header bytes ≡ o → Some r ≡ and_then o (record_after bytes)
+    by : (o : Option Header) → header bytes ≡ o → Some r ≡ and_then o (record_with_line bytes)
         → HasLine bytes r
     by None e same = absurd (cc)
     by (Some line) e same = with_line line e (eqb (slice_index bytes (line.after + line.new_len))
@@ -84,15 +84,15 @@ texts_len edits = new_bytes edits + length edits
 
 -- those of the records after some bytes are within the others
 new_texts : (n : ℕ) (bytes : List ℕ) → n ≤ length bytes
-    → n + texts_len (map (λ r. r.edit) (records_after n bytes)) ≤ length bytes
+    → n + texts_len (map (λ r. r.edit) (records_from n bytes)) ≤ length bytes
 new_texts n [] within = omega arith
 new_texts (suc n) (b ∷ bs) within = omega (arith, new_texts n bs (omega arith))
 new_texts zero (b ∷ bs) within = by (λ m. new_texts m bs) (first_record (b ∷ bs)) refl
   where
     by : ((m : ℕ) → m ≤ length bs
-        → m + texts_len (map (λ r. r.edit) (records_after m bs)) ≤ length bs)
+        → m + texts_len (map (λ r. r.edit) (records_from m bs)) ≤ length bs)
         → (o : Option Record) → first_record (b ∷ bs) ≡ o
-        → 0 + texts_len (map (λ r. r.edit) (then_records o (λ len. records_after (len - 1) bs)))
+        → 0 + texts_len (map (λ r. r.edit) (then_records o (λ len. records_from (len - 1) bs)))
         ≤ length (b ∷ bs)
     by rest None e = omega arith
     by rest (Some r) e =

@@ -4,7 +4,7 @@ use Rattle.std.proofs.lemmas.Bool.Decides.{nat_tests}
 use Rattle.std.proofs.lemmas.List.{get_or-drop}
 use Rattle.squawk_script.proofs.NumberSteps.{none_past_end}
 use Rattle.std.specs.List.{slice_range}
-use Rattle.squawk_script.specs.Script.{number_at, header, record_after, first_record}
+use Rattle.squawk_script.specs.Script.{number_at, header, record_with_line, first_record}
 use Rattle.squawk_script.specs.declared.number.Number.{Number}
 use Rattle.squawk_script.specs.declared.record.Header.{Header}
 
@@ -73,7 +73,7 @@ no_line bytes line = rw (← line) refl
 
 pub no_line_feed : (bytes : List ℕ) (line : Header) → Some line ≡ header bytes
     → slice_index bytes (line.after + line.new_len) ≢ 10 → None ≡ first_record bytes
-unfolding first_record record_after
+unfolding first_record record_with_line
 no_line_feed bytes line is other =
     let e : eqb (slice_index bytes (line.after + line.new_len)) 10 ≡ false =
     grind (arith, nat_tests) in
@@ -87,5 +87,5 @@ pub whole_record : (bytes new : List ℕ) (line : Header) → Some line ≡ head
       edit = record { start = line.start; end = line.end; new = new };
       len = line.after + line.new_len + 1;
     }) ≡ first_record bytes
-unfolding first_record record_after
+unfolding first_record record_with_line
 whole_record bytes new line is follows same = rw (← is, follows, same) refl

@@ -1,9 +1,9 @@
 -- The records of a script, one after another.
 use Rattle.std.proofs.Common.{◌≡◌, ℕ, zero, suc, ◌+◌, ◌-◌, ◌<◌, ◌≤◌, List, [], ◌∷◌, drop, length, map, Some, None, refl, ap, ◌∙◌, arith}
-use Rattle.squawk_script.specs.Script.{first_record, records_after, total_len, records, records_len, Record}
+use Rattle.squawk_script.specs.Script.{first_record, records_from, total_len, records, records_len, Record}
 
 -- no record begins in another
-records_skip : (n : ℕ) (bytes : List ℕ) → records_after n bytes ≡ records_after 0 (drop n bytes)
+records_skip : (n : ℕ) (bytes : List ℕ) → records_from n bytes ≡ records_from 0 (drop n bytes)
 records_skip zero bytes = refl
 records_skip (suc n) [] = refl
 records_skip (suc n) (b ∷ bs) = records_skip n bs
@@ -14,18 +14,18 @@ drop_after zero b bs h = absurd (omega arith)
 drop_after (suc n) b bs h = ap (λ m. drop m bs) (let e : suc n - 1 ≡ n = omega arith in e)
 
 -- the records of bytes that begin with none
-pub records_none : (bytes : List ℕ) → None ≡ first_record bytes → records_after 0 bytes ≡ []
+pub records_none : (bytes : List ℕ) → None ≡ first_record bytes → records_from 0 bytes ≡ []
 records_none [] none = refl
 records_none (b ∷ bs) none = rw (← none) refl
 
 -- those of bytes that begin with one
 pub records_first : (bytes : List ℕ) (first : Record) → 0 < first.len
     → first.len ≤ length bytes → Some first ≡ first_record bytes
-    → records_after 0 bytes ≡ first ∷ records_after 0 (drop first.len bytes)
+    → records_from 0 bytes ≡ first ∷ records_from 0 (drop first.len bytes)
 records_first [] first some within is = absurd (omega arith)
 records_first (b ∷ bs) first some within is = rw (← is)
     (ap (λ rs. first ∷ rs) (records_skip (first.len - 1) bs
-    ∙ ap (records_after 0) (drop_after first.len b bs some)))
+    ∙ ap (records_from 0) (drop_after first.len b bs some)))
 
 -- the edits that are left, and the number of bytes of the records
 pub edits_none : (bytes : List ℕ) → None ≡ first_record bytes → records bytes ≡ []

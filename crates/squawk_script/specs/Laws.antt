@@ -1,6 +1,7 @@
 -- Laws of scripts.
 use Rattle.std.specs.Prelude.{◌≡◌, ℕ, ◌+◌, ◌<◌, ◌≤◌, true, List, [], ◌∷◌, ◌++◌, length, take}
-use Rattle.std.specs.Str.{all_ascii_digits}
+use Rattle.std.specs.List.{All}
+use Rattle.std.specs.Str.{all_ascii_digits, IsUtf8}
 use Rattle.std.specs.Str.Parse.{digits_value}
 use Rattle.squawk_script.specs.Script.{ScriptEdit, records, records_len, at_sign, space, line_feed, max_digits, max_number}
 
@@ -46,6 +47,11 @@ abbrev pub RecordsStandAlone : Type 0
 RecordsStandAlone = (own others : List ℕ) (edits : List ScriptEdit) → AreRecords own edits
     → (records (own ++ others) ≡ edits ++ records others)
     × (records_len (own ++ others) ≡ length own + records_len others)
+
+-- The new texts of records in a UTF-8 text are UTF-8 themselves: LF follows each, so it ends at a
+-- character boundary.
+abbrev pub NewTextsAreUtf8 : Type 0
+NewTextsAreUtf8 = (bytes : List ℕ) → IsUtf8 bytes → All (λ edit. IsUtf8 edit.new) (records bytes)
 
 -- the number of the bytes of the new texts
 abbrev pub new_bytes : List ScriptEdit → ℕ

@@ -1,16 +1,11 @@
 -- What contracts see of scripts and their edits.
-use Rattle.std.specs.Prelude.{◌≡◌, ℕ, List, ⊤, Option, Some, None, true}
+use Rattle.std.specs.Prelude.{◌≡◌, ℕ, List, true}
 use Rattle.std.specs.Str.{is_utf8}
 use Rattle.squawk_script.specs.Script.{ScriptEdit, Record, records, IsScript}
 use Rattle.squawk_script.specs.declared.record.Edit.{Edit}
 use Rattle.squawk_script.specs.declared.record.FirstRecord.{FirstRecord}
 use Rattle.squawk_script.specs.declared.script.Script.TheInside as script
 use Rattle.squawk_script.specs.declared.script.Edits.TheInside as edits
-
--- a fact of the value, if there is one
-abbrev pub IfSome : {A : Type 0} → Option A → (A → Type 0) → Type 0
-IfSome None P = ⊤
-IfSome (Some x) P = P x
 
 -- an edit, with its new text
 abbrev pub edit_value : Edit → ScriptEdit

@@ -73,8 +73,8 @@ pub record Record : Type 0 where
   pub len : ℕ
 
 -- the record with this first line: LF follows the new bytes, as many as the line's third number
-unfoldable pub record_after : List ℕ → Header → Option Record
-record_after bytes line =
+unfoldable pub record_with_line : List ℕ → Header → Option Record
+record_with_line bytes line =
     if slice_index bytes (line.after + line.new_len) == line_feed
     then Some (record {
       edit = record {
@@ -88,7 +88,7 @@ record_after bytes line =
 
 -- the record that begins the bytes, if there is one
 unfoldable pub first_record : List ℕ → Option Record
-first_record bytes = and_then (header bytes) (record_after bytes)
+first_record bytes = and_then (header bytes) (record_with_line bytes)
 
 -- a record, if there is one, and the records that follow its bytes
 abbrev pub then_records : Option Record → (ℕ → List Record) → List Record
@@ -96,11 +96,11 @@ then_records None following = []
 then_records (Some first) following = first ∷ following first.len
 
 -- the longest list of whole records that begins the bytes after some that are skipped
-abbrev pub records_after : (skipped : ℕ) → List ℕ → List Record
-records_after skipped [] = []
-records_after (suc skipped) (b ∷ bs) = records_after skipped bs
-records_after zero (b ∷ bs) =
-    then_records (first_record (b ∷ bs)) (λ len. records_after (len - 1) bs)
+abbrev pub records_from : (skipped : ℕ) → List ℕ → List Record
+records_from skipped [] = []
+records_from (suc skipped) (b ∷ bs) = records_from skipped bs
+records_from zero (b ∷ bs) =
+    then_records (first_record (b ∷ bs)) (λ len. records_from (len - 1) bs)
 
 -- the number of the bytes of records
 abbrev pub total_len : List Record → ℕ
@@ -109,11 +109,11 @@ total_len (r ∷ rs) = r.len + total_len rs
 
 -- the edits of the longest list of whole records that begins the bytes
 abbrev pub records : List ℕ → List ScriptEdit
-records bytes = map (λ r. r.edit) (records_after 0 bytes)
+records bytes = map (λ r. r.edit) (records_from 0 bytes)
 
 -- the number of the bytes of those records
 abbrev pub records_len : List ℕ → ℕ
-records_len bytes = total_len (records_after 0 bytes)
+records_len bytes = total_len (records_from 0 bytes)
 
 -- the bytes are records to their end
 abbrev pub IsScript : List ℕ → Type 0

@@ -1,8 +1,8 @@
 //! The records of a script.
-ghost use Rattle.std.specs.Prelude.{◌≡◌, ◌<◌, ◌≤◌, length, option_map};
+ghost use Rattle.std.specs.Prelude.{◌≡◌, ◌<◌, ◌≤◌, IfSome, length, option_map};
 ghost use Rattle.std.specs.Str.{IsCharBoundary};
 ghost use Rattle.squawk_script.specs.Script.{header, first_record};
-ghost use Rattle.squawk_script.specs.Models.{IfSome, record_value};
+ghost use Rattle.squawk_script.specs.Models.{record_value};
 
 use crate::form::{AT_SIGN, LINE_FEED, SPACE};
 use crate::number::read_number;
