@@ -253,7 +253,8 @@ get_ready t text start end new old new_tokens front children part utf8 new_utf8 
       begins = begins;
       closed = f.closed;
       low = subst (λ n. n ≤ front.offset) f.offset f.low;
-      stopped = subst (λ n. StopsBefore (drop part.len children) (front.offset - n)) f.offset f.stopped;
+      stopped =
+          subst (λ n. StopsBefore (drop part.len children) (front.offset - n)) f.offset f.stopped;
       within = f.within;
     }
 

@@ -1,4 +1,5 @@
--- The children that an edit makes are those of the new text, and its counts are those that compare both texts.
+-- The children after an edit are those of the new text, and its counts are those that compare both
+-- texts.
 use Rattle.std.proofs.Common.{◌≡◌, ℕ, zero, suc, ◌+◌, ◌-◌, ◌<◌, ◌≤◌, Bool, true, false, not, nat_lt, List, [], ◌∷◌, ◌++◌, length, take, drop, refl, sym, ◌∙◌, ap, subst, arith, append_assoc, length-drop, length-append, Some}
 use Rattle.std.proofs.lemmas.List.{take-append-drop, length-take-le, take-append-le, take-take}
 use Rattle.std.specs.Str.{IsUtf8}
@@ -52,7 +53,8 @@ aligned t law text tokens children is children_are =
         ∙ ap lexeme_bytes (take-lexemes text tokens (child_tokens (take n children)) (within n))
         ∙ bytes-lexemes text (take (child_tokens (take n children)) tokens)
 
--- what is known before the parses: the tokens of both texts begin with the same ones, which lie in a part that the texts share
+-- what is known before the parses: the tokens of both texts begin with the same ones, which lie in
+-- a part that the texts share
 pub record IsChildrenPrepared (t : Tells) (same rest other : List ℕ) (old new_tokens : List Token)
     (front : ℕ) (children : List ChildValue) (front_len : ℕ) : Type 0 where
   pub utf8 : IsUtf8 (same ++ rest)

@@ -43,7 +43,8 @@ quiet-append at (x ∷ xs) ys closed =
     rw closed.0 (ap (λ es. (at + x.bytes) ∷ es) (quiet-append (at + x.bytes) xs ys closed.1
     ∙ ap (λ n. child_ends (at + x.bytes) xs ++ quiet_ends n ys) (omega arith)))
 
--- a quiet end of some children and others is one of the first, or these are closed and it is one of the others
+-- a quiet end of some children and others is one of the first, or these are closed and it is one
+-- of the others
 pub quiet_parts : (at : ℕ) (xs ys : List ChildValue) (e : ℕ)
     → is_among (quiet_ends at (xs ++ ys)) e ≡ true
     → (is_among (quiet_ends at xs) e ≡ true) ⊎
@@ -223,7 +224,8 @@ no_return start end new m old new_children fr fresh_children back p at new_child
                 let fails = member_fails
                 (is_new_return (start + length new) end (Some (new_offset start end new m)) old)
                 (quiet_ends (child_bytes fr) fresh_children) x none_returns here in
-                let passes = is_new_return_from (start + length new) end (new_offset start end new m)
+                let passes =
+                is_new_return_from (start + length new) end (new_offset start end new m)
                 old x p (omega arith) (omega arith) r.quiet in
                 absurd (let same : true ≡ false = sym passes ∙ fails in cc)
             | inr later ↦ none_after later.1 (omega arith)
@@ -362,7 +364,8 @@ past_stop at used (d ∷ ds) e limit is stopped m = by d.closed refl m
         ]
     by false c m = absurd (cc)
 
--- the number of front children: closed ones up to an offset, after which the next is open or too long
+-- the number of front children: closed ones up to an offset, after which the next is open or too
+-- long
 pub front_children_are : (front_tokens : ℕ) (old : List Token) (cs ds : List ChildValue)
     → AllClosed cs → child_bytes cs ≤ total_len (take front_tokens old)
     → StopsBefore ds (total_len (take front_tokens old) - child_bytes cs)

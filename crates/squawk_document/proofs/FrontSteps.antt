@@ -151,7 +151,8 @@ past_limit : (text : List ℕ) (start m e : ℕ) → IsUtf8 (take start text)
     → has_two_before text start e ≡ false
 past_limit text start m e utf8 limit b h =
     no_two text start e (elim (cases_lt e (length (take start text))) [
-      | inl lt ↦ fewer (take start text) m e utf8 limit.0 (shared_boundary text start e lt b) h limit.1
+      | inl lt ↦
+          fewer (take start text) m e utf8 limit.0 (shared_boundary text start e lt b) h limit.1
       | inr ge ↦ none_past (take start text) e ge
     ])
 

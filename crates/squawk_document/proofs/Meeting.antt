@@ -33,7 +33,8 @@ is_meeting_says start end new cut p e =
       new_some = some;
       boundary = elim (or_parts (eqb (new_offset start end new p) 0)
           (is_among (token_ends 0 cut) (new_offset start end new p)) d) [
-            | inl z ↦ absurd (let same = same_offset (new_offset start end new p) 0 z in omega arith)
+            | inl z ↦
+                absurd (let same = same_offset (new_offset start end new p) 0 z in omega arith)
             | inr m ↦ m
           ];
     }

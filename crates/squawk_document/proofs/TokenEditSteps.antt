@@ -1,4 +1,5 @@
--- The tokens that an edit makes are those of the new text, and its counts are those that compare both texts.
+-- The tokens after an edit are those of the new text, and its counts are those that compare both
+-- texts.
 use Rattle.std.proofs.Common.{inl, inr, ◌≡◌, ℕ, ◌+◌, ◌-◌, ◌<◌, ◌≤◌, true, false, eqb, List, [], ◌∷◌, ◌++◌, length, take, drop, refl, sym, ◌∙◌, ap, subst, arith, length-drop, length-append, length-take, append_assoc, Option, Some, None, option_map}
 use Rattle.std.proofs.lemmas.List.{append-nil, drop_all, take-append-drop, length-take-le, drop_at, drop-drop, get_or_append_left}
 use Rattle.std.specs.Str.{IsUtf8, IsCharBoundary, chars}

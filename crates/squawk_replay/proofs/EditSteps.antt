@@ -12,8 +12,8 @@ use Rattle.squawk_replay.specs.Replay.{text_after, edited_text, lines_from, edit
 use Rattle.squawk_script.specs.Laws.{new_bytes}
 use Rattle.squawk_script.specs.Script.{ScriptEdit}
 
--- Some edits are applied to a text, and others are left. `number` edits were applied, and these are
--- their lines.
+-- Some edits are applied to a text, and others are left. `number` edits were applied, with these
+-- lines.
 pub record Applied (t : Tells) (first : List ℕ) (all : List ScriptEdit) (text lines : List ℕ)
     (number : ℕ) (left : List ScriptEdit) : Type 0 where
   pub same_text : text_after text left ≡ text_after first all

@@ -1,5 +1,7 @@
 -- What the edits of a script make of a text, the empty one at first, and the line of each edit.
 use Rattle.std.specs.Prelude.{ℕ, ◌+◌, ⊤, List, [], ◌∷◌, ◌++◌, codes, decimal}
+use Rattle.squawk_cut.specs.PlainTells.{plain_tells}
+use Rattle.squawk_cut.specs.PlainValue.{PlainValue}
 use Rattle.squawk_cut.specs.Tells.{Tells}
 use Rattle.squawk_document.specs.Boundaries.{IsRange, splice}
 use Rattle.squawk_document.specs.Edited.{edited_of}
@@ -7,6 +9,10 @@ use Rattle.squawk_document.specs.declared.edited.Edited.{Edited}
 use Rattle.squawk_events.specs.declared.error.FrontError.{FrontError}
 use Rattle.squawk_events.specs.declared.error.FrontError.TheVariants.{TooLong, OutOfMemory, BadRange}
 use Rattle.squawk_script.specs.Script.{ScriptEdit, line_feed}
+
+-- what a plain front tells
+abbrev pub front_tells : PlainValue → Tells
+front_tells front = plain_tells front.strings front.division
 
 -- ---- texts
 

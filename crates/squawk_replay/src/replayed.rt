@@ -3,7 +3,7 @@ ghost use Rattle.std.specs.Prelude.{◌≡◌, ◌≤◌, [], length, IfOk, IfEr
 ghost use Rattle.squawk_cut.specs.PlainTells.{plain_tells};
 ghost use Rattle.squawk_events.specs.Limit.{limit};
 ghost use Rattle.squawk_lexer.specs.declared.token.Strings.TheVariants.{Standard};
-ghost use Rattle.squawk_replay.specs.Replay.{last_text, edit_lines, AreRanges, MayRefuseReplay};
+ghost use Rattle.squawk_replay.specs.Replay.{front_tells, last_text, edit_lines, AreRanges, MayRefuseReplay};
 ghost use Rattle.squawk_script.specs.Script.{records};
 ghost use Rattle.squawk_statements.specs.declared.division.Division.TheVariants.{Flat};
 
@@ -30,11 +30,12 @@ pub struct Replayed {
 /// ordinary character, and each semicolon ends a statement.
 pub fn replay(alloc: Global, script: &Script<'_>) -> Result<Replayed, FrontError>
     requires short { length script.now ≤ limit }
-    ensures text { IfOk result (λ replayed. replayed.document.text ≡ last_text (records script.now)) }
-    ensures lines { IfOk result (λ replayed. replayed.lines.items
-        ≡ edit_lines (plain_tells Standard Flat) (records script.now)) }
-    ensures tells { IfOk result (λ replayed. plain_tells replayed.document.front.strings
-        replayed.document.front.division ≡ plain_tells Standard Flat) }
+    ensures text { IfOk result (λ replayed.
+        replayed.document.text ≡ last_text (records script.now)) }
+    ensures lines { IfOk result (λ replayed.
+        replayed.lines.items ≡ edit_lines (plain_tells Standard Flat) (records script.now)) }
+    ensures tells { IfOk result (λ replayed.
+        front_tells replayed.document.front ≡ plain_tells Standard Flat) }
     ensures ranges { OnOk result (AreRanges [] (records script.now)) }
     ensures refusals { IfErr result (MayRefuseReplay (records script.now)) }
 {
@@ -58,11 +59,12 @@ pub fn replay_in(
     division: Division,
 ) -> Result<Replayed, FrontError>
     requires short { length script.now ≤ limit }
-    ensures text { IfOk result (λ replayed. replayed.document.text ≡ last_text (records script.now)) }
-    ensures lines { IfOk result (λ replayed. replayed.lines.items
-        ≡ edit_lines (plain_tells strings division) (records script.now)) }
-    ensures tells { IfOk result (λ replayed. plain_tells replayed.document.front.strings
-        replayed.document.front.division ≡ plain_tells strings division) }
+    ensures text { IfOk result (λ replayed.
+        replayed.document.text ≡ last_text (records script.now)) }
+    ensures lines { IfOk result (λ replayed.
+        replayed.lines.items ≡ edit_lines (plain_tells strings division) (records script.now)) }
+    ensures tells { IfOk result (λ replayed.
+        front_tells replayed.document.front ≡ plain_tells strings division) }
     ensures ranges { OnOk result (AreRanges [] (records script.now)) }
     ensures refusals { IfErr result (MayRefuseReplay (records script.now)) }
 {

@@ -4,7 +4,7 @@ use Rattle.std.proofs.lemmas.List.{length-map, map-append, take-append-le}
 use Rattle.std.specs.Prelude.{Option, Some, None, option_map}
 use Rattle.squawk_kinds.specs.Role.{Role, role, is_trivia, Trivia, Semicolon, Terminator, Command, Open, Close, Other}
 use Rattle.squawk_statements.specs.Children.{Child, ends_statement, open_groups_after, statement_end, statement, statement_to, trimmed_len, first_child, trivia_child, single_token, is_single_token}
-use Rattle.squawk_statements.specs.First.{child_node, first_shape}
+use Rattle.squawk_statements.specs.First.{child_node}
 use Rattle.squawk_statements.specs.Laws.{FirstChildrenWithin, FirstChildrenStay}
 use Rattle.squawk_statements.specs.declared.division.Division.{Division}
 use Rattle.squawk_statements.specs.declared.first.ChildShape.{ChildShape}

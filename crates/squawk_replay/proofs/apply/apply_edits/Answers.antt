@@ -8,8 +8,8 @@ use Rattle.squawk_replay.proofs.apply.apply_edits.Goals as goal
 pub loop-edit-init : goal.loop-edit-init
 loop-edit-init g c = record {
   applied = steps.none_applied (g.F.Front.tells c.args.document.now.front)
-      c.args.document.now.text c.args.edits c.new-lines.result.items
-      c.into_iter-edit-iterator.result
+      c.args.document.now.text c.args.edits
+      c.new-lines.result.items c.into_iter-edit-iterator.result
       c.new-lines.ensures.items c.into_iter-edit-iterator.ensures.into_iter_gives c.requires.short;
   tells = refl;
 }
@@ -41,8 +41,8 @@ loop-edit-preserved g c = record {
       c.args.document.now.text c.args.edits c.loop-edit.document.text c.loop-edit.lines.items
       c.loop-edit.number (edit_value c.in-Some.edit) c.next.new.self c.loop-edit.edit-iterator
       c.edit.new.self.text c.push_edit_line.new.out.items c.in_ok-edited.edited
-      c.loop-edit.invariant.applied c.in-Some.ensures.steps (λ bad. steps.ok_is_no_error _ _ _ _
-      refl refl (c.in_ok-edited.ensures.bad_range.1 bad))
+      c.loop-edit.invariant.applied c.in-Some.ensures.steps
+      (λ bad. steps.ok_is_no_error _ _ _ _ refl refl (c.in_ok-edited.ensures.bad_range.1 bad))
       c.in_ok-edited.ensures.text c.in_ok-edited.ensures.counts c.loop-edit.invariant.tells
       c.in_ok-push_edit_line.ensures;
   tells = c.in_ok-edited.ensures.tells ∙ c.loop-edit.invariant.tells;
@@ -53,8 +53,8 @@ returns-in_err-push_edit_line-clause-tells g c = c.in_ok-edited.ensures.tells
     ∙ c.loop-edit.invariant.tells
 
 -- what was done when the iterator has no edit left
-done : (g : given.Over) (c : goal.In-None g) → steps.AllApplied (g.F.Front.tells
-    c.args.document.now.front)
+done : (g : given.Over) (c : goal.In-None g)
+    → steps.AllApplied (g.F.Front.tells c.args.document.now.front)
     c.args.document.now.text c.args.edits c.loop-edit.document.text c.loop-edit.lines.items
 done g c = steps.all_applied (g.F.Front.tells c.args.document.now.front)
     c.args.document.now.text c.args.edits c.loop-edit.document.text c.loop-edit.lines.items
