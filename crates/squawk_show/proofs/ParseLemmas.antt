@@ -1,5 +1,5 @@
 -- What calls below say of a text, over the bytes of the text, and what a command prepares.
-use Rattle.std.proofs.Common.{◌≡◌, subst, List, ℕ, Result, Ok, Err, refl, sym, ap, ◌∙◌, map}
+use Rattle.std.proofs.Common.{◌≡◌, subst, List, ℕ, Result, Ok, Err, refl, ap, ◌∙◌, map}
 use Rattle.std.specs.Prelude.{IfOk}
 use Rattle.std.specs.Str.{chars}
 use Rattle.squawk_events.specs.declared.error.FrontError.{FrontError}

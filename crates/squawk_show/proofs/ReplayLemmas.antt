@@ -1,5 +1,5 @@
 -- What `replay` says of a script, in the words of the program.
-use Rattle.std.proofs.Common.{◌≡◌, subst, sym, ap, ◌∙◌, List, [], ℕ, ◌++◌}
+use Rattle.std.proofs.Common.{◌≡◌, subst, ap, ◌∙◌, List, [], ℕ, ◌++◌}
 use Rattle.squawk_cut.specs.PlainTells.{plain_tells}
 use Rattle.squawk_lexer.specs.declared.token.Strings.TheVariants.{Standard}
 use Rattle.squawk_replay.specs.Replay.{AreRanges, edit_lines, last_text}
