@@ -16,8 +16,7 @@ pub enum FrontError {
     #[error("out of memory")]
     OutOfMemory,
     /// The range of bytes that an edit replaces is not one of the text: its start is above its end,
-    /// its end is above the text's length, or one of them is no character boundary. No call returns
-    /// it yet.
+    /// its end is above the text's length, or one of them is no character boundary.
     #[error("bad range")]
     BadRange,
 }

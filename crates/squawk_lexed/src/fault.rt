@@ -111,7 +111,6 @@ fn kind_faults(kind: TokenKind, len: u32) -> [Option<Fault>; 2]
 /// Returns the faults of a token that the lexer cut, in the order of their numbers. No token has
 /// more than two, and only `None` follows a `None`. Each fault lies in the token and covers at
 /// least one byte.
-// Inlined into every loop over tokens, however many there are: a call costs more than its work.
 #[inline(always)]
 pub fn faults_of(token: Token) -> [Option<Fault>; 2]
     requires cut { IsCut token }

@@ -35,7 +35,6 @@ use tables::Table;
 /// Keywords are those of PostgreSQL (manual, appendix C), of every category. As in PostgreSQL
 /// (4.1.1), they are compared ASCII case-insensitively: `SELECT` and `Select` are the keyword
 /// `select`, but U+212A, the Kelvin sign, is not the letter `k`.
-// Inlined into every loop over tokens, however many there are: a call costs more than its work.
 #[inline(always)]
 #[tactic(auto, unfolding(crate::specs::KindOf::keyword_of, crate::specs::KindOf::contextual_keyword_of))]
 pub fn from_keyword(ident: &str) -> Option<SyntaxKind>
