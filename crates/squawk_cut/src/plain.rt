@@ -156,19 +156,27 @@ impl Model for PlainFront {
 }
 
 impl PlainFront {
-    /// `new_in` with `Strings::Standard` and `Division::Flat`: a backslash in a plain string is an
-    /// ordinary character, and each semicolon ends a statement.
+    /// `new_in` with `Strings::Standard`: a backslash in a plain string is an ordinary character.
     pub fn new() -> PlainFront
         ensures steps { result.steps ≡ 0 }
         ensures strings { result.strings ≡ Standard }
         ensures division { result.division ≡ Flat }
     {
-        PlainFront::new_in(Strings::Standard, Division::Flat)
+        PlainFront::new_in(Strings::Standard)
+    }
+
+    /// `new_divided` with `Division::Flat`: each semicolon ends a statement.
+    pub fn new_in(strings: Strings) -> PlainFront
+        ensures steps { result.steps ≡ 0 }
+        ensures strings { result.strings ≡ strings }
+        ensures division { result.division ≡ Flat }
+    {
+        PlainFront::new_divided(strings, Division::Flat)
     }
 
     /// A front that has taken no step. Allocates nothing. `strings` says how plain strings are
     /// read, and `division` whether a semicolon between parentheses ends a statement.
-    pub fn new_in(strings: Strings, division: Division) -> PlainFront
+    pub fn new_divided(strings: Strings, division: Division) -> PlainFront
         ensures steps { result.steps ≡ 0 }
         ensures strings { result.strings ≡ strings }
         ensures division { result.division ≡ division }

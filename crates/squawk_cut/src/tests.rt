@@ -259,7 +259,7 @@ const ROWS: &[Row<'static>] = &[
 #[test]
 fn children_of_texts(rt: HostRuntime) -> Result<(), Fail> {
     for row in ROWS {
-        let mut front = PlainFront::new_in(row.strings, row.division);
+        let mut front = PlainFront::new_divided(row.strings, row.division);
         let children = children_of(rt.alloc(), &mut front, row.text)
             .ok()
             .ok_or(row.name)?;
@@ -272,7 +272,7 @@ fn children_of_texts(rt: HostRuntime) -> Result<(), Fail> {
 #[test]
 fn joins_are_parses(rt: HostRuntime) -> Result<(), Fail> {
     for row in ROWS {
-        let mut front = PlainFront::new_in(row.strings, row.division);
+        let mut front = PlainFront::new_divided(row.strings, row.division);
         let parse = joined(rt.alloc(), &mut front, row.text)
             .ok()
             .ok_or(row.name)?;
@@ -325,7 +325,10 @@ fn options_of_fronts(rt: HostRuntime) {
     let front = PlainFront::new();
     assert_eq!(rt; front.strings(), Strings::Standard);
     assert_eq!(rt; front.division(), Division::Flat);
-    let front = PlainFront::new_in(Strings::Backslash, Division::Grouped);
+    let front = PlainFront::new_in(Strings::Backslash);
     assert_eq!(rt; front.strings(), Strings::Backslash);
+    assert_eq!(rt; front.division(), Division::Flat);
+    let front = PlainFront::new_divided(Strings::Standard, Division::Grouped);
+    assert_eq!(rt; front.strings(), Strings::Standard);
     assert_eq!(rt; front.division(), Division::Grouped);
 }

@@ -69,7 +69,7 @@ pub fn replay_in(
     ensures refusals { IfErr result (MayRefuseReplay (records script.now)) }
 {
     new_texts_are_short();
-    let front = PlainFront::new_in(strings, division);
+    let front = PlainFront::new_divided(strings, division);
     let mut document = Document::new(alloc, front, "")?;
     let lines = apply_edits(alloc, &mut document, script.edits())?;
     Ok(Replayed { document, lines })

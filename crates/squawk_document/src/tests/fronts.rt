@@ -18,7 +18,7 @@ struct CountingFront {
 
 fn counting_front(most_parses: usize) -> CountingFront {
     CountingFront {
-        plain: PlainFront::new_in(Strings::Standard, Division::Grouped),
+        plain: PlainFront::new_divided(Strings::Standard, Division::Grouped),
         cuts: 0,
         parses: 0,
         most_parses,

@@ -243,7 +243,7 @@ const READINGS: &[Reading<'static>] = &[
 fn readings_and_divisions(rt: HostRuntime) -> Result<(), Fail> {
     let alloc = rt.alloc();
     for row in READINGS {
-        let front = PlainFront::new_in(row.strings, row.division);
+        let front = PlainFront::new_divided(row.strings, row.division);
         let text = "select (1, '\\'; c');";
         let mut document = Document::new(alloc, front, text).ok().ok_or(row.name)?;
         let edited = document.edit(8, 9, "22").ok().ok_or(row.name)?;

@@ -69,7 +69,7 @@ fn edit_from_seed(
     seed: u64,
 ) -> Result<bool, Fail> {
     let text = "select 1; update t set a = 'b'; -- c\ncreate table u (v int); ";
-    let front = PlainFront::new_in(strings, division);
+    let front = PlainFront::new_divided(strings, division);
     let mut document = Document::new(alloc, front, text).ok().ok_or("no memory")?;
     let mut seed = seed;
     for _ in 0..EDITS {
@@ -82,7 +82,7 @@ fn edit_from_seed(
         seed = next(seed);
         let piece = PIECES[below(seed, PIECES.len()).min(PIECES.len() - 1)];
         let edited = document.edit(start, end, piece).ok().ok_or("no memory")?;
-        let front = PlainFront::new_in(strings, division);
+        let front = PlainFront::new_divided(strings, division);
         let new = Document::new(alloc, front, document.text())
             .ok()
             .ok_or("no memory")?;

@@ -1,5 +1,5 @@
 use Rattle.squawk_cut.specs.PlainLaws.{plain_lawful}
-use Rattle.squawk_cut.proofs.plain.PlainFront.new_in.Goals as goal
+use Rattle.squawk_cut.proofs.plain.PlainFront.new_divided.Goals as goal
 
 pub invariant_of-result : goal.invariant_of-result
 invariant_of-result c = (
