@@ -79,7 +79,7 @@ def middle(text, pattern):
     """The end of the first match behind the middle of the text, or else of the first of all."""
     match = re.compile(pattern).search(text, len(text) // 2) or re.search(pattern, text)
     if match is None:
-        sys.exit("documents.py: the text has no word with a blank after it")
+        sys.exit("documents.py: the text has no word to edit")
     return match.end()
 
 

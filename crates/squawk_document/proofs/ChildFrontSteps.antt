@@ -1,6 +1,6 @@
 -- The children after an edit are those of the new text, and its counts are those that compare both
 -- texts.
-use Rattle.std.proofs.Common.{◌≡◌, ℕ, zero, suc, ◌+◌, ◌-◌, ◌<◌, ◌≤◌, Bool, true, false, not, nat_lt, List, [], ◌∷◌, ◌++◌, length, take, drop, refl, sym, ◌∙◌, ap, subst, arith, append_assoc, length-drop, length-append, Some}
+use Rattle.std.proofs.Common.{◌≡◌, ℕ, zero, suc, ◌+◌, ◌-◌, ◌<◌, ◌≤◌, true, not, nat_lt, List, [], ◌∷◌, ◌++◌, length, take, drop, refl, sym, ◌∙◌, ap, subst, arith, append_assoc, length-drop, length-append, Some}
 use Rattle.std.proofs.lemmas.List.{take-append-drop, length-take-le, take-append-le, take-take}
 use Rattle.std.specs.Str.{IsUtf8}
 use Rattle.squawk_lexer.specs.declared.token.Token.{Token}

@@ -1,5 +1,5 @@
 -- Where children of the root end, and which offsets are quiet.
-use Rattle.std.specs.Prelude.{ℕ, ◌≡◌, ◌+◌, ◌==◌, ◌||◌, Bool, true, List, [], ◌∷◌, if◌then◌else◌}
+use Rattle.std.specs.Prelude.{ℕ, ◌+◌, ◌==◌, ◌||◌, Bool, List, [], ◌∷◌, if◌then◌else◌}
 use Rattle.squawk_cut.specs.ChildValue.{ChildValue}
 use Rattle.squawk_document.specs.Boundaries.{is_among}
 

@@ -1,13 +1,12 @@
 -- The child of the tokens of a first child is a leaf or a node of these tokens.
-use Rattle.std.proofs.Common.{◌≡◌, ℕ, zero, suc, ◌+◌, ◌==◌, ◌≤◌, nat_le, Bool, true, false, ◌&&◌, cond, List, [], ◌∷◌, ◌++◌, length, take, map, ap, refl, sym, subst, ◌∙◌, arith}
+use Rattle.std.proofs.Common.{◌≡◌, ℕ, suc, ◌+◌, ◌==◌, ◌≤◌, nat_le, Bool, true, false, ◌&&◌, cond, List, [], ◌∷◌, ◌++◌, length, take, map, ap, refl, sym, subst, ◌∙◌, arith}
 use Rattle.std.proofs.lemmas.Bool.{and_parts, leb-true}
 use Rattle.std.proofs.lemmas.List.Elements.{All-nil, All-cons, All-append}
-use Rattle.std.specs.Prelude.{All, Option, Some, None, unwrap_or}
+use Rattle.std.specs.Prelude.{All, Some, None, unwrap_or}
 use Rattle.squawk_events.specs.Kinds.{is_trivia_kind, without_trivia}
 use Rattle.squawk_events.specs.declared.steps.Step.TheVariants.{Exit}
 use Rattle.squawk_events.specs.declared.steps.StrStep.{StrStep}
 use Rattle.squawk_events.specs.declared.steps.StrStep.TheVariants as out
-use Rattle.squawk_events.specs.declared.steps.ParseError.{ParseError}
 use Rattle.squawk_kinds.specs.Role.{Role, role, is_trivia, Trivia, Semicolon, Terminator, Command, Open, Close, Other}
 use Rattle.squawk_kinds.specs.declared.numbers.TheConstants.Number.{ERROR}
 use Rattle.squawk_lexed.specs.LexedText.{total_len, are_sound}
@@ -19,7 +18,7 @@ use Rattle.squawk_statements.specs.Kinds.{role_trivia}
 use Rattle.squawk_statements.specs.Plain.{node_of, unknown_statement_error, body_steps, child_steps}
 use Rattle.squawk_statements.specs.PlainIsLawful.{child_balanced, child_tokens, child_numbers}
 use Rattle.squawk_statements.specs.declared.division.Division.{Division}
-use Rattle.squawk_tree.specs.Children.{is_leaf_or_node, node_of_steps, IsChildTree, IsChildOf, own_tokens}
+use Rattle.squawk_tree.specs.Children.{is_leaf_or_node, IsChildOf, own_tokens}
 use Rattle.squawk_tree.specs.Errors.{error, numbers_at, errors_by_token, errors}
 use Rattle.squawk_tree.specs.Join.{ChildTree, child_of}
 use Rattle.squawk_tree.specs.ParseOf.{lexed_role, token_steps}
