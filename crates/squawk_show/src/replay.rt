@@ -3,10 +3,11 @@ ghost use Rattle.std.specs.Prelude.{◌≡◌, ◌≢◌, ◌≤◌, length, IfO
 ghost use Rattle.squawk_cut.specs.PlainTells.{plain_tells};
 ghost use Rattle.squawk_events.specs.Limit.{limit};
 ghost use Rattle.squawk_events.specs.Refusals.{IsOutOfMemory};
-ghost use Rattle.squawk_lexer.specs.declared.token.Strings.{Strings};
+ghost use Rattle.squawk_lexer.specs.declared.token.Strings.TheVariants.{Standard};
+ghost use Rattle.squawk_replay.specs.Replay.{front_tells};
 ghost use Rattle.squawk_show.specs.Edge.{TakesAtMost};
 ghost use Rattle.squawk_show.specs.Run as spec;
-ghost use Rattle.squawk_statements.specs.declared.division.Division.{Division};
+ghost use Rattle.squawk_statements.specs.declared.division.Division.TheVariants.{Flat};
 ghost use Rattle.squawk_tree.specs.Tree.{IsTree};
 
 use crate::{Command, RunError, Source, append_report, read_all};
@@ -23,8 +24,7 @@ use std::alloc::Global;
 // Makes the tree of the text of a document.
 fn parse_document(alloc: Global, document: &Document<PlainFront>) -> Result<Parse, FrontError>
     requires short { length document.now.text ≤ limit }
-    requires plain { plain_tells document.now.front.strings document.now.front.division
-        ≡ plain_tells Strings.Standard Division.Flat }
+    requires plain { front_tells document.now.front ≡ plain_tells Standard Flat }
     ensures parsed { IfOk result (spec.IsParsed document.now.text) }
     ensures balanced { IfOk result IsTree }
     ensures refusals { IfErr result IsOutOfMemory }
