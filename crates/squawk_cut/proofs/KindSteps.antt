@@ -3,7 +3,7 @@ use Rattle.std.proofs.Common.{◌≡◌, ℕ, zero, suc, ◌+◌, ◌<◌, List,
 use Rattle.std.specs.List.{slice_range}
 use Rattle.std.specs.Prelude.{slice_index_or}
 use Rattle.std.specs.Str.{IsCharBoundary}
-use Rattle.squawk_cut.specs.Children.{lexemes}
+use Rattle.squawk_cut.specs.Children.{text_tokens}
 use Rattle.squawk_cut.specs.PlainTells.{lexed_of, kinds_of}
 use Rattle.squawk_lexed.specs.Leaf.{leaf_kind}
 use Rattle.squawk_lexed.specs.LexedText.{EndAtBoundaries}
@@ -36,21 +36,22 @@ pub kinds_more : (text : List ℕ) (from : ℕ) (tokens : List Token) (i : ℕ) 
     (kinds more all own : List ℕ) (kind : ℕ) → i < length tokens
     → own ≡ slice_range text from (from + (slice_index_or tokens i none).len)
     → kind ≡ leaf_kind (slice_index_or tokens i none).kind own → more ≡ kinds ++ kind ∷ []
-    → kinds ++ kinds_of (lexemes (drop from text) (drop i tokens)) ≡ all
-    → more ++ kinds_of (lexemes (drop (from + (slice_index_or tokens i none).len) text)
+    → kinds ++ kinds_of (text_tokens (drop from text) (drop i tokens)) ≡ all
+    → more ++ kinds_of (text_tokens (drop (from + (slice_index_or tokens i none).len) text)
     (drop (i + 1) tokens)) ≡ all
 unfolding lexed_of
 kinds_more text from tokens i none kinds more all own kind within own_is kind_is push so_far =
     let t = slice_index_or tokens i none in
-    let rest = kinds_of (lexemes (drop (from + t.len) text) (drop (i + 1) tokens)) in
-    let left : kinds_of (lexemes (drop from text) (drop i tokens)) ≡ kind ∷ rest =
-    ap (λ ts. kinds_of (lexemes (drop from text) ts)) (next_token tokens i none within)
+    let rest = kinds_of (text_tokens (drop (from + t.len) text) (drop (i + 1) tokens)) in
+    let left : kinds_of (text_tokens (drop from text) (drop i tokens)) ≡ kind ∷ rest =
+    ap (λ ts. kinds_of (text_tokens (drop from text) ts)) (next_token tokens i none within)
     ∙ ap (λ bytes. leaf_kind t.kind bytes
-    ∷ kinds_of (lexemes (drop t.len (drop from text)) (drop (i + 1) tokens)))
+    ∷ kinds_of (text_tokens (drop t.len (drop from text)) (drop (i + 1) tokens)))
     (sym (own_is ∙ slice_at text from t.len))
-    ∙ ap (λ k. k ∷ kinds_of (lexemes (drop t.len (drop from text)) (drop (i + 1) tokens)))
+    ∙ ap (λ k. k ∷ kinds_of (text_tokens (drop t.len (drop from text)) (drop (i + 1) tokens)))
     (sym kind_is)
-    ∙ ap (λ u. kind ∷ kinds_of (lexemes u (drop (i + 1) tokens))) (after_token text from t.len) in
+    ∙ ap (λ u. kind ∷ kinds_of (text_tokens u (drop (i + 1) tokens)))
+    (after_token text from t.len) in
     ap (λ ks. ks ++ rest) push ∙ append_assoc kinds (kind ∷ []) rest
     ∙ ap (λ ks. kinds ++ ks) (sym left) ∙ so_far
 

@@ -3,9 +3,9 @@ use Rattle.std.proofs.Common.{◌≡◌, ℕ, zero, suc, ◌+◌, ◌-◌, List,
 use Rattle.std.proofs.lemmas.List.{drop-drop}
 use Rattle.std.specs.List.{slice_range}
 use Rattle.std.specs.Prelude.{Result, Ok, Err, IfOk}
-use Rattle.squawk_cut.specs.Children.{lexemes}
+use Rattle.squawk_cut.specs.Children.{text_tokens}
 use Rattle.squawk_cut.specs.PlainTells.{lexed_of, kinds_of}
-use Rattle.squawk_cut.specs.Tells.{Lexeme}
+use Rattle.squawk_cut.specs.Tells.{TextToken}
 use Rattle.squawk_events.specs.declared.error.FrontError.{FrontError}
 use Rattle.squawk_kinds.specs.Role.{role}
 use Rattle.squawk_lexed.specs.Leaf.{leaf_kind}
@@ -31,7 +31,7 @@ after_token text at len = drop-drop len at text
 
 -- tokens of a text are read by a parser with their texts
 pub lexed_same : (text : List ℕ) (at : ℕ) (ts : List Token)
-    → lexed_tokens text at ts ≡ map lexed_of (lexemes (drop at text) ts)
+    → lexed_tokens text at ts ≡ map lexed_of (text_tokens (drop at text) ts)
 unfolding lexed_of
 lexed_same text at [] = refl
 lexed_same text at (t ∷ ts) =
@@ -39,31 +39,31 @@ lexed_same text at (t ∷ ts) =
     (slice_at text at t.len)
     ∙ ap (λ rest. token_of (leaf_kind t.kind (take t.len (drop at text))) t ∷ rest)
     (lexed_same text (at + t.len) ts
-    ∙ ap (λ u. map lexed_of (lexemes u ts)) (sym (after_token text at t.len)))
+    ∙ ap (λ u. map lexed_of (text_tokens u ts)) (sym (after_token text at t.len)))
   where
     token_of : ℕ → Token → LexedToken
     token_of kind t = record { kind = kind; len = t.len; faults = faults t }
 
 -- as many tokens with their texts as tokens
-pub length_lexemes : (u : List ℕ) (ts : List Token) → length (lexemes u ts) ≡ length ts
-length_lexemes u [] = refl
-length_lexemes u (t ∷ ts) = ap suc (length_lexemes (drop t.len u) ts)
+pub length_text_tokens : (u : List ℕ) (ts : List Token) → length (text_tokens u ts) ≡ length ts
+length_text_tokens u [] = refl
+length_text_tokens u (t ∷ ts) = ap suc (length_text_tokens (drop t.len u) ts)
 
 -- the first n tokens with their texts
-pub take_lexemes : (u : List ℕ) (n : ℕ) (ts : List Token)
-    → lexemes u (take n ts) ≡ take n (lexemes u ts)
-take_lexemes u zero ts = refl
-take_lexemes u (suc n) [] = refl
-take_lexemes u (suc n) (t ∷ ts) =
-    ap (λ xs. record { token = t; text = take t.len u } ∷ xs) (take_lexemes (drop t.len u) n ts)
+pub take_text_tokens : (u : List ℕ) (n : ℕ) (ts : List Token)
+    → text_tokens u (take n ts) ≡ take n (text_tokens u ts)
+take_text_tokens u zero ts = refl
+take_text_tokens u (suc n) [] = refl
+take_text_tokens u (suc n) (t ∷ ts) =
+    ap (λ xs. record { token = t; text = take t.len u } ∷ xs) (take_text_tokens (drop t.len u) n ts)
 
 -- the roles of tokens are those of their kinds
-pub roles_same : (xs : List Lexeme) → map lexed_role (map lexed_of xs) ≡ map role (kinds_of xs)
+pub roles_same : (xs : List TextToken) → map lexed_role (map lexed_of xs) ≡ map role (kinds_of xs)
 roles_same [] = refl
 roles_same (x ∷ xs) = ap (λ rs. role (lexed_of x).kind ∷ rs) (roles_same xs)
 
 -- and their kinds those of the tokens as a parser reads them
-pub kinds_same : (xs : List Lexeme) → stored.kinds_of (map lexed_of xs) ≡ kinds_of xs
+pub kinds_same : (xs : List TextToken) → stored.kinds_of (map lexed_of xs) ≡ kinds_of xs
 kinds_same [] = refl
 kinds_same (x ∷ xs) = ap (λ ks. (lexed_of x).kind ∷ ks) (kinds_same xs)
 
@@ -72,9 +72,9 @@ pub parse_own : (result : Result Tree FrontError) (d by : Division) (lexed : Lex
     (text : List ℕ) (at : ℕ) (own : List Token) → d ≡ by → lexed ≡ lexed_part text at own
     → IfOk result (λ parse. parse ≡ parse_by (plain by) lexed.tokens)
     → IfOk result (λ parse.
-    parse ≡ parse_of_tokens d (map lexed_of (lexemes (drop at text) own)))
+    parse ≡ parse_of_tokens d (map lexed_of (text_tokens (drop at text) own)))
 parse_own (Err e) d by lexed text at own is lexed_is h = h
 parse_own (Ok parse) d by lexed text at own is lexed_is h =
     h ∙ ap (λ (l : LexedText). parse_of_tokens by l.tokens) lexed_is
     ∙ ap (parse_of_tokens by) (lexed_same text at own)
-    ∙ ap (λ e. parse_of_tokens e (map lexed_of (lexemes (drop at text) own))) (sym is)
+    ∙ ap (λ e. parse_of_tokens e (map lexed_of (text_tokens (drop at text) own))) (sym is)

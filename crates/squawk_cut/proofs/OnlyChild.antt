@@ -2,10 +2,10 @@
 use Rattle.std.proofs.Common.{◌≡◌, ℕ, zero, suc, ◌+◌, ◌-◌, ◌<◌, ◌≤◌, true, List, [], ◌∷◌, ◌++◌, length, length-append, take, drop, map, refl, sym, ap, subst, ◌∙◌, arith}
 use Rattle.std.proofs.lemmas.List.{append-nil, length-map, length-take-le, take-map}
 use Rattle.squawk_cut.specs.ChildValue.{IsChild, child_value}
-use Rattle.squawk_cut.specs.Children.{lexemes}
+use Rattle.squawk_cut.specs.Children.{text_tokens}
 use Rattle.squawk_cut.specs.Join.{only_child}
 use Rattle.squawk_cut.specs.PlainTells.{lexed_of, kinds_of, plain_child}
-use Rattle.squawk_cut.specs.Tells.{Lexeme}
+use Rattle.squawk_cut.specs.Tells.{TextToken}
 use Rattle.squawk_events.specs.declared.steps.ParseError.{ParseError}
 use Rattle.squawk_events.specs.declared.steps.StrStep.{StrStep}
 use Rattle.squawk_events.specs.declared.steps.StrStep.TheVariants.{Enter, Token, Exit, Error}
@@ -22,7 +22,7 @@ use Rattle.squawk_tree.specs.Children.{ChildrenAreTrees, IsChildOf, own_tokens}
 use Rattle.squawk_tree.specs.Join.{ChildTree, child_of, join, shifted_step, shifted_error}
 use Rattle.squawk_tree.specs.ParseOf.{lexed_role, parse_of_tokens}
 use Rattle.squawk_tree.specs.Tree.{Tree}
-use Rattle.squawk_cut.proofs.LexedLemmas.{lexed_same, take_lexemes, length_lexemes, roles_same, kinds_same}
+use Rattle.squawk_cut.proofs.LexedLemmas.{lexed_same, take_text_tokens, length_text_tokens, roles_same, kinds_same}
 
 -- ---- the only child of a joined tree
 
@@ -93,7 +93,7 @@ ChildrenStandAlone = (division : Division) (token : LexedToken) (tokens : List L
     ≡ join (child_of division (own_tokens division (token ∷ tokens)) ∷ [])
 
 -- the tokens of the first child, as a parser reads them
-own_same : (d : Division) (xs : List Lexeme)
+own_same : (d : Division) (xs : List TextToken)
     → map lexed_of (take (first_shape d (kinds_of xs)).tokens xs)
     ≡ own_tokens d (map lexed_of xs)
 own_same d xs =
@@ -101,13 +101,14 @@ own_same d xs =
     ∙ sym (take-map lexed_of (first_child d (map lexed_role (map lexed_of xs))).tokens xs)
 
 -- what the parse says of the first child of tokens
-pub record IsFirst (d : Division) (xs : List Lexeme) (shape : ChildShape) (parse : Tree)
+pub record IsFirst (d : Division) (xs : List TextToken) (shape : ChildShape) (parse : Tree)
     : Type 0 where
   pub child : IsChild (child_value shape (only_child parse))
   pub value : child_value shape (only_child parse) ≡ plain_child d xs
 
 -- the parse of the tokens of a first child is that child under a root
-first_by : ChildrenStandAlone → ChildrenAreTrees → (d : Division) (x : Lexeme) (xs : List Lexeme)
+first_by : ChildrenStandAlone → ChildrenAreTrees
+    → (d : Division) (x : TextToken) (xs : List TextToken)
     (shape : ChildShape) (parse : Tree) → shape ≡ first_shape d (kinds_of (x ∷ xs))
     → parse ≡ parse_of_tokens d (map lexed_of (take shape.tokens (x ∷ xs)))
     → are_sound (own_tokens d (map lexed_of (x ∷ xs))) ≡ true
@@ -137,7 +138,7 @@ first_by alone trees d x xs shape parse shape_is parse_is sound size =
         tree = is_child.tree;
         tokens_are = sym count ∙ sym is_child.tokens;
         node_is = sym (is_child.node ∙ ap child_node (kinds_same (take first.tokens all)
-            ∙ sym (take-map (λ (y : Lexeme). (lexed_of y).kind) first.tokens all)));
+            ∙ sym (take-map (λ (y : TextToken). (lexed_of y).kind) first.tokens all)));
       });
       value = value;
     }
@@ -158,27 +159,29 @@ take_laid text at (suc n) (t ∷ ts) laid = (laid.0, take_laid text (at + t.len)
 pub first_of_tokens : ChildrenStandAlone → ChildrenAreTrees → CutTokensAreSound → (d : Division)
     (text : List ℕ) (at : ℕ) (tokens : List lexer.Token) (shape : ChildShape) (parse : Tree)
     → 0 < length tokens → AreCut tokens → shape.tokens ≤ length tokens
-    → shape ≡ first_shape d (kinds_of (lexemes (drop at text) tokens))
+    → shape ≡ first_shape d (kinds_of (text_tokens (drop at text) tokens))
     → parse ≡ parse_of_tokens d
-    (map lexed_of (lexemes (drop at text) (take shape.tokens tokens)))
-    → IsFirst d (lexemes (drop at text) tokens) shape parse
+    (map lexed_of (text_tokens (drop at text) (take shape.tokens tokens)))
+    → IsFirst d (text_tokens (drop at text) tokens) shape parse
 first_of_tokens alone trees law d text at [] shape parse some cut le shape_is parse_is =
     absurd (omega arith)
 first_of_tokens alone trees law d text at (t ∷ ts) shape parse some cut le shape_is parse_is =
     let u = drop at text in
     let own = take shape.tokens (t ∷ ts) in
-    let own_lexemes : lexemes u own ≡ take shape.tokens (lexemes u (t ∷ ts)) =
-    take_lexemes u shape.tokens (t ∷ ts) in
-    let count : length (lexemes u (t ∷ ts)) ≡ length (t ∷ ts) = length_lexemes u (t ∷ ts) in
-    let read : map lexed_of (lexemes u own) ≡ own_tokens d (map lexed_of (lexemes u (t ∷ ts))) =
-    ap (map lexed_of) own_lexemes
-    ∙ ap (λ (s : ChildShape). map lexed_of (take s.tokens (lexemes u (t ∷ ts)))) shape_is
-    ∙ own_same d (lexemes u (t ∷ ts)) in
+    let own_text_tokens : text_tokens u own ≡ take shape.tokens (text_tokens u (t ∷ ts)) =
+    take_text_tokens u shape.tokens (t ∷ ts) in
+    let count : length (text_tokens u (t ∷ ts)) ≡ length (t ∷ ts) = length_text_tokens u (t ∷ ts) in
+    let read : map lexed_of (text_tokens u own)
+    ≡ own_tokens d (map lexed_of (text_tokens u (t ∷ ts))) =
+    ap (map lexed_of) own_text_tokens
+    ∙ ap (λ (s : ChildShape). map lexed_of (take s.tokens (text_tokens u (t ∷ ts)))) shape_is
+    ∙ own_same d (text_tokens u (t ∷ ts)) in
     let cut_own : AreCut own = take_cut shape.tokens (t ∷ ts) cut in
-    let sound : are_sound (own_tokens d (map lexed_of (lexemes u (t ∷ ts)))) ≡ true =
+    let sound : are_sound (own_tokens d (map lexed_of (text_tokens u (t ∷ ts)))) ≡ true =
     ap are_sound (sym read) ∙ ap are_sound (sym (lexed_same text at own)) ∙ law text at own cut_own
     in
-    first_by alone trees d (record { token = t; text = take t.len u }) (lexemes (drop t.len u) ts)
+    first_by alone trees d (record { token = t; text = take t.len u })
+    (text_tokens (drop t.len u) ts)
     shape parse shape_is
-    (parse_is ∙ ap (λ xs. parse_of_tokens d (map lexed_of xs)) own_lexemes) sound
-    (length-take-le shape.tokens (lexemes u (t ∷ ts)) (omega (arith, le, count)))
+    (parse_is ∙ ap (λ xs. parse_of_tokens d (map lexed_of xs)) own_text_tokens) sound
+    (length-take-le shape.tokens (text_tokens u (t ∷ ts)) (omega (arith, le, count)))

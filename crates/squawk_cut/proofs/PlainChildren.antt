@@ -3,10 +3,10 @@ use Rattle.std.proofs.Common.{◌≡◌, ℕ, zero, suc, ◌-◌, true, List, []
 use Rattle.std.proofs.lemmas.List.{take-map}
 use Rattle.std.specs.Str.{chars, IsUtf8}
 use Rattle.squawk_cut.specs.ChildValue.{child_tree}
-use Rattle.squawk_cut.specs.Children.{lexemes, children_from, children_of}
+use Rattle.squawk_cut.specs.Children.{text_tokens, children_from, children_of}
 use Rattle.squawk_cut.specs.Join.{join_of}
 use Rattle.squawk_cut.specs.PlainTells.{lexed_of, plain_child, plain_tells}
-use Rattle.squawk_cut.specs.Tells.{Lexeme}
+use Rattle.squawk_cut.specs.Tells.{TextToken}
 use Rattle.squawk_cut.specs.Tokens.{tokens_of}
 use Rattle.squawk_lexed.specs.LexedText.{CutTokensAreSound, are_sound}
 use Rattle.squawk_lexed.specs.LexedToken.{LexedToken}
@@ -22,7 +22,7 @@ use Rattle.squawk_cut.proofs.LexedLemmas.{lexed_same, roles_same}
 use Rattle.squawk_cut.proofs.PlainTokens.{plain_tokens}
 
 -- children of tokens, the first `inside` of which belong to a child before them
-children_same : (strings : Strings) (d : Division) (inside : ℕ) (xs : List Lexeme)
+children_same : (strings : Strings) (d : Division) (inside : ℕ) (xs : List TextToken)
     → map child_tree (children_from (plain_tells strings d) inside xs)
     ≡ map (tree.child_of d) (parts_from parse.lexed_role inside d (map lexed_of xs))
 children_same strings d inside [] = refl
@@ -53,10 +53,10 @@ children_join progress restart cut sound joins strings d text utf8 =
     let ts = tokens strings (chars text) in
     let told : tokens_of (plain_tells strings d) text ≡ ts =
     plain_tokens progress restart strings d true text utf8 in
-    let read : parse.tokens_of strings text ≡ map lexed_of (lexemes text ts) =
+    let read : parse.tokens_of strings text ≡ map lexed_of (text_tokens text ts) =
     lexed_same text 0 ts in
     ap (λ us. tree.join (map child_tree (children_from (plain_tells strings d) 0
-    (lexemes text us)))) told
-    ∙ ap tree.join (children_same strings d 0 (lexemes text ts))
+    (text_tokens text us)))) told
+    ∙ ap tree.join (children_same strings d 0 (text_tokens text ts))
     ∙ ap (λ us. tree.join (map (tree.child_of d) (parts parse.lexed_role d us))) (sym read)
     ∙ sym (joins d (parse.tokens_of strings text) (sound text 0 ts (cut strings (chars text))))

@@ -3,7 +3,7 @@
 use Rattle.std.proofs.Common.{◌≡◌, ℕ, ◌+◌, ◌<◌, ◌≤◌, true, List, [], ◌∷◌, ◌++◌, length, take, map, refl, sym, ap, ◌∙◌, subst, arith}
 use Rattle.std.proofs.lemmas.List.{length-map, map-append, take-append-le}
 use Rattle.squawk_cut.specs.ChildValue.{ChildValue, child_value}
-use Rattle.squawk_cut.specs.Tells.{IsLawful, Lexeme, lexeme_bytes}
+use Rattle.squawk_cut.specs.Tells.{IsLawful, TextToken, text_token_bytes}
 use Rattle.squawk_cut.specs.PlainTells.{lexed_of, kinds_of, plain_child, plain_tells}
 use Rattle.squawk_lexed.specs.LexedText.{total_len}
 use Rattle.squawk_lexer.specs.LookAhead.{TextsLookAhead, TextsProgress}
@@ -15,32 +15,32 @@ use Rattle.squawk_statements.specs.declared.first.ChildShape.{ChildShape}
 use Rattle.squawk_tree.specs.Join.{child_of}
 
 -- the child of this shape with these tokens
-child_with : Division → ChildShape → List Lexeme → ChildValue
+child_with : Division → ChildShape → List TextToken → ChildValue
 child_with division shape own = child_value shape (child_of division (map lexed_of own))
 
 -- the length of tokens is that of the tokens as a parser reads them
-total_lexed : (xs : List Lexeme) → total_len (map lexed_of xs) ≡ lexeme_bytes xs
+total_lexed : (xs : List TextToken) → total_len (map lexed_of xs) ≡ text_token_bytes xs
 unfolding lexed_of
 total_lexed [] = refl
 total_lexed (x ∷ xs) = ap (λ n. x.token.len + n) (total_lexed xs)
 
 -- a first child has at least one token, and no more than there are
-within : FirstChildrenWithin → (division : Division) (xs : List Lexeme) → 0 < length xs
+within : FirstChildrenWithin → (division : Division) (xs : List TextToken) → 0 < length xs
     → (0 < (plain_child division xs).tokens) × ((plain_child division xs).tokens ≤ length xs)
 within law division xs some =
-    let len = length-map xs (λ (x : Lexeme). (lexed_of x).kind) in
+    let len = length-map xs (λ (x : TextToken). (lexed_of x).kind) in
     let both = law division (kinds_of xs) (omega (arith, len)) in
     let le : (first_shape division (kinds_of xs)).tokens ≤ length (kinds_of xs) = both.1 in
     (both.0, omega (arith, len, le))
 
 -- a closed first child is decided by its own tokens
-stays : FirstChildrenStay → (division : Division) (own rest other : List Lexeme)
+stays : FirstChildrenStay → (division : Division) (own rest other : List TextToken)
     → (plain_child division (own ++ rest)).closed ≡ true
     → (plain_child division (own ++ rest)).tokens ≡ length own
     → plain_child division (own ++ other) ≡ plain_child division (own ++ rest)
 unfolding child_with
 stays law division own rest other closed len =
-    let k : Lexeme → ℕ = λ x. (lexed_of x).kind in
+    let k : TextToken → ℕ = λ x. (lexed_of x).kind in
     let one : kinds_of (own ++ rest) ≡ kinds_of own ++ kinds_of rest = map-append k own rest in
     let two : kinds_of (own ++ other) ≡ kinds_of own ++ kinds_of other = map-append k own other in
     let size = length-map own k in

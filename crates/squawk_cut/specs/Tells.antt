@@ -9,7 +9,7 @@ abbrev pub next_count : ℕ → ℕ
 next_count n = min (n + 1) (2 ^ 64 - 1)
 
 -- a token with its text
-pub record Lexeme : Type 0 where
+pub record TextToken : Type 0 where
   pub token : Token
   pub text : List ℕ
 
@@ -17,12 +17,12 @@ pub record Lexeme : Type 0 where
 -- there, and the first child of a list of tokens that is not empty
 pub record Tells : Type 0 where
   pub token_at : Bool → List ℕ → Token
-  pub child_at : List Lexeme → ChildValue
+  pub child_at : List TextToken → ChildValue
 
 -- the length of tokens in bytes
-abbrev pub lexeme_bytes : List Lexeme → ℕ
-lexeme_bytes [] = 0
-lexeme_bytes (x ∷ xs) = x.token.len + lexeme_bytes xs
+abbrev pub text_token_bytes : List TextToken → ℕ
+text_token_bytes [] = 0
+text_token_bytes (x ∷ xs) = x.token.len + text_token_bytes xs
 
 -- the text has at least two characters
 abbrev pub HasTwo : List ℕ → Type 0
@@ -40,10 +40,10 @@ pub record IsLawful (t : Tells) : Type 0 where
       → IsUtf8 token → IsUtf8 two → IsUtf8 rest → IsUtf8 other → HasTwo two
       → (t.token_at start (token ++ (two ++ rest))).len ≡ length token
       → t.token_at start (token ++ (two ++ other)) ≡ t.token_at start (token ++ (two ++ rest))
-  pub child_some : (xs : List Lexeme) → 0 < length xs → 0 < (t.child_at xs).tokens
-  pub child_within : (xs : List Lexeme) → 0 < length xs → (t.child_at xs).tokens ≤ length xs
-  pub child_bytes : (xs : List Lexeme) → 0 < length xs
-      → (t.child_at xs).bytes ≡ lexeme_bytes (take (t.child_at xs).tokens xs)
-  pub stays : (child rest other : List Lexeme) → IsTrue (t.child_at (child ++ rest)).closed
+  pub child_some : (xs : List TextToken) → 0 < length xs → 0 < (t.child_at xs).tokens
+  pub child_within : (xs : List TextToken) → 0 < length xs → (t.child_at xs).tokens ≤ length xs
+  pub child_bytes : (xs : List TextToken) → 0 < length xs
+      → (t.child_at xs).bytes ≡ text_token_bytes (take (t.child_at xs).tokens xs)
+  pub stays : (child rest other : List TextToken) → IsTrue (t.child_at (child ++ rest)).closed
       → (t.child_at (child ++ rest)).tokens ≡ length child
       → t.child_at (child ++ other) ≡ t.child_at (child ++ rest)

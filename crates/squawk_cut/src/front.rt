@@ -1,7 +1,7 @@
 //! What a document cuts and parses with.
 ghost use Rattle.std.specs.Prelude.{◌≡◌, ◌<◌, ◌^◌, ◌==◌, ℕ, length, drop, IfOk, IfErr};
 ghost use Rattle.std.specs.Str.{IsCharBoundary};
-ghost use Rattle.squawk_cut.specs.Children.{lexemes};
+ghost use Rattle.squawk_cut.specs.Children.{text_tokens};
 ghost use Rattle.squawk_cut.specs.Tokens.{tokens_from};
 ghost use Rattle.squawk_cut.specs.Tells.{Tells, IsLawful, next_count};
 ghost use Rattle.squawk_events.specs.Refusals.{IsOutOfMemory};
@@ -51,7 +51,7 @@ pub trait Front: Drop {
         requires tokens { tokens.now
             ≡ tokens_from (tells self.old) 0 (at == 0) (drop at text.now) }
         ensures child { IfOk result (λ child.
-            child ≡ (tells self.old).child_at (lexemes (drop at text.now) tokens.now)) }
+            child ≡ (tells self.old).child_at (text_tokens (drop at text.now) tokens.now)) }
         ensures refusals { IfErr result IsOutOfMemory }
         ensures same { tells self.new ≡ tells self.old }
         ensures counted { count self.new ≡ next_count (count self.old) };

@@ -2,7 +2,7 @@
 ghost use Rattle.std.specs.Prelude.{◌≡◌, ◌<◌, ◌≤◌, ◌^◌, length, drop, map, take, IfOk, IfErr};
 ghost use Rattle.std.specs.Str.{IsCharBoundary};
 ghost use Rattle.squawk_cut.specs.ChildValue.{IsChild, child_value};
-ghost use Rattle.squawk_cut.specs.Children.{lexemes};
+ghost use Rattle.squawk_cut.specs.Children.{text_tokens};
 ghost use Rattle.squawk_cut.specs.Join.{only_child};
 ghost use Rattle.squawk_cut.specs.PlainTells.{lexed_of, kinds_of, plain_child, plain_tells};
 ghost use Rattle.squawk_cut.specs.Tells.{IsLawful, next_count};
@@ -42,7 +42,7 @@ fn first_shape(
     requires boundary { IsCharBoundary text.now at }
     requires laid { EndAtBoundaries text.now at tokens.now }
     ensures shape { IfOk result (λ shape.
-        shape ≡ first_shape division (kinds_of (lexemes (drop at text.now) tokens.now))) }
+        shape ≡ first_shape division (kinds_of (text_tokens (drop at text.now) tokens.now))) }
     ensures within { IfOk result (λ shape. shape.tokens ≤ length tokens.now) }
     ensures refusals { IfErr result IsOutOfMemory }
 {
@@ -78,7 +78,7 @@ fn parse_own(
     requires cut { AreCut own.now }
     requires laid { EndAtBoundaries text.now at own.now }
     ensures tree { IfOk result (λ parse.
-        parse ≡ parse_of_tokens division (map lexed_of (lexemes (drop at text.now) own.now))) }
+        parse ≡ parse_of_tokens division (map lexed_of (text_tokens (drop at text.now) own.now))) }
     ensures refusals { IfErr result IsOutOfMemory }
 {
     let lexed = LexedStr::from_tokens(alloc, text, at, own)?;
@@ -115,7 +115,7 @@ fn first_child(
     requires cut { AreCut tokens.now }
     requires laid { EndAtBoundaries text.now at tokens.now }
     ensures child { IfOk result (λ child.
-        child ≡ plain_child division (lexemes (drop at text.now) tokens.now)) }
+        child ≡ plain_child division (text_tokens (drop at text.now) tokens.now)) }
     ensures refusals { IfErr result IsOutOfMemory }
 {
     cut_tokens_are_sound();

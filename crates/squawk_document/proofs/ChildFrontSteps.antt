@@ -5,9 +5,9 @@ use Rattle.std.proofs.lemmas.List.{take-append-drop, length-take-le, take-append
 use Rattle.std.specs.Str.{IsUtf8}
 use Rattle.squawk_lexer.specs.declared.token.Token.{Token}
 use Rattle.squawk_cut.specs.ChildValue.{ChildValue}
-use Rattle.squawk_cut.specs.Tells.{Tells, IsLawful, Lexeme, lexeme_bytes}
+use Rattle.squawk_cut.specs.Tells.{Tells, IsLawful, TextToken, text_token_bytes}
 use Rattle.squawk_cut.specs.Tokens.{tokens_of}
-use Rattle.squawk_cut.specs.Children.{lexemes, children_from}
+use Rattle.squawk_cut.specs.Children.{text_tokens, children_from}
 use Rattle.squawk_document.specs.Boundaries.{new_offset, splice, total_len}
 use Rattle.squawk_document.specs.ChildEdit.{EndsAtReturn, ReturnsNowhere, children_at, is_new_return}
 use Rattle.squawk_document.specs.ChildEnds.{is_quiet}
@@ -19,7 +19,7 @@ use Rattle.squawk_cut.specs.Children.{children_of}
 use Rattle.squawk_document.specs.declared.skip.Position.{Position}
 use Rattle.squawk_document.proofs.OffsetTests.{not_true, Positive, and_parts}
 use Rattle.squawk_document.proofs.Cutting.{tokens_positive}
-use Rattle.squawk_document.proofs.ChildCutting.{length-lexemes, bytes-lexemes, lexemes-append, lexemes_shared, drop-lexemes, take-lexemes, first_child, IsRestOf, rest_of, shared_children, back_same}
+use Rattle.squawk_document.proofs.ChildCutting.{length_text_tokens, bytes_text_tokens, text_tokens_append, text_tokens_shared, drop_text_tokens, take_text_tokens, first_child, IsRestOf, rest_of, shared_children, back_same}
 use Rattle.squawk_document.proofs.ChildMeeting.{IsMeetingOffset, child_bytes-append, back_children_none, back_children_some, front_children_are}
 
 -- where fewer bytes are taken, fewer tokens are
@@ -38,20 +38,21 @@ pub aligned : (t : Tells) → IsLawful t
 aligned t law text tokens children is children_are =
     record { bytes = λ n. bytes n; within = λ n. within n }
   where
-    rest : (n : ℕ) → IsRestOf t (lexemes text tokens) (take n children) (drop n children)
-    rest n = rest_of t law (lexemes text tokens) (take n children) (drop n children)
-        (ap (λ ts. children_from t 0 (lexemes text ts)) is ∙ sym children_are
+    rest : (n : ℕ) → IsRestOf t (text_tokens text tokens) (take n children) (drop n children)
+    rest n = rest_of t law (text_tokens text tokens) (take n children) (drop n children)
+        (ap (λ ts. children_from t 0 (text_tokens text ts)) is ∙ sym children_are
         ∙ sym (take-append-drop n children))
 
     within : (n : ℕ) → child_tokens (take n children) ≤ length tokens
-    within n = subst (λ k. child_tokens (take n children) ≤ k) (length-lexemes text tokens)
+    within n = subst (λ k. child_tokens (take n children) ≤ k) (length_text_tokens text tokens)
         (rest n).within
 
     bytes : (n : ℕ) → child_bytes (take n children) ≡ total_len
         (take (child_tokens (take n children)) tokens)
     bytes n = (rest n).bytes
-        ∙ ap lexeme_bytes (take-lexemes text tokens (child_tokens (take n children)) (within n))
-        ∙ bytes-lexemes text (take (child_tokens (take n children)) tokens)
+        ∙ ap text_token_bytes
+        (take_text_tokens text tokens (child_tokens (take n children)) (within n))
+        ∙ bytes_text_tokens text (take (child_tokens (take n children)) tokens)
 
 -- what is known before the parses: the tokens of both texts begin with the same ones, which lie in
 -- a part that the texts share
@@ -91,35 +92,38 @@ children_front t law same rest other old new_tokens front children front_len p =
     let cs = take front_len children in
     let ds = drop front_len children in
     let fr = take front old in
-    let all : children_from t 0 (lexemes (same ++ rest) old) ≡ cs ++ ds =
-    ap (λ ts. children_from t 0 (lexemes (same ++ rest) ts)) p.tokens ∙ sym p.children_are
+    let all : children_from t 0 (text_tokens (same ++ rest) old) ≡ cs ++ ds =
+    ap (λ ts. children_from t 0 (text_tokens (same ++ rest) ts)) p.tokens ∙ sym p.children_are
     ∙ sym (take-append-drop front_len children) in
-    let r = rest_of t law (lexemes (same ++ rest) old) cs ds all in
+    let r = rest_of t law (text_tokens (same ++ rest) old) cs ds all in
     let n = child_tokens cs in
-    let n_in : n ≤ length old = subst (λ k. n ≤ k) (length-lexemes (same ++ rest) old) r.within in
+    let n_in : n ≤ length old = subst (λ k. n ≤ k)
+    (length_text_tokens (same ++ rest) old) r.within in
     let bytes_is : child_bytes cs ≡ total_len (take n old) = r.bytes
-    ∙ ap lexeme_bytes (take-lexemes (same ++ rest) old n n_in)
-    ∙ bytes-lexemes (same ++ rest) (take n old) in
+    ∙ ap text_token_bytes (take_text_tokens (same ++ rest) old n n_in)
+    ∙ bytes_text_tokens (same ++ rest) (take n old) in
     let pos = tokens_positive t law true (same ++ rest) old p.utf8 (sym p.tokens) in
     let n_front : n ≤ front = fewer_tokens old n front pos n_in
     (subst (λ k. k ≤ total_len fr) bytes_is p.low) in
     let fr_len : length fr ≡ front = length-take-le front old p.front_within in
-    let old_split : lexemes (same ++ rest) old ≡ lexemes (same ++ rest) fr ++ lexemes
+    let old_split : text_tokens (same ++ rest) old ≡ text_tokens (same ++ rest) fr ++ text_tokens
     (drop (total_len fr) (same ++ rest)) (drop front old) =
-    ap (lexemes (same ++ rest)) (sym (take-append-drop front old))
-    ∙ lexemes-append (same ++ rest) fr (drop front old) in
-    let shared : lexemes (same ++ other) fr ≡ lexemes (same ++ rest) fr =
-    lexemes_shared same other rest fr p.shared in
-    let new_split : lexemes (same ++ other) new_tokens ≡ lexemes (same ++ rest) fr ++ lexemes
+    ap (text_tokens (same ++ rest)) (sym (take-append-drop front old))
+    ∙ text_tokens_append (same ++ rest) fr (drop front old) in
+    let shared : text_tokens (same ++ other) fr ≡ text_tokens (same ++ rest) fr =
+    text_tokens_shared same other rest fr p.shared in
+    let new_split : text_tokens (same ++ other) new_tokens ≡ text_tokens (same ++ rest) fr
+    ++ text_tokens
     (drop (total_len fr) (same ++ other)) (drop front new_tokens) =
-    ap (lexemes (same ++ other)) p.first ∙ lexemes-append (same ++ other) fr (drop front new_tokens)
-    ∙ ap (λ ls. ls ++ lexemes (drop (total_len fr) (same ++ other)) (drop front new_tokens))
+    ap (text_tokens (same ++ other)) p.first
+    ∙ text_tokens_append (same ++ other) fr (drop front new_tokens)
+    ∙ ap (λ ls. ls ++ text_tokens (drop (total_len fr) (same ++ other)) (drop front new_tokens))
     shared in
-    let shared_len : n ≤ length (lexemes (same ++ rest) fr) =
-    omega (arith, length-lexemes (same ++ rest) fr) in
-    let kept_are = shared_children t law (lexemes (same ++ rest) fr)
-    (lexemes (drop (total_len fr) (same ++ rest)) (drop front old))
-    (lexemes (drop (total_len fr) (same ++ other)) (drop front new_tokens)) cs ds p.closed
+    let shared_len : n ≤ length (text_tokens (same ++ rest) fr) =
+    omega (arith, length_text_tokens (same ++ rest) fr) in
+    let kept_are = shared_children t law (text_tokens (same ++ rest) fr)
+    (text_tokens (drop (total_len fr) (same ++ rest)) (drop front old))
+    (text_tokens (drop (total_len fr) (same ++ other)) (drop front new_tokens)) cs ds p.closed
     shared_len (ap (children_from t 0) (sym old_split) ∙ all) in
     let first_len : length new_tokens ≡ length fr + length (drop front new_tokens) =
     ap length p.first ∙ length-append fr (drop front new_tokens) in
@@ -130,11 +134,13 @@ children_front t law same rest other old new_tokens front children front_len p =
     let index : child_bytes cs ≡ total_len (take n new_tokens) = bytes_is
     ∙ ap total_len (sym takes) in
     record {
-      new_children_are = ap (λ ts. children_from t 0 (lexemes (same ++ other) ts))
+      new_children_are = ap (λ ts. children_from t 0 (text_tokens (same ++ other) ts))
           (sym p.new_tokens_are) ∙ ap (children_from t 0) new_split ∙ kept_are
           ∙ ap (λ ls. cs ++ children_from t 0 (drop n ls)) (sym new_split)
-          ∙ ap (λ ls. cs ++ children_from t 0 ls) (drop-lexemes (same ++ other) new_tokens n new_in)
-          ∙ ap (λ k. cs ++ children_from t 0 (lexemes (drop k (same ++ other)) (drop n new_tokens)))
+          ∙ ap (λ ls. cs ++ children_from t 0 ls)
+          (drop_text_tokens (same ++ other) new_tokens n new_in)
+          ∙ ap (λ k. cs
+          ++ children_from t 0 (text_tokens (drop k (same ++ other)) (drop n new_tokens)))
           (sym index);
       count = ap (front_children front old) (sym (take-append-drop front_len children))
           ∙ front_children_are front old cs ds p.closed p.low p.stopped
@@ -149,31 +155,33 @@ PositiveChildren [] = Unit {0}
 PositiveChildren (c ∷ cs) = (0 < c.bytes) × PositiveChildren cs
 
 -- each lexeme has a byte at least
-abbrev pub PositiveLexemes : List Lexeme → Type 0
-PositiveLexemes [] = Unit {0}
-PositiveLexemes (x ∷ xs) = (0 < x.token.len) × PositiveLexemes xs
+abbrev pub PositiveTextTokens : List TextToken → Type 0
+PositiveTextTokens [] = Unit {0}
+PositiveTextTokens (x ∷ xs) = (0 < x.token.len) × PositiveTextTokens xs
 
--- the lexemes of tokens with a byte have one
-lexemes_positive : (u : List ℕ) (ts : List Token) → Positive ts → PositiveLexemes (lexemes u ts)
-lexemes_positive u [] p = tt
-lexemes_positive u (x ∷ xs) p = (p.0, lexemes_positive (drop x.len u) xs p.1)
+-- the text_tokens of tokens with a byte have one
+text_tokens_positive : (u : List ℕ) (ts : List Token) → Positive ts
+    → PositiveTextTokens (text_tokens u ts)
+text_tokens_positive u [] p = tt
+text_tokens_positive u (x ∷ xs) p = (p.0, text_tokens_positive (drop x.len u) xs p.1)
 
 -- so have those after the first n
-drop_positive : (n : ℕ) (xs : List Lexeme) → PositiveLexemes xs → PositiveLexemes (drop n xs)
+drop_positive : (n : ℕ) (xs : List TextToken) → PositiveTextTokens xs
+    → PositiveTextTokens (drop n xs)
 drop_positive zero xs p = p
 drop_positive (suc n) [] p = tt
 drop_positive (suc n) (x ∷ xs) p = drop_positive n xs p.1
 
 -- some of them have a byte
-taken_some : (n : ℕ) (xs : List Lexeme) → PositiveLexemes xs → 0 < n → n ≤ length xs
-    → 0 < lexeme_bytes (take n xs)
+taken_some : (n : ℕ) (xs : List TextToken) → PositiveTextTokens xs → 0 < n → n ≤ length xs
+    → 0 < text_token_bytes (take n xs)
 taken_some zero xs p h l = absurd (omega arith)
 taken_some (suc n) [] p h l = absurd (omega arith)
 taken_some (suc n) (x ∷ xs) p h l = let first : 0 < x.token.len = p.0 in omega arith
 
 -- each child has a byte at least
-children_positive : (t : Tells) → IsLawful t → (xs : List Lexeme) (cs : List ChildValue)
-    → PositiveLexemes xs → children_from t 0 xs ≡ cs → PositiveChildren cs
+children_positive : (t : Tells) → IsLawful t → (xs : List TextToken) (cs : List ChildValue)
+    → PositiveTextTokens xs → children_from t 0 xs ≡ cs → PositiveChildren cs
 children_positive t law xs [] p e = tt
 children_positive t law xs (c ∷ cs) p e =
     let f = first_child t law xs c cs e in (
@@ -186,8 +194,8 @@ children_positive t law xs (c ∷ cs) p e =
 pub children_of_positive : (t : Tells) → IsLawful t → (u : List ℕ) (cs : List ChildValue) → IsUtf8 u
     → cs ≡ children_of t u → PositiveChildren cs
 children_of_positive t law u cs utf8 is =
-    children_positive t law (lexemes u (tokens_of t u)) cs
-    (lexemes_positive u (tokens_of t u)
+    children_positive t law (text_tokens u (tokens_of t u)) cs
+    (text_tokens_positive u (tokens_of t u)
     (tokens_positive t law true u (tokens_of t u) utf8 refl)) (sym is)
 
 -- children with a byte have a last one

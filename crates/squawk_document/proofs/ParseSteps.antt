@@ -10,9 +10,9 @@ use Rattle.std.specs.Str.{IsUtf8, IsCharBoundary}
 use Rattle.std.proofs.lemmas.Str.{IsCharBoundary-start}
 use Rattle.squawk_lexer.specs.declared.token.Token.{Token}
 use Rattle.squawk_cut.specs.ChildValue.{ChildValue}
-use Rattle.squawk_cut.specs.Tells.{Tells, IsLawful, lexeme_bytes}
+use Rattle.squawk_cut.specs.Tells.{Tells, IsLawful, text_token_bytes}
 use Rattle.squawk_cut.specs.Tokens.{tokens_from, tokens_of}
-use Rattle.squawk_cut.specs.Children.{lexemes, children_from}
+use Rattle.squawk_cut.specs.Children.{text_tokens, children_from}
 use Rattle.squawk_document.specs.Boundaries.{is_among, total_len}
 use Rattle.squawk_document.specs.ChildEdit.{EndsAtReturn, IsParsedSoFar, ReturnsNowhere, children_at, is_new_return}
 use Rattle.squawk_document.specs.ChildEnds.{is_quiet, quiet_ends}
@@ -22,7 +22,7 @@ use Rattle.squawk_document.specs.declared.skip.Position.{Position}
 use Rattle.squawk_document.proofs.OffsetTests.{Positive, total_len-append, or_parts, and_parts, same_offset, none_by, member_fails}
 use Rattle.squawk_document.proofs.Cutting.{tokens_positive, tokens_total, restart}
 use Rattle.squawk_document.proofs.TokenEditSteps.{from_end}
-use Rattle.squawk_document.proofs.ChildCutting.{children_first, length-lexemes, bytes-lexemes, drop-lexemes, take-lexemes}
+use Rattle.squawk_document.proofs.ChildCutting.{children_first, length_text_tokens, bytes_text_tokens, drop_text_tokens, take_text_tokens}
 use Rattle.squawk_document.proofs.ChildMeeting.{quiet_parts, quiet_at}
 
 -- the bytes of the first i + n tokens
@@ -69,30 +69,32 @@ pub record IsNextChild (t : Tells) (text : List ℕ) (tokens : List Token) (at i
 pub next_child : (t : Tells) → IsLawful t
     → (text : List ℕ) (tokens : List Token) (at i : ℕ) (c : ChildValue) → IsUtf8 text
     → tokens ≡ tokens_of t text → at ≡ total_len (take i tokens) → i < length tokens
-    → c ≡ t.child_at (lexemes (drop at text) (drop i tokens)) → IsNextChild t text tokens at i c
+    → c ≡ t.child_at (text_tokens (drop at text) (drop i tokens)) → IsNextChild t text tokens at i c
 next_child t law text tokens at i c utf8 is index inside child =
-    let ls = lexemes (drop at text) (drop i tokens) in
+    let ls = text_tokens (drop at text) (drop i tokens) in
     let rest_len = length-drop i tokens in
-    let len : length ls ≡ length (drop i tokens) = length-lexemes (drop at text) (drop i tokens) in
+    let len : length ls
+    ≡ length (drop i tokens) = length_text_tokens (drop at text) (drop i tokens) in
     let filled : 0 < length ls = omega arith in
     let some : 0 < c.tokens =
     subst (λ (d : ChildValue). 0 < d.tokens) (sym child) (law.child_some ls filled) in
     let low : c.tokens ≤ length ls = subst (λ (d : ChildValue). d.tokens ≤ length ls) (sym child)
     (law.child_within ls filled) in
-    let bytes : c.bytes ≡ lexeme_bytes (take c.tokens ls) =
-    subst (λ (d : ChildValue). d.bytes ≡ lexeme_bytes (take d.tokens ls)) (sym child)
+    let bytes : c.bytes ≡ text_token_bytes (take c.tokens ls) =
+    subst (λ (d : ChildValue). d.bytes ≡ text_token_bytes (take d.tokens ls)) (sym child)
     (law.child_bytes ls filled) in
     let within : c.tokens ≤ length (drop i tokens) = omega arith in
     let bytes_is : c.bytes ≡ total_len (take c.tokens (drop i tokens)) = bytes
-    ∙ ap lexeme_bytes (take-lexemes (drop at text) (drop i tokens) c.tokens within)
-    ∙ bytes-lexemes (drop at text) (take c.tokens (drop i tokens)) in
+    ∙ ap text_token_bytes (take_text_tokens (drop at text) (drop i tokens) c.tokens within)
+    ∙ bytes_text_tokens (drop at text) (take c.tokens (drop i tokens)) in
     let offset : at + c.bytes ≡ total_len (take (i + c.tokens) tokens) =
     omega (arith, total_take_more tokens i c.tokens) in
-    let left : drop c.tokens ls ≡ lexemes (drop (at + c.bytes) text) (drop (i + c.tokens) tokens) =
-    drop-lexemes (drop at text) (drop i tokens) c.tokens within
-    ∙ ap (λ n. lexemes (drop n (drop at text)) (drop c.tokens (drop i tokens))) (sym bytes_is)
-    ∙ ap (λ w. lexemes w (drop c.tokens (drop i tokens))) (drop-drop c.bytes at text)
-    ∙ ap (lexemes (drop (at + c.bytes) text)) (drop-drop c.tokens i tokens) in
+    let left : drop c.tokens ls
+    ≡ text_tokens (drop (at + c.bytes) text) (drop (i + c.tokens) tokens) =
+    drop_text_tokens (drop at text) (drop i tokens) c.tokens within
+    ∙ ap (λ n. text_tokens (drop n (drop at text)) (drop c.tokens (drop i tokens))) (sym bytes_is)
+    ∙ ap (λ w. text_tokens w (drop c.tokens (drop i tokens))) (drop-drop c.bytes at text)
+    ∙ ap (text_tokens (drop (at + c.bytes) text)) (drop-drop c.tokens i tokens) in
     let all = total_len-append (take (i + c.tokens) tokens) (drop (i + c.tokens) tokens) in
     let whole = ap total_len (take-append-drop (i + c.tokens) tokens) in
     record {
@@ -242,7 +244,7 @@ pub parsing_ends : (t : Tells) (text : List ℕ) (tokens : List Token) (old : Li
 parsing_ends t text tokens old origin new_end end m fresh_children at i only_closed parsing past =
     record {
       children = parsing.children
-          ∙ ap (λ ts. fresh_children ++ children_from t 0 (lexemes (drop at text) ts))
+          ∙ ap (λ ts. fresh_children ++ children_from t 0 (text_tokens (drop at text) ts))
           (drop_all i tokens past) ∙ append-nil fresh_children;
       none_returns = parsing.none_returns;
     }

@@ -4,7 +4,7 @@ use Rattle.std.specs.List.{list_any}
 use Rattle.std.specs.Option.{MatchOption}
 use Rattle.std.specs.declared.option.Option.{Option}
 use Rattle.std.specs.declared.option.Option.TheVariants.{None, Some}
-use Rattle.squawk_cut.specs.Children.{lexemes, children_from, children_of}
+use Rattle.squawk_cut.specs.Children.{text_tokens, children_from, children_of}
 use Rattle.squawk_cut.specs.Join.{child_bytes}
 use Rattle.squawk_cut.specs.ChildValue.{ChildValue}
 use Rattle.squawk_cut.specs.Tells.{Tells}
@@ -24,7 +24,7 @@ is_new_return new_end end (Some m) old p = not (nat_lt p m) && is_quiet old (p -
 
 -- the children of the tokens from the index i on, which begin at an offset
 abbrev pub children_at : Tells → List ℕ → List Token → ℕ → ℕ → List ChildValue
-children_at t text tokens at i = children_from t 0 (lexemes (drop at text) (drop i tokens))
+children_at t text tokens at i = children_from t 0 (text_tokens (drop at text) (drop i tokens))
 
 -- the children from a position on are these so far, and then those from `at` on; the children do
 -- not return at a quiet end of one of these

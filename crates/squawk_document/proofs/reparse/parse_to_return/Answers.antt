@@ -4,14 +4,14 @@ use Rattle.squawk_lexer.specs.declared.token.Token.{Token}
 use Rattle.squawk_cut.specs.ChildValue.{ChildValue}
 use Rattle.squawk_cut.specs.Tells.{Tells}
 use Rattle.squawk_cut.specs.Tokens.{tokens_from}
-use Rattle.squawk_cut.specs.Children.{lexemes}
+use Rattle.squawk_cut.specs.Children.{text_tokens}
 use Rattle.squawk_document.proofs.ParseSteps.{boundary_of, tokens_at, inside_text, next_child, parsing_step, parsing_stop}
 use Rattle.squawk_document.proofs.reparse.parse_to_return.Goals as goal
 
 told : (t u : Tells) (c : ChildValue) (w : List ℕ) (ts us : List Token) → u ≡ t → us ≡ ts
-    → c ≡ u.child_at (lexemes w us) → c ≡ t.child_at (lexemes w ts)
-told t u c w ts us e f is = is ∙ ap (λ (v : Tells). v.child_at (lexemes w us)) e
-    ∙ ap (λ xs. t.child_at (lexemes w xs)) f
+    → c ≡ u.child_at (text_tokens w us) → c ≡ t.child_at (text_tokens w ts)
+told t u c w ts us e f is = is ∙ ap (λ (v : Tells). v.child_at (text_tokens w us)) e
+    ∙ ap (λ xs. t.child_at (text_tokens w xs)) f
 
 pub parse_next-requires-clause-inside : goal.parse_next-requires-clause-inside
 parse_next-requires-clause-inside g c =
