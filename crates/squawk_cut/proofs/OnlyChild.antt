@@ -51,7 +51,7 @@ errors_unshifted (e ∷ es) =
     ∙ ap (λ ys. e ∷ ys) (errors_unshifted es)
 
 -- the elements before the last
-take_before_last : {A : Type 0} (xs : List A) (x : A)
+pub take_before_last : {A : Type 0} (xs : List A) (x : A)
     → take (length (xs ++ x ∷ []) - 1) (xs ++ x ∷ []) ≡ xs
 take_before_last [] x = refl
 take_before_last (y ∷ ys) x =

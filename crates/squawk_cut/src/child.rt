@@ -1,10 +1,14 @@
 //! Children of the root.
-ghost use Rattle.std.specs.Prelude.{◌≡◌};
-ghost use Rattle.squawk_cut.specs.ChildValue.{IsChild, child_value};
+ghost use Rattle.std.specs.Prelude.{◌≡◌, length, IfOk, IfErr};
+ghost use Rattle.squawk_cut.specs.ChildValue.{IsChild, child_value, child_of_tree};
+ghost use Rattle.squawk_events.specs.Refusals.{IsOutOfMemory};
+ghost use Rattle.squawk_tree.specs.Steps.{root_children};
 
-use squawk_events::{ParseError, StrStep};
+use squawk_events::{FrontError, ParseError, StrStep};
 use squawk_kinds::SyntaxKind;
 use squawk_statements::ChildShape;
+use squawk_tree::Parse;
+use std::alloc::Global;
 use std::marker::Model;
 
 /// A child of the root. The offsets in its steps and errors are in bytes, from its own start.
@@ -66,6 +70,30 @@ impl Child {
             steps,
             errors,
         }
+    }
+
+    /// The only root child of a tree: the steps and errors of `parse` without its root. `closed` says
+    /// whether no later token can belong to it. The only error is `OutOfMemory`.
+    ///
+    /// The root of `parse` must have exactly one child. Its offsets are those of the tree.
+    pub fn from_parse(alloc: Global, parse: &Parse, closed: bool) -> Result<Child, FrontError>
+        requires one { length (root_children parse.now.steps) ≡ 1 }
+        ensures child { IfOk result (λ child. child ≡ child_of_tree parse.now closed) }
+        ensures refusals { IfErr result IsOutOfMemory }
+    {
+        let bytes = parse.len();
+        let only = parse.children()[0];
+        let steps = parse.steps();
+        let steps = steps[1..steps.len() - 1].to_vec(alloc)?;
+        let errors = parse.errors().to_vec(alloc)?;
+        Ok(Child {
+            tokens: only.tokens,
+            bytes,
+            node: only.node,
+            closed,
+            steps,
+            errors,
+        })
     }
 
     /// The number of its tokens, trivia included.
