@@ -1,8 +1,8 @@
 mod PlainTokens
 mod LexedLemmas
 mod KindSteps
-mod OnlyChild
 mod RootChild
+mod OnlyChild
 mod PlainChildren
 mod JoinSteps
 mod TokenSteps

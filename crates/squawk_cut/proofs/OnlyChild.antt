@@ -1,9 +1,9 @@
 -- The only child of a parse of the tokens of a first child.
 use Rattle.std.proofs.Common.{◌≡◌, ℕ, zero, suc, ◌+◌, ◌-◌, ◌<◌, ◌≤◌, true, List, [], ◌∷◌, ◌++◌, length, length-append, take, drop, map, refl, sym, ap, subst, ◌∙◌, arith}
 use Rattle.std.proofs.lemmas.List.{append-nil, length-map, length-take-le, take-map}
-use Rattle.squawk_cut.specs.ChildValue.{IsChild, child_value}
+use Rattle.std.specs.Prelude.{Bool, Option}
+use Rattle.squawk_cut.specs.ChildValue.{child_of_tree, steps_in_root}
 use Rattle.squawk_cut.specs.Children.{text_tokens}
-use Rattle.squawk_cut.specs.Join.{only_child}
 use Rattle.squawk_cut.specs.PlainTells.{lexed_of, kinds_of, plain_child}
 use Rattle.squawk_cut.specs.Tells.{TextToken}
 use Rattle.squawk_events.specs.declared.steps.ParseError.{ParseError}
@@ -18,11 +18,13 @@ use Rattle.squawk_statements.specs.Children.{first_child}
 use Rattle.squawk_statements.specs.First.{first_shape, child_node}
 use Rattle.squawk_statements.specs.declared.division.Division.{Division}
 use Rattle.squawk_statements.specs.declared.first.ChildShape.{ChildShape}
-use Rattle.squawk_tree.specs.Children.{ChildrenAreTrees, IsChildOf, own_tokens}
+use Rattle.squawk_tree.specs.Children.{ChildrenAreTrees, IsChildOf, node_of_steps, own_tokens}
 use Rattle.squawk_tree.specs.Join.{ChildTree, child_of, join, shifted_step, shifted_error}
 use Rattle.squawk_tree.specs.ParseOf.{lexed_role, parse_of_tokens}
+use Rattle.squawk_tree.specs.Steps.{leaves, root_children}
 use Rattle.squawk_tree.specs.Tree.{Tree}
 use Rattle.squawk_cut.proofs.LexedLemmas.{lexed_same, take_text_tokens, length_text_tokens, roles_same, kinds_same}
+use Rattle.squawk_cut.proofs.RootChild.{child_by, inside, leaves_before_exit, one_root_child}
 
 -- ---- the only child of a joined tree
 
@@ -50,38 +52,40 @@ errors_unshifted (e ∷ es) =
     ∷ map (shifted_error 0) es) (let p : e.end + 0 ≡ e.end = omega arith in p)
     ∙ ap (λ ys. e ∷ ys) (errors_unshifted es)
 
--- the elements before the last
-pub take_before_last : {A : Type 0} (xs : List A) (x : A)
-    → take (length (xs ++ x ∷ []) - 1) (xs ++ x ∷ []) ≡ xs
-take_before_last [] x = refl
-take_before_last (y ∷ ys) x =
-    let some : length (ys ++ x ∷ []) ≡ length ys + 1 = length-append ys (x ∷ []) in
-    ap (λ n. take n (y ∷ (ys ++ x ∷ [])))
-    (let e : suc (length (ys ++ x ∷ [])) - 1 ≡ suc (length (ys ++ x ∷ []) - 1) =
-    omega (arith, some) in e)
-    ∙ ap (λ zs. y ∷ zs) (take_before_last ys x)
+-- a tree of one child: its steps under a root, and its errors
+abbrev alone_in_tree : ChildTree → Tree
+alone_in_tree child = record {
+  steps = Enter SOURCE_FILE ∷ child.steps ++ Exit ∷ [];
+  errors = child.errors;
+  len = child.len;
+}
 
--- the only child of the join of one child is that child
-only_of_join : (child : ChildTree) → only_child (join (child ∷ [])) ≡ child
-only_of_join child =
+-- the join of one child is that tree
+join_of_one : (child : ChildTree) → join (child ∷ []) ≡ alone_in_tree child
+join_of_one child =
     let steps : map (shifted_step 0) child.steps ++ [] ≡ child.steps =
     append-nil (map (shifted_step 0) child.steps) ∙ steps_unshifted child.steps in
-    let own : List StrStep → List StrStep =
-    λ xs. take (length (Enter SOURCE_FILE ∷ xs ++ Exit ∷ []) - 1 - 1) (xs ++ Exit ∷ []) in
-    let less : (xs : List StrStep) → length (Enter SOURCE_FILE ∷ xs ++ Exit ∷ []) - 1 - 1
-    ≡ length (xs ++ Exit ∷ []) - 1 = λ xs. omega arith in
-    let inner : own child.steps ≡ child.steps =
-    ap (λ n. take n (child.steps ++ Exit ∷ [])) (less child.steps)
-    ∙ take_before_last child.steps Exit in
     let errors : map (shifted_error 0) child.errors ++ [] ≡ child.errors =
     append-nil (map (shifted_error 0) child.errors) ∙ errors_unshifted child.errors in
-    ap (λ xs. tree (own xs) (map (shifted_error 0) child.errors ++ []) (child.len + 0)) steps
-    ∙ ap (λ xs. tree xs (map (shifted_error 0) child.errors ++ []) (child.len + 0)) inner
-    ∙ ap (λ es. tree child.steps es (child.len + 0)) errors
-    ∙ ap (tree child.steps child.errors) (let e : child.len + 0 ≡ child.len = omega arith in e)
+    ap (λ xs. around xs (map (shifted_error 0) child.errors ++ []) (child.len + 0)) steps
+    ∙ ap (λ es. around child.steps es (child.len + 0)) errors
+    ∙ ap (around child.steps child.errors) (let e : child.len + 0 ≡ child.len = omega arith in e)
   where
-    tree : List StrStep → List ParseError → ℕ → ChildTree
-    tree xs es n = record { steps = xs; errors = es; len = n }
+    around : List StrStep → List ParseError → ℕ → Tree
+    around xs es n = alone_in_tree (record { steps = xs; errors = es; len = n })
+
+-- a child alone in a tree is the only child of that tree
+only_of_alone : (child : ChildTree) (closed : Bool) (count : ℕ) (node : Option ℕ)
+    → length (leaves child.steps) ≡ count → node_of_steps child.steps ≡ node
+    → child_of_tree (alone_in_tree child) closed
+    ≡ child_by count child.len node closed child.steps child.errors
+only_of_alone child closed count node count_is node_is =
+    let all = Enter SOURCE_FILE ∷ child.steps ++ Exit ∷ [] in
+    let own : steps_in_root all ≡ child.steps = inside SOURCE_FILE child.steps in
+    ap (λ n. child_by n child.len (node_of_steps (steps_in_root all)) closed (steps_in_root all)
+    child.errors) (ap length (leaves_before_exit child.steps) ∙ count_is)
+    ∙ ap (λ xs. child_by count child.len (node_of_steps xs) closed xs child.errors) own
+    ∙ ap (λ k. child_by count child.len k closed child.steps child.errors) node_is
 
 -- ---- the parse of the tokens of a first child
 
@@ -100,11 +104,11 @@ own_same d xs =
     ap (λ roles. map lexed_of (take (first_child d roles).tokens xs)) (sym (roles_same xs))
     ∙ sym (take-map lexed_of (first_child d (map lexed_role (map lexed_of xs))).tokens xs)
 
--- what the parse says of the first child of tokens
-pub record IsFirst (d : Division) (xs : List TextToken) (shape : ChildShape) (parse : Tree)
-    : Type 0 where
-  pub child : IsChild (child_value shape (only_child parse))
-  pub value : child_value shape (only_child parse) ≡ plain_child d xs
+-- the parse has one root child, which is the first child of tokens
+pub record IsFirst (d : Division) (xs : List TextToken) (closed : Bool) (parse : Tree) : Type 0
+    where
+  pub one : length (root_children parse.steps) ≡ 1
+  pub value : child_of_tree parse closed ≡ plain_child d xs
 
 -- the parse of the tokens of a first child is that child under a root
 first_by : ChildrenStandAlone → ChildrenAreTrees
@@ -112,35 +116,34 @@ first_by : ChildrenStandAlone → ChildrenAreTrees
     (shape : ChildShape) (parse : Tree) → shape ≡ first_shape d (kinds_of (x ∷ xs))
     → parse ≡ parse_of_tokens d (map lexed_of (take shape.tokens (x ∷ xs)))
     → are_sound (own_tokens d (map lexed_of (x ∷ xs))) ≡ true
-    → length (take shape.tokens (x ∷ xs)) ≡ shape.tokens → IsFirst d (x ∷ xs) shape parse
+    → length (take shape.tokens (x ∷ xs)) ≡ shape.tokens → IsFirst d (x ∷ xs) shape.closed parse
 first_by alone trees d x xs shape parse shape_is parse_is sound size =
     let all = x ∷ xs in
     let first = first_shape d (kinds_of all) in
     let own = map lexed_of (take first.tokens all) in
+    let child = child_of d own in
     let same : own ≡ own_tokens d (map lexed_of all) = own_same d all in
-    let tree : parse ≡ join (child_of d own ∷ []) =
+    let tree : parse ≡ alone_in_tree child =
     parse_is
     ∙ ap (λ (s : ChildShape). parse_of_tokens d (map lexed_of (take s.tokens all))) shape_is
     ∙ ap (parse_of_tokens d) same ∙ alone d (lexed_of x) (map lexed_of xs) sound
-    ∙ ap (λ ts. join (child_of d ts ∷ [])) (sym same) in
-    let only : only_child parse ≡ child_of d own =
-    ap only_child tree ∙ only_of_join (child_of d own) in
-    let value : child_value shape (only_child parse) ≡ plain_child d all =
-    ap (child_value shape) only ∙ ap (λ s. child_value s (child_of d own)) shape_is in
-    let is_child : IsChildOf own (child_of d own) =
+    ∙ ap (λ ts. join (child_of d ts ∷ [])) (sym same) ∙ join_of_one child in
+    let is_child : IsChildOf own child =
     subst (λ ts. IsChildOf ts (child_of d ts)) (sym same)
     (trees d (lexed_of x) (map lexed_of xs) sound) in
     let count : length own ≡ first.tokens =
     length-map (take first.tokens all) lexed_of
     ∙ subst (λ (s : ChildShape). length (take s.tokens all) ≡ s.tokens) shape_is size in
+    let node : node_of_steps child.steps ≡ first.node =
+    is_child.node ∙ ap child_node (kinds_same (take first.tokens all)
+    ∙ sym (take-map (λ (y : TextToken). (lexed_of y).kind) first.tokens all)) in
     record {
-      child = subst IsChild (sym value) (record {
-        tree = is_child.tree;
-        tokens_are = sym count ∙ sym is_child.tokens;
-        node_is = sym (is_child.node ∙ ap child_node (kinds_same (take first.tokens all)
-            ∙ sym (take-map (λ (y : TextToken). (lexed_of y).kind) first.tokens all)));
-      });
-      value = value;
+      one = ap (λ (t : Tree). length (root_children t.steps)) tree
+          ∙ one_root_child child.steps is_child.tree.leaf_or_node;
+      value = ap (λ t. child_of_tree t shape.closed) tree
+          ∙ only_of_alone child shape.closed first.tokens first.node (is_child.tokens ∙ count) node
+          ∙ ap (λ (s : ChildShape). child_by first.tokens child.len first.node s.closed child.steps
+          child.errors) shape_is;
     }
 
 -- the first n of tokens that the lexer cut, and that end at character boundaries
@@ -162,7 +165,7 @@ pub first_of_tokens : ChildrenStandAlone → ChildrenAreTrees → CutTokensAreSo
     → shape ≡ first_shape d (kinds_of (text_tokens (drop at text) tokens))
     → parse ≡ parse_of_tokens d
     (map lexed_of (text_tokens (drop at text) (take shape.tokens tokens)))
-    → IsFirst d (text_tokens (drop at text) tokens) shape parse
+    → IsFirst d (text_tokens (drop at text) tokens) shape.closed parse
 first_of_tokens alone trees law d text at [] shape parse some cut le shape_is parse_is =
     absurd (omega arith)
 first_of_tokens alone trees law d text at (t ∷ ts) shape parse some cut le shape_is parse_is =

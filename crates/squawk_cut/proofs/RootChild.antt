@@ -11,7 +11,6 @@ use Rattle.squawk_tree.specs.ChildSpans.{child_spans, child_spans_from, node_tok
 use Rattle.squawk_tree.specs.Steps.{closes, is_balanced, has_no_errors, leaves, root_children, root_children_from, tiles}
 use Rattle.squawk_tree.specs.Tree.{Tree, IsTree}
 use Rattle.squawk_tree.specs.declared.children.ChildSpan.{ChildSpan}
-use Rattle.squawk_cut.proofs.OnlyChild.{take_before_last}
 
 -- ---- what follows the only child
 
@@ -139,8 +138,19 @@ one_child (Error number at ∷ xs) h free one = absurd (cc)
 
 -- ---- the only child of a tree
 
+-- the elements before the last
+take_before_last : {A : Type 0} (xs : List A) (x : A)
+    → take (length (xs ++ x ∷ []) - 1) (xs ++ x ∷ []) ≡ xs
+take_before_last [] x = refl
+take_before_last (y ∷ ys) x =
+    let some : length (ys ++ x ∷ []) ≡ length ys + 1 = length-append ys (x ∷ []) in
+    ap (λ n. take n (y ∷ (ys ++ x ∷ [])))
+    (let e : suc (length (ys ++ x ∷ [])) - 1 ≡ suc (length (ys ++ x ∷ []) - 1) =
+    omega (arith, some) in e)
+    ∙ ap (λ zs. y ∷ zs) (take_before_last ys x)
+
 -- the steps inside the root
-inside : (kind : ℕ) (xs : List StrStep)
+pub inside : (kind : ℕ) (xs : List StrStep)
     → steps_in_root (Enter kind ∷ xs ++ Exit ∷ []) ≡ xs
 inside kind xs =
     let less : length (Enter kind ∷ xs ++ Exit ∷ []) - 1 - 1 ≡ length (xs ++ Exit ∷ []) - 1 =
@@ -198,7 +208,7 @@ pub only_of : (t : Tree) (closed : Bool) → IsTree t → length (root_children 
 only_of t closed tree one = only_from t.steps t closed refl tree one
 
 -- a child by its fields
-abbrev child_by : ℕ → ℕ → Option ℕ → Bool → List StrStep → List ParseError → ChildValue
+abbrev pub child_by : ℕ → ℕ → Option ℕ → Bool → List StrStep → List ParseError → ChildValue
 child_by tokens bytes node closed steps errors = record {
   tokens = tokens;
   bytes = bytes;
@@ -226,3 +236,37 @@ only_value t closed span spans len all steps every errors only spans_are first l
     (steps_are ∙ ap steps_in_root all_is)
     ∙ ap (λ es. child_by count t.len (node_of_steps (steps_in_root t.steps)) closed
     (steps_in_root t.steps) es) (errors_are ∙ every_is)
+
+-- ---- a tree of one child
+
+-- the `Exit` of the root is no leaf
+pub leaves_before_exit : (xs : List StrStep) → leaves (xs ++ Exit ∷ []) ≡ leaves xs
+leaves_before_exit [] = refl
+leaves_before_exit (Enter kind ∷ xs) = leaves_before_exit xs
+leaves_before_exit (Token kind start end ∷ xs) =
+    ap (λ rs. (start, end) ∷ rs) (leaves_before_exit xs)
+leaves_before_exit (Exit ∷ xs) = leaves_before_exit xs
+leaves_before_exit (Error number at ∷ xs) = leaves_before_exit xs
+
+-- where the open nodes of a child are closed, and then the root, no other child begins
+last_child : (d n : ℕ) (xs : List StrStep) → closes (suc d) xs ≡ true
+    → length (root_children_from (suc d) n (xs ++ Exit ∷ [])) ≡ 1
+last_child d n [] h = absurd (let e : suc d ≡ 0 = eqb-true (suc d) 0 h in omega arith)
+last_child d n (Enter kind ∷ xs) h = last_child (suc d) n xs h
+last_child d n (Token kind start end ∷ xs) h = last_child d (n + 1) xs h
+last_child zero n (Exit ∷ xs) h =
+    ap (λ ys. suc (length (root_children_from 0 0 (ys ++ Exit ∷ [])))) (no_steps xs h)
+last_child (suc d) n (Exit ∷ xs) h = last_child d n xs h
+last_child d n (Error number at ∷ xs) h = last_child d n xs h
+
+-- a leaf or a node under a root is one child
+pub one_root_child : (xs : List StrStep) → is_leaf_or_node xs ≡ true
+    → length (root_children_from 0 0 (xs ++ Exit ∷ [])) ≡ 1
+one_root_child [] h = absurd (cc)
+one_root_child (Token kind start end ∷ []) h = refl
+one_root_child (Token kind start end ∷ y ∷ ys) h = absurd (cc)
+one_root_child (Enter kind ∷ xs) h =
+    last_child 0 0 xs
+    (and_parts (is_balanced (Enter kind ∷ xs)) (has_no_errors (Enter kind ∷ xs)) h).0
+one_root_child (Exit ∷ xs) h = absurd (cc)
+one_root_child (Error number at ∷ xs) h = absurd (cc)

@@ -1,9 +1,9 @@
 -- The tree of root children in order.
-use Rattle.std.specs.Prelude.{ℕ, ◌+◌, ◌-◌, ◌&&◌, nat_le, Bool, true, List, [], ◌∷◌, map, take, drop, length}
+use Rattle.std.specs.Prelude.{ℕ, ◌+◌, ◌&&◌, nat_le, Bool, true, List, [], ◌∷◌, map}
 use Rattle.squawk_events.specs.declared.steps.StrStep.{StrStep}
 use Rattle.squawk_events.specs.declared.steps.StrStep.TheVariants.{Enter, Token, Exit, Error}
 use Rattle.squawk_cut.specs.ChildValue.{ChildValue, child_tree}
-use Rattle.squawk_tree.specs.Join.{ChildTree, join}
+use Rattle.squawk_tree.specs.Join.{join}
 use Rattle.squawk_tree.specs.Tree.{Tree}
 
 -- the length of children in bytes
@@ -28,11 +28,3 @@ step_within len (Error number at) = nat_le at len
 abbrev pub steps_within : ℕ → List StrStep → Bool
 steps_within len [] = true
 steps_within len (x ∷ xs) = step_within len x && steps_within len xs
-
--- the only child of a tree: its steps between the first and the last
-abbrev pub only_child : Tree → ChildTree
-only_child t = record {
-  steps = take (length t.steps - 1 - 1) (drop 1 t.steps);
-  errors = t.errors;
-  len = t.len;
-}

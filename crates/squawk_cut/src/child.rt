@@ -1,12 +1,11 @@
 //! Children of the root.
 ghost use Rattle.std.specs.Prelude.{◌≡◌, length, IfOk, IfErr};
-ghost use Rattle.squawk_cut.specs.ChildValue.{IsChild, child_value, child_of_tree};
+ghost use Rattle.squawk_cut.specs.ChildValue.{IsChild, child_of_tree};
 ghost use Rattle.squawk_events.specs.Refusals.{IsOutOfMemory};
 ghost use Rattle.squawk_tree.specs.Steps.{root_children};
 
 use squawk_events::{FrontError, ParseError, StrStep};
 use squawk_kinds::SyntaxKind;
-use squawk_statements::ChildShape;
 use squawk_tree::Parse;
 use std::alloc::Global;
 use std::marker::Model;
@@ -50,28 +49,6 @@ impl Model for Child {
 }
 
 impl Child {
-    // The child of this shape, with this length, these steps and these errors.
-    pub(crate) fn new(
-        shape: ChildShape,
-        bytes: u32,
-        steps: Vec<StrStep>,
-        errors: Vec<ParseError>,
-    ) -> Child
-        requires { IsChild (child_value shape
-            (record { steps = steps.items; errors = errors.items; len = bytes })) }
-        ensures { result ≡ child_value shape
-            (record { steps = steps.items; errors = errors.items; len = bytes }) }
-    {
-        Child {
-            tokens: shape.tokens,
-            bytes,
-            node: shape.node,
-            closed: shape.closed,
-            steps,
-            errors,
-        }
-    }
-
     /// The only root child of a tree: the steps and errors of `parse` without its root. `closed` says
     /// whether no later token can belong to it. The only error is `OutOfMemory`.
     ///

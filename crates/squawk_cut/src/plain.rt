@@ -1,9 +1,7 @@
 //! The plain front: the tokens of the lexer, and the division into statements.
 ghost use Rattle.std.specs.Prelude.{◌≡◌, ◌<◌, ◌≤◌, ◌^◌, length, drop, map, take, IfOk, IfErr};
 ghost use Rattle.std.specs.Str.{IsCharBoundary};
-ghost use Rattle.squawk_cut.specs.ChildValue.{IsChild, child_value};
 ghost use Rattle.squawk_cut.specs.Children.{text_tokens};
-ghost use Rattle.squawk_cut.specs.Join.{only_child};
 ghost use Rattle.squawk_cut.specs.PlainTells.{lexed_of, kinds_of, plain_child, plain_tells};
 ghost use Rattle.squawk_cut.specs.Tells.{IsLawful, next_count};
 ghost use Rattle.squawk_events.specs.Refusals.{IsOutOfMemory};
@@ -88,19 +86,6 @@ fn parse_own(
     }
 }
 
-// The only child of a parse, which has this shape.
-fn only_child(alloc: Global, parse: &Parse, shape: ChildShape) -> Result<Child, FrontError>
-    requires some { 2 ≤ length parse.now.steps }
-    requires child { IsChild (child_value shape (only_child parse.now)) }
-    ensures child { IfOk result (λ child. child ≡ child_value shape (only_child parse.now)) }
-    ensures refusals { IfErr result IsOutOfMemory }
-{
-    let steps = parse.steps();
-    let steps = steps[1..steps.len() - 1].to_vec(alloc)?;
-    let errors = parse.errors().to_vec(alloc)?;
-    Ok(Child::new(shape, parse.len(), steps, errors))
-}
-
 // The first child of these tokens, the first of which begins at `at`.
 fn first_child(
     alloc: Global,
@@ -123,7 +108,7 @@ fn first_child(
     children_are_trees();
     let shape = first_shape(alloc, text, at, tokens, division)?;
     let parse = parse_own(alloc, text, at, &tokens[..shape.tokens], division)?;
-    only_child(alloc, &parse, shape)
+    Child::from_parse(alloc, &parse, shape.closed)
 }
 
 // The number of steps after one more.

@@ -13,12 +13,12 @@ parse_own-requires-clause-laid c =
     take_laid c.args.text.now c.args.at c.in_ok-shape.shape.tokens c.args.tokens.now
     c.requires.laid
 
-pub only_child-requires-clause-child : goal.only_child-requires-clause-child
-only_child-requires-clause-child c =
+pub from_parse-requires-clause-one : goal.from_parse-requires-clause-one
+from_parse-requires-clause-one c =
     (first_of_tokens c.children_stand_alone.ensures c.children_are_trees.ensures
     c.cut_tokens_are_sound.ensures c.args.division c.args.text.now c.args.at c.args.tokens.now
     c.in_ok-shape.shape c.in_ok-parse.parse c.requires.some c.requires.cut
-    c.in_ok-shape.ensures.within c.in_ok-shape.ensures.shape c.in_ok-parse.ensures.tree).child
+    c.in_ok-shape.ensures.within c.in_ok-shape.ensures.shape c.in_ok-parse.ensures.tree).one
 
 pub returns-clause-child : goal.returns-clause-child
 returns-clause-child c =
@@ -26,5 +26,5 @@ returns-clause-child c =
     c.cut_tokens_are_sound.ensures c.args.division c.args.text.now c.args.at c.args.tokens.now
     c.in_ok-shape.shape c.in_ok-parse.parse c.requires.some c.requires.cut
     c.in_ok-shape.ensures.within c.in_ok-shape.ensures.shape c.in_ok-parse.ensures.tree in
-    subst (λ (value : ChildValue). IfOk c.only_child.result (λ child. child ≡ value)) first.value
-    c.only_child.ensures.child
+    subst (λ (value : ChildValue). IfOk c.from_parse.result (λ child. child ≡ value)) first.value
+    c.from_parse.ensures.child
