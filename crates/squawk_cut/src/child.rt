@@ -49,10 +49,10 @@ impl Model for Child {
 }
 
 impl Child {
-    /// The only root child of a tree: the steps and errors of `parse` without its root. `closed` says
-    /// whether no later token can belong to it. The only error is `OutOfMemory`.
+    /// The only root child of a tree: all of its steps but those of the root, and its errors. `closed`
+    /// says whether no later token can belong to it. The only error is `OutOfMemory`.
     ///
-    /// The root of `parse` must have exactly one child. Its offsets are those of the tree.
+    /// The root of `parse` must have exactly one child.
     pub fn from_parse(alloc: Global, parse: &Parse, closed: bool) -> Result<Child, FrontError>
         requires one { length (root_children parse.now.steps) ≡ 1 }
         ensures child { IfOk result (λ child. child ≡ child_of_tree parse.now closed) }

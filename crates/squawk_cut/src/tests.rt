@@ -8,7 +8,7 @@ use crate::{
 };
 use squawk_events::LIMIT;
 use squawk_kinds::SyntaxKind;
-use squawk_tree::parse_divided;
+use squawk_tree::{parse_divided, parse_source};
 use std::alloc::{AllocError, Global};
 use std::test::Fail;
 
@@ -265,6 +265,63 @@ fn children_of_texts(rt: HostRuntime) -> Result<(), Fail> {
             .ok_or(row.name)?;
         let lines = render_all(rt.alloc(), &children, row.text)?;
         assert_eq!(rt; lines.as_str(), row.lines, "{}", row.name);
+    }
+    Ok(())
+}
+
+// The only child of a text, read as closed or open; `BadRange` where it has none or several.
+fn only_child(alloc: Global, text: &str, closed: bool) -> Result<Child, FrontError> {
+    let parse = parse_source(alloc, text)?;
+    if parse.children().len() != 1 {
+        return Err(FrontError::BadRange);
+    }
+    Child::from_parse(alloc, &parse, closed)
+}
+
+// Each row: the text, whether its child is closed, and the child.
+const ONLY_CHILDREN: &[(&str, bool, &str)] = &[
+    (
+        "bar 'x",
+        false,
+        "0: 3 tokens, 6 bytes, error, open\n\
+            + error\n\
+            \"bar\" identifier 0..3\n\
+            \" \" whitespace 3..4\n\
+            \"'x\" string literal 4..6\n\
+            -\n\
+            E 0..3 10\n\
+            E 4..6 3\n",
+    ),
+    (
+        "select(1)",
+        true,
+        "0: 4 tokens, 9 bytes, select, closed\n\
+            + select\n\
+            \"select\" `select` 0..6\n\
+            + paren expr\n\
+            \"(\" `(` 6..7\n\
+            \"1\" integer literal 7..8\n\
+            \")\" `)` 8..9\n\
+            -\n\
+            -\n",
+    ),
+    (
+        "-- x",
+        true,
+        "0: 1 tokens, 4 bytes, leaf, closed\n\
+            \"-- x\" comment 0..4\n",
+    ),
+];
+
+#[test]
+fn only_children(rt: HostRuntime) -> Result<(), Fail> {
+    for row in ONLY_CHILDREN {
+        let child = only_child(rt.alloc(), row.0, row.1).ok().ok_or(row.0)?;
+        let lines = render(rt.alloc(), &child, row.0, 0)?;
+        assert_eq!(rt; lines.as_str(), row.2, "{}", row.0);
+    }
+    for text in ["", "; ;"] {
+        assert!(rt; only_child(rt.alloc(), text, true).is_err(), "{text}");
     }
     Ok(())
 }

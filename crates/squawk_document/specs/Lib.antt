@@ -10,3 +10,5 @@ pub mod FrontPart
 pub mod Recut
 pub mod TokenEdit
 pub mod ChildEdit
+-- what a front of the tests tells
+pub mod TokenFront

@@ -1,9 +1,24 @@
-//! Documents over a front of the tests' own.
-ghost use Rattle.std.specs.Prelude.{◌≡◌};
+//! Documents over fronts of the tests' own.
+ghost use Rattle.std.specs.Prelude.{◌≡◌, ◌<◌, ◌^◌, length, drop, take, IfOk, IfErr};
+ghost use Rattle.std.specs.Str.{IsCharBoundary};
+ghost use Rattle.squawk_cut.specs.Children.{text_tokens};
+ghost use Rattle.squawk_cut.specs.Tells.{IsLawful, next_count};
+ghost use Rattle.squawk_document.specs.TokenFront.{token_child, token_tells};
+ghost use Rattle.squawk_events.specs.Refusals.{IsOutOfMemory};
+ghost use Rattle.squawk_lexed.specs.LexedText.{EndAtBoundaries};
+ghost use Rattle.squawk_lexer.specs.Flags.{AreCut};
+ghost use Rattle.std.proofs.Props.{props};
 
-use super::same_document;
+use super::rows::render;
+use super::{same_document, sums};
 use crate::{Document, FrontError};
 use squawk_cut::{Child, Division, Front, PlainFront, Strings, Token};
+use squawk_lexed::LexedStr;
+use squawk_lexer::cut_at_in;
+use squawk_lexer::laws::{tokens_look_ahead, tokens_progress};
+use squawk_statements::PlainGrammar;
+use squawk_tree::laws::parses_are_trees;
+use squawk_tree::parse_lexed;
 use std::alloc::Global;
 use std::test::Fail;
 
@@ -111,5 +126,142 @@ fn failed_parses_change_nothing(rt: HostRuntime) -> Result<(), Fail> {
         }
     }
     assert_eq!(rt; failures, 7);
+    Ok(())
+}
+
+// A front whose children are single tokens, each of them closed.
+#[derive(Drop)]
+struct TokenFront {
+    steps: u64,
+    ghost lawful: { IsLawful token_tells } by { Prim.hlevel props },
+}
+
+fn token_front() -> TokenFront {
+    tokens_progress();
+    tokens_look_ahead();
+    TokenFront { steps: 0 }
+}
+
+// The number of steps after one more.
+fn next_step(steps: u64) -> u64
+    ensures { result ≡ next_count steps }
+{
+    steps.saturating_add(1)
+}
+
+// The first of these tokens, which begins at `at`, as a closed child.
+fn first_token(
+    alloc: Global,
+    text: &str,
+    at: usize,
+    tokens: &[Token],
+) -> Result<Child, FrontError>
+    requires small { length text.now < 2 ^ 32 }
+    requires some { 0 < length tokens.now }
+    requires boundary { IsCharBoundary text.now at }
+    requires cut { AreCut (take 1 tokens.now) }
+    requires laid { EndAtBoundaries text.now at (take 1 tokens.now) }
+    ensures child { IfOk result (λ child.
+        child ≡ token_child (text_tokens (drop at text.now) tokens.now)) }
+    ensures refusals { IfErr result IsOutOfMemory }
+{
+    parses_are_trees();
+    let lexed = LexedStr::from_tokens(alloc, text, at, &tokens[..1])?;
+    let parse = parse_lexed(alloc, &lexed, &PlainGrammar)?;
+    Child::from_parse(alloc, &parse, true)
+}
+
+impl Front for TokenFront {
+    ghost use Rattle.squawk_document.specs.TokenFront.{token_tells};
+
+    ghost tells = { λ s. token_tells };
+
+    ghost count = { λ s. s.steps };
+
+    ghost lawful = { λ s. s.lawful };
+
+    fn cut_next(&mut self, text: &str, at: usize) -> Token {
+        self.steps = next_step(self.steps);
+        cut_at_in(text, at, Strings::Standard)
+    }
+
+    fn parse_next(
+        &mut self,
+        alloc: Global,
+        text: &str,
+        at: usize,
+        tokens: &[Token],
+    ) -> Result<Child, FrontError> {
+        self.steps = next_step(self.steps);
+        tokens_progress();
+        first_token(alloc, text, at, tokens)
+    }
+
+    fn steps(&self) -> u64 {
+        self.steps
+    }
+}
+
+struct Row<'a> {
+    name: &'a str,
+    start: usize,
+    end: usize,
+    new: &'a str,
+    counts: &'a str,
+    lines: &'a str,
+}
+
+// The edits of a document of `select a, 'b' -- c`, one after the other.
+const EDITS: &[Row<'static>] = &[
+    Row {
+        name: "a word grows",
+        start: 8,
+        end: 8,
+        new: "x",
+        counts: "tokens 1+2+5 children 1+2+5",
+        lines: "+ select\n\"select\" `select`\n+ leaf\n\" \" whitespace\n\
+            + error\n\"ax\" identifier\n+ error\n\",\" `,`\n+ leaf\n\" \" whitespace\n\
+            + error\n\"'b'\" string literal\n+ leaf\n\" \" whitespace\n\
+            + leaf\n\"-- c\" comment\n",
+    },
+    Row {
+        name: "a string loses its end",
+        start: 13,
+        end: 14,
+        new: "",
+        counts: "tokens 5+1+0 children 5+1+0",
+        lines: "+ select\n\"select\" `select`\n+ leaf\n\" \" whitespace\n\
+            + error\n\"ax\" identifier\n+ error\n\",\" `,`\n+ leaf\n\" \" whitespace\n\
+            + error\n\"'b -- c\" string literal\n",
+    },
+    Row {
+        name: "a group begins",
+        start: 0,
+        end: 6,
+        new: "(",
+        counts: "tokens 0+1+5 children 0+1+5",
+        lines: "+ paren select\n\"(\" `(`\n+ leaf\n\" \" whitespace\n\
+            + error\n\"ax\" identifier\n+ error\n\",\" `,`\n+ leaf\n\" \" whitespace\n\
+            + error\n\"'b -- c\" string literal\n",
+    },
+];
+
+#[test]
+fn children_of_single_tokens(rt: HostRuntime) -> Result<(), Fail> {
+    let text = "select a, 'b' -- c";
+    let mut document = Document::new(rt.alloc(), token_front(), text)
+        .ok()
+        .ok_or("no memory")?;
+    assert_eq!(rt; document.children().len(), 8);
+    assert_eq!(rt; document.front().steps(), 16);
+    for row in EDITS {
+        let edited = document.edit(row.start, row.end, row.new);
+        let counts = sums(rt.alloc(), edited.ok().ok_or(row.name)?)?;
+        assert_eq!(rt; counts.as_str(), row.counts, "{}", row.name);
+        let lines = render(rt.alloc(), &document)?;
+        assert_eq!(rt; lines.as_str(), row.lines, "{}", row.name);
+        let fresh = Document::new(rt.alloc(), token_front(), document.text());
+        assert!(rt; same_document(&document, &fresh.ok().ok_or(row.name)?), "{}", row.name);
+    }
     Ok(())
 }

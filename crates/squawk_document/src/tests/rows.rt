@@ -32,7 +32,7 @@ fn render_child(
 }
 
 // The children of a document, in order.
-fn render<F: Front>(alloc: Global, document: &Document<F>) -> Result<String, AllocError> {
+pub(crate) fn render<F: Front>(alloc: Global, document: &Document<F>) -> Result<String, AllocError> {
     let mut lines = String::new(alloc);
     let mut at = 0usize;
     for child in document.children() {
