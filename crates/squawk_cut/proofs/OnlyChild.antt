@@ -1,5 +1,5 @@
 -- The only child of a parse of the tokens of a first child.
-use Rattle.std.proofs.Common.{◌≡◌, ℕ, zero, suc, ◌+◌, ◌-◌, ◌<◌, ◌≤◌, true, List, [], ◌∷◌, ◌++◌, length, length-append, take, drop, map, refl, sym, ap, subst, ◌∙◌, arith}
+use Rattle.std.proofs.Common.{◌≡◌, ℕ, zero, suc, ◌+◌, ◌<◌, ◌≤◌, true, List, [], ◌∷◌, ◌++◌, length, take, drop, map, refl, sym, ap, subst, ◌∙◌, arith}
 use Rattle.std.proofs.lemmas.List.{append-nil, length-map, length-take-le, take-map}
 use Rattle.std.specs.Prelude.{Bool, Option}
 use Rattle.squawk_cut.specs.ChildValue.{child_of_tree, steps_in_root}
@@ -75,11 +75,11 @@ join_of_one child =
     around xs es n = alone_in_tree (record { steps = xs; errors = es; len = n })
 
 -- a child alone in a tree is the only child of that tree
-only_of_alone : (child : ChildTree) (closed : Bool) (count : ℕ) (node : Option ℕ)
-    → length (leaves child.steps) ≡ count → node_of_steps child.steps ≡ node
+only_of_alone : (child : ChildTree) (closed : Bool) (count : ℕ) (kind : Option ℕ)
+    → length (leaves child.steps) ≡ count → node_of_steps child.steps ≡ kind
     → child_of_tree (alone_in_tree child) closed
-    ≡ child_by count child.len node closed child.steps child.errors
-only_of_alone child closed count node count_is node_is =
+    ≡ child_by count child.len kind closed child.steps child.errors
+only_of_alone child closed count kind count_is node_is =
     let all = Enter SOURCE_FILE ∷ child.steps ++ Exit ∷ [] in
     let own : steps_in_root all ≡ child.steps = inside SOURCE_FILE child.steps in
     ap (λ n. child_by n child.len (node_of_steps (steps_in_root all)) closed (steps_in_root all)
@@ -106,9 +106,9 @@ own_same d xs =
 
 -- the parse has one root child, which is the first child of tokens
 pub record IsFirst (d : Division) (xs : List TextToken) (closed : Bool) (parse : Tree) : Type 0
-    where
-  pub one : length (root_children parse.steps) ≡ 1
-  pub value : child_of_tree parse closed ≡ plain_child d xs
+  where
+    pub one : length (root_children parse.steps) ≡ 1
+    pub value : child_of_tree parse closed ≡ plain_child d xs
 
 -- the parse of the tokens of a first child is that child under a root
 first_by : ChildrenStandAlone → ChildrenAreTrees

@@ -13,12 +13,13 @@ parse_own-requires-clause-laid c =
     take_laid c.args.text.now c.args.at c.in_ok-shape.shape.tokens c.args.tokens.now
     c.requires.laid
 
-pub from_parse-requires-clause-one : goal.from_parse-requires-clause-one
-from_parse-requires-clause-one c =
-    (first_of_tokens c.children_stand_alone.ensures c.children_are_trees.ensures
-    c.cut_tokens_are_sound.ensures c.args.division c.args.text.now c.args.at c.args.tokens.now
-    c.in_ok-shape.shape c.in_ok-parse.parse c.requires.some c.requires.cut
-    c.in_ok-shape.ensures.within c.in_ok-shape.ensures.shape c.in_ok-parse.ensures.tree).one
+pub from_parse-requires : goal.from_parse-requires
+from_parse-requires c = record {
+  one = (first_of_tokens c.children_stand_alone.ensures c.children_are_trees.ensures
+      c.cut_tokens_are_sound.ensures c.args.division c.args.text.now c.args.at c.args.tokens.now
+      c.in_ok-shape.shape c.in_ok-parse.parse c.requires.some c.requires.cut
+      c.in_ok-shape.ensures.within c.in_ok-shape.ensures.shape c.in_ok-parse.ensures.tree).one;
+}
 
 pub returns-clause-child : goal.returns-clause-child
 returns-clause-child c =
