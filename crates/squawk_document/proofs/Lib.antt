@@ -12,3 +12,4 @@ pub mod ParseSteps
 pub mod ChildFrontSteps
 pub mod ChildEditSteps
 mod ReplaceSteps
+mod TokenFrontLemmas
