@@ -49,7 +49,7 @@ impl Model for Child {
 }
 
 impl Child {
-    /// The only root child of a tree: all of its steps but those of the root, and its errors. `closed`
+    /// The only root child of a tree: its steps without those of the root, and its errors. `closed`
     /// says whether no later token can belong to it. The only error is `OutOfMemory`.
     ///
     /// The root of `parse` must have exactly one child.

@@ -1,5 +1,5 @@
 -- The front of the tests whose children are single tokens.
-use Rattle.std.proofs.Common.{◌≡◌, ℕ, suc, ◌+◌, ◌-◌, ◌<◌, ◌≤◌, Bool, true, List, [], ◌∷◌, length, take, drop, refl, sym, ap, subst, ◌∙◌, arith}
+use Rattle.std.proofs.Common.{◌≡◌, ℕ, ◌+◌, ◌-◌, ◌<◌, ◌≤◌, Bool, true, List, [], ◌∷◌, length, take, drop, refl, sym, ap, subst, ◌∙◌, arith}
 use Rattle.std.proofs.Math.Utf8.{encodes}
 use Rattle.std.proofs.lemmas.Str.{encodes-chars, IsCharBoundary-from_rest}
 use Rattle.std.specs.List.{slice_range}
@@ -7,7 +7,6 @@ use Rattle.std.specs.Str.{chars, IsUtf8, IsCharBoundary}
 use Rattle.squawk_cut.specs.ChildValue.{ChildValue, child_of_tree}
 use Rattle.squawk_cut.specs.Children.{text_tokens}
 use Rattle.squawk_cut.specs.PlainTells.{lexed_of}
-use Rattle.squawk_cut.specs.Tells.{TextToken}
 use Rattle.squawk_cut.specs.Tokens.{tokens_from}
 use Rattle.squawk_document.specs.TokenFront.{token_child, token_tells}
 use Rattle.squawk_events.specs.declared.steps.StrStep.{StrStep}

@@ -1,6 +1,6 @@
 -- What a front of the tests tells: the tokens of the lexer, each of which is a closed child. A law
 -- of the trait `Front` may cite definitions alone, so its proof stands here.
-use Rattle.std.proofs.Common.{◌≡◌, ◌<◌, ◌≤◌, true, List, [], ◌∷◌, ◌++◌, length, map, take, refl, sym, arith}
+use Rattle.std.proofs.Common.{◌≡◌, true, List, [], ◌∷◌, ◌++◌, length, map, take, refl, sym, arith}
 use Rattle.std.specs.Str.{chars}
 use Rattle.squawk_cut.specs.ChildValue.{ChildValue, child_of_tree}
 use Rattle.squawk_cut.specs.PlainTells.{lexed_of}

@@ -150,12 +150,7 @@ fn next_step(steps: u64) -> u64
 }
 
 // The first of these tokens, which begins at `at`, as a closed child.
-fn first_token(
-    alloc: Global,
-    text: &str,
-    at: usize,
-    tokens: &[Token],
-) -> Result<Child, FrontError>
+fn first_token(alloc: Global, text: &str, at: usize, tokens: &[Token]) -> Result<Child, FrontError>
     requires small { length text.now < 2 ^ 32 }
     requires some { 0 < length tokens.now }
     requires boundary { IsCharBoundary text.now at }
@@ -261,7 +256,11 @@ fn children_of_single_tokens(rt: HostRuntime) -> Result<(), Fail> {
         let lines = render(rt.alloc(), &document)?;
         assert_eq!(rt; lines.as_str(), row.lines, "{}", row.name);
         let fresh = Document::new(rt.alloc(), token_front(), document.text());
-        assert!(rt; same_document(&document, &fresh.ok().ok_or(row.name)?), "{}", row.name);
+        assert!(rt;
+            same_document(&document, &fresh.ok().ok_or(row.name)?),
+            "{}",
+            row.name
+        );
     }
     Ok(())
 }

@@ -32,7 +32,10 @@ fn render_child(
 }
 
 // The children of a document, in order.
-pub(crate) fn render<F: Front>(alloc: Global, document: &Document<F>) -> Result<String, AllocError> {
+pub(crate) fn render<F: Front>(
+    alloc: Global,
+    document: &Document<F>,
+) -> Result<String, AllocError> {
     let mut lines = String::new(alloc);
     let mut at = 0usize;
     for child in document.children() {
