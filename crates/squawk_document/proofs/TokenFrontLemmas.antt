@@ -53,9 +53,10 @@ pub first_is_laid : TextsProgress → (start : Bool) (text : List ℕ) (at : ℕ
     → EndAtBoundaries text at (take 1 (tokens_from token_tells 0 start u))
 first_is_laid progress start text at [] is within utf8 some = absurd (omega (arith, some))
 first_is_laid progress start text at (b ∷ bs) is within utf8 some =
-    let len = (token_at Standard start (chars (b ∷ bs))).len in (
+    let len = (token_at Standard start (chars (b ∷ bs))).len in
+    let own = progress Standard start (b ∷ bs) utf8 some in (
       IsCharBoundary-from_rest text at len within
-          (subst (λ v. IsCharBoundary v len) (sym is) (progress Standard start (b ∷ bs) utf8 some).1),
+          (subst (λ v. IsCharBoundary v len) (sym is) own.1),
       tt,
     )
 
