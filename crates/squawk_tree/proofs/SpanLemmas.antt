@@ -3,33 +3,13 @@
 use Rattle.std.proofs.Common.{◌≡◌, ℕ, suc, zero, ◌<◌, ◌≤◌, true, List, [], ◌∷◌, ◌++◌, length, slice_set, take, drop, ◌+◌, ap, sym, ◌∙◌, refl, subst, append_assoc, arith}
 use Rattle.std.proofs.lemmas.List.{append-nil, set-append_left, set_at, length-set, length_push}
 use Rattle.std.proofs.lemmas.Bool.Decides.{nat_tests}
-use Rattle.squawk_tree.specs.Spans.{AreBelow, spans_after, open_nodes_after, offset_after}
+use Rattle.squawk_tree.specs.Spans.{AreBelow, spans_after, open_nodes_after, offset_after, closing, starts, open_count, whole}
 use Rattle.squawk_tree.specs.Steps.{closes, is_balanced}
 use Rattle.squawk_tree.specs.NodeRanges.{at_nodes, node_ranges, node_step_count}
 use Rattle.squawk_tree.specs.Ranges.{ranges_from, node_end}
 use Rattle.squawk_tree.proofs.NodeRangeLemmas.{node_count_split}
 use Rattle.squawk_events.specs.declared.steps.StrStep.{StrStep}
 use Rattle.squawk_events.specs.declared.steps.StrStep.TheVariants.{Enter, Token, Exit, Error}
-
--- the ranges, completed with the ends of the open nodes, the innermost first
-abbrev pub closing : List (ℕ × ℕ) → List (ℕ × ℕ) → (ℕ → ℕ) → List (ℕ × ℕ)
-closing spans [] end_at = spans
-closing spans (p ∷ ps) end_at = closing (slice_set spans p.0 (p.1, end_at 0)) ps (λ d.
-    end_at (suc d))
-
--- the offsets at which the open nodes begin
-abbrev pub starts : List (ℕ × ℕ) → List ℕ
-starts [] = []
-starts (p ∷ ps) = p.1 ∷ starts ps
-
--- the number of open nodes after the steps
-abbrev pub open_count : ℕ → List StrStep → ℕ
-open_count n [] = n
-open_count n (Enter kind ∷ xs) = open_count (suc n) xs
-open_count n (Token kind start end ∷ xs) = open_count n xs
-open_count zero (Exit ∷ xs) = open_count zero xs
-open_count (suc n) (Exit ∷ xs) = open_count n xs
-open_count n (Error number offset ∷ xs) = open_count n xs
 
 -- indices below a number are below any larger number
 pub are_below_le : (m n : ℕ) (ps : List (ℕ × ℕ)) → m ≤ n → AreBelow m ps → AreBelow n ps
@@ -56,11 +36,6 @@ push_one : (spans : List (ℕ × ℕ)) (ps : List (ℕ × ℕ)) (end_at : ℕ �
     → closing (spans ++ y ∷ []) ps end_at ++ rest ≡ closing spans ps end_at ++ (y ∷ rest)
 push_one spans ps end_at y rest h = ap (λ zs. zs ++ rest) (closing_push spans ps end_at (y ∷ []) h)
     ∙ append_assoc (closing spans ps end_at) (y ∷ []) rest
-
--- the ranges of all steps, by those that were read, the open nodes, and the remaining steps
-abbrev pub whole : List (ℕ × ℕ) → List (ℕ × ℕ) → ℕ → List StrStep → List (ℕ × ℕ)
-whole spans ps at xs = closing spans ps (λ d. node_end d at xs)
-    ++ at_nodes xs (ranges_from (starts ps) at xs)
 
 -- reading a step keeps: the ranges of all steps, the bound of the indices, the number of open nodes
 pub whole_step : (spans : List (ℕ × ℕ)) (ps : List (ℕ
@@ -155,7 +130,7 @@ so_far_start steps h = record {
 }
 
 -- a step adds a range if it is a step of a node
-spans_len : (spans ps : List (ℕ × ℕ)) (at : ℕ) (x : StrStep)
+pub spans_len : (spans ps : List (ℕ × ℕ)) (at : ℕ) (x : StrStep)
     → length (spans_after spans ps at x) ≡ length spans + node_step_count (x ∷ [])
 spans_len spans ps at (Enter kind) = length_push spans (at, at)
 spans_len spans ps at (Token kind start end) = omega arith

@@ -17,7 +17,7 @@ use Rattle.squawk_lexed.specs.Weave.{next_len}
 use Rattle.squawk_lexed.specs.declared.fault.Fault.{Fault}
 use Rattle.squawk_tree.specs.Errors.{error}
 use Rattle.squawk_tree.specs.Steps.{has_no_errors}
-use Rattle.squawk_tree.specs.Walk.{step_error, errors_before, errors_not_before, errors_by_step, covers, EndsBelow}
+use Rattle.squawk_tree.specs.Walk.{step_error, errors_before, errors_not_before, errors_by_step, covers, merged_errors, EndsBelow}
 
 -- a fault of a sound token begins before the end of the token and ends by it
 pub record InToken (len : ℕ) (f : Fault) : Type 0 where
@@ -153,30 +153,17 @@ rest_before n i ts le s =
     ap (errors_before n) (sym (append-nil rest)) ∙ errors_before_append n rest [] all
     ∙ append-nil rest
 
--- The errors of `Error` steps merged with lexical errors in their order, where the first of the
--- remaining tokens begins at an offset: those that begin before the offset stand before the error
--- of an `Error` step.
-abbrev pub merged_errors : ℕ → List LexedToken → List ParseError → List StrStep → List ParseError
-merged_errors at ts lexical [] = lexical
-merged_errors at ts lexical (Enter kind ∷ xs) = merged_errors at ts lexical xs
-merged_errors at ts lexical (Token kind start end ∷ xs) =
-    merged_errors (at + next_len ts) (drop 1 ts) lexical xs
-merged_errors at ts lexical (Exit ∷ xs) = merged_errors at ts lexical xs
-merged_errors at ts lexical (Error number offset ∷ xs) =
-    errors_before at lexical
-    ++ (step_error at ts number ++ merged_errors at ts (errors_not_before at lexical) xs)
-
 -- the merged errors of steps that contain all of the tokens are the lexical errors that were not
 -- appended before, and then the errors by step
-merged_from : (pending : List ParseError) (at : ℕ) (ts : List LexedToken) (xs : List StrStep)
+merged_with : (pending : List ParseError) (at : ℕ) (ts : List LexedToken) (xs : List StrStep)
     → all_before at pending ≡ true → covers at ts xs ≡ true → are_sound ts ≡ true
     → merged_errors at ts (pending ++ errors_of at ts) xs ≡ pending ++ errors_by_step at ts xs
-merged_from pending at [] [] before h s = refl
-merged_from pending at (t ∷ ts) [] before h s = absurd (cc)
-merged_from pending at ts (Enter kind ∷ xs) before h s = merged_from pending at ts xs before h s
-merged_from pending at ts (Exit ∷ xs) before h s = merged_from pending at ts xs before h s
-merged_from pending at [] (Token kind start end ∷ xs) before h s = absurd (cc)
-merged_from pending at (t ∷ ts) (Token kind start end ∷ xs) before h s =
+merged_with pending at [] [] before h s = refl
+merged_with pending at (t ∷ ts) [] before h s = absurd (cc)
+merged_with pending at ts (Enter kind ∷ xs) before h s = merged_with pending at ts xs before h s
+merged_with pending at ts (Exit ∷ xs) before h s = merged_with pending at ts xs before h s
+merged_with pending at [] (Token kind start end ∷ xs) before h s = absurd (cc)
+merged_with pending at (t ∷ ts) (Token kind start end ∷ xs) before h s =
     let parts = sound_parts t ts s in
     let own = errors_at at t.faults in
     let all = all_before_append (at + t.len) pending own
@@ -184,9 +171,9 @@ merged_from pending at (t ∷ ts) (Token kind start end ∷ xs) before h s =
     (faults_all_before at t.len t.faults parts.faults) in
     ap (λ es. merged_errors (at + t.len) ts es xs)
     (sym (append_assoc pending own (errors_of (at + t.len) ts)))
-    ∙ merged_from (pending ++ own) (at + t.len) ts xs all h parts.rest
+    ∙ merged_with (pending ++ own) (at + t.len) ts xs all h parts.rest
     ∙ append_assoc pending own (errors_by_step (at + t.len) ts xs)
-merged_from pending at ts (Error number offset ∷ xs) before h s =
+merged_with pending at ts (Error number offset ∷ xs) before h s =
     let rest = (and_parts (offset == at) (covers at ts xs) h).1 in
     let appended : errors_before at (pending ++ errors_of at ts) ≡ pending =
     errors_before_append at pending (errors_of at ts) before
@@ -195,11 +182,11 @@ merged_from pending at ts (Error number offset ∷ xs) before h s =
     errors_not_before_append at pending (errors_of at ts) before
     ∙ all_from at at ts (omega arith) in
     rw (appended, left) (ap (λ es. pending ++ (step_error at ts number ++ es))
-    (merged_from [] at ts xs refl rest s))
+    (merged_with [] at ts xs refl rest s))
 
 pub merged_is : (ts : List LexedToken) (xs : List StrStep) → covers 0 ts xs ≡ true
     → are_sound ts ≡ true → merged_errors 0 ts (errors_of 0 ts) xs ≡ errors_by_step 0 ts xs
-merged_is ts xs h s = merged_from [] 0 ts xs refl h s
+merged_is ts xs h s = merged_with [] 0 ts xs refl h s
 
 -- the merged errors of steps without an `Error` are the lexical errors
 pub merged_lexical : (at : ℕ) (ts : List LexedToken) (es : List ParseError) (xs : List StrStep)

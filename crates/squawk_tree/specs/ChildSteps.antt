@@ -6,14 +6,16 @@ use Rattle.squawk_events.specs.declared.steps.StrStep.{StrStep}
 use Rattle.squawk_events.specs.declared.steps.StrStep.TheVariants.{Enter, Token, Exit, Error}
 use Rattle.squawk_kinds.specs.Role.{Role, role, Trivia, Semicolon, Terminator, Command, Open, Close, Other}
 use Rattle.squawk_kinds.specs.declared.numbers.TheConstants.Number.{PAREN_EXPR, ERROR}
-use Rattle.squawk_lexed.specs.LexedText.{total_len}
+use Rattle.squawk_lexed.specs.LexedText.{token_start, total_len}
 use Rattle.squawk_lexed.specs.LexedToken.{LexedToken}
 use Rattle.squawk_lexed.specs.Weave.{kinds_without_trivia, weave}
 use Rattle.squawk_statements.specs.Children.{open_groups_after, trimmed_len}
+use Rattle.squawk_statements.specs.Plain.{plain}
 use Rattle.squawk_statements.specs.declared.division.Division.{Division}
 use Rattle.squawk_statements.specs.declared.first.ChildShape.{ChildShape}
 use Rattle.squawk_tree.specs.Join.{woven_child}
 use Rattle.squawk_tree.specs.ParseOf.{lexed_role, token_steps}
+use Rattle.squawk_tree.specs.declared.children.ChildSpan.{ChildSpan}
 
 -- the steps of the children of these tokens, the first of which begins at an offset
 abbrev pub woven_children : Division → ℕ → List (List LexedToken) → List StrStep
@@ -88,6 +90,25 @@ child_steps_by (Some node) closed at ts = node_steps node closed at ts
 -- the steps of a child of this shape and of these tokens, the first of which begins at an offset
 abbrev pub steps_of_shape : ChildShape → ℕ → List LexedToken → List StrStep
 steps_of_shape shape at ts = child_steps_by shape.node shape.closed at ts
+
+-- the `Error` step at the start of a child with this node
+abbrev pub child_error : ℕ → Option ℕ → List StrStep
+child_error at None = []
+child_error at (Some node) = unknown_error at node
+
+-- the steps of a text of these tokens: the root with its children
+abbrev pub child_weave : Division → List LexedToken → List StrStep
+child_weave d ts = weave ts (plain d (kinds_without_trivia ts))
+
+-- the child of this shape, whose first token and whose first step have these indices
+abbrev pub shape_span : List LexedToken → (from : ℕ) → ChildShape → (step : ℕ) → ChildSpan
+shape_span ts from shape step = record {
+  step = step;
+  tokens = shape.tokens;
+  start = token_start ts from;
+  end = token_start ts (from + shape.tokens);
+  node = shape.node;
+}
 
 -- the steps are the weave of these tokens and the lawful steps of a grammar
 pub record IsWeaveOf (ts : List LexedToken) (output : List Step) (steps : List StrStep) : Type 0 where

@@ -14,6 +14,7 @@ pub mod NodeRanges
 pub mod StepRangesModel
 pub mod Spans
 pub mod ChildPass
+pub mod Built
 pub mod Walk
 pub mod ChildSteps
 -- what the contracts of tests cite

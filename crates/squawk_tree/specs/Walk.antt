@@ -4,7 +4,8 @@ use Rattle.squawk_events.specs.declared.steps.ParseError.{ParseError}
 use Rattle.squawk_events.specs.declared.steps.StrStep.{StrStep}
 use Rattle.squawk_events.specs.declared.steps.StrStep.TheVariants.{Enter, Token, Exit, Error}
 use Rattle.squawk_lexed.specs.LexedToken.{LexedToken}
-use Rattle.squawk_lexed.specs.Stored.{errors_at}
+use Rattle.squawk_lexed.specs.LexedText.{token_start}
+use Rattle.squawk_lexed.specs.Stored.{errors_at, errors_of}
 use Rattle.squawk_lexed.specs.Weave.{next_len, is_empty}
 use Rattle.squawk_tree.specs.Errors.{error}
 
@@ -62,3 +63,22 @@ covers at (t ∷ ts) (Token kind start end ∷ xs) = covers (at + t.len) ts xs
 -- the error ends before a number
 abbrev pub EndsBelow : ℕ → ParseError → Type 0
 EndsBelow n e = e.end < n
+
+-- The errors of `Error` steps merged with lexical errors in their order, where the first of the
+-- remaining tokens begins at an offset: those that begin before the offset stand before the error
+-- of an `Error` step.
+abbrev pub merged_errors : ℕ → List LexedToken → List ParseError → List StrStep → List ParseError
+merged_errors at ts lexical [] = lexical
+merged_errors at ts lexical (Enter kind ∷ xs) = merged_errors at ts lexical xs
+merged_errors at ts lexical (Token kind start end ∷ xs) =
+    merged_errors (at + next_len ts) (drop 1 ts) lexical xs
+merged_errors at ts lexical (Exit ∷ xs) = merged_errors at ts lexical xs
+merged_errors at ts lexical (Error number offset ∷ xs) =
+    errors_before at lexical
+    ++ (step_error at ts number ++ merged_errors at ts (errors_not_before at lexical) xs)
+
+-- the merged errors of the steps that remain, by the indices of the next token and of the next
+-- lexical error
+abbrev pub merged_from : List LexedToken → (token error : ℕ) → List StrStep → List ParseError
+merged_from ts token error xs =
+    merged_errors (token_start ts token) (drop token ts) (drop error (errors_of 0 ts)) xs

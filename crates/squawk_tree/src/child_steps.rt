@@ -1,34 +1,46 @@
-//! The parse into statements: the steps of a text, child by child, without the steps of a grammar
-//! or a list of the kinds that are not trivia.
-ghost use Rattle.std.specs.Prelude.{◌≡◌, ◌≤◌, ◌<◌, ◌+◌, ◌-◌, ◌^◌, ◌++◌, if◌then◌else◌, length, map, take, slice_range, OnOk, IfOk, IfErr, IsTrue};
+//! The parse into statements, child by child: the steps of each child of the root are emitted with
+//! its trivia, without the steps of a grammar or a list of the kinds that are not trivia. What a
+//! tree keeps beside its steps is built with them.
+ghost use Rattle.std.specs.Prelude.{◌≡◌, ◌≤◌, ◌<◌, ◌+◌, ◌-◌, ◌^◌, ◌++◌, ◌∷◌, [], if◌then◌else◌, length, map, take, drop, slice_range, OnOk, IfOk, IfErr, IsTrue};
 ghost use Rattle.squawk_events.specs.Refusals.{IsOutOfMemory};
 ghost use Rattle.squawk_kinds.specs.Role.{role};
 ghost use Rattle.squawk_lexed.specs.LexedText.{are_sound, token_start};
-ghost use Rattle.squawk_lexed.specs.Weave.{kinds_without_trivia};
+ghost use Rattle.squawk_lexed.specs.Stored.{errors_of};
 ghost use Rattle.squawk_statements.specs.Children.{open_groups_after, trimmed_len};
 ghost use Rattle.squawk_statements.specs.Plain.{plain};
-ghost use Rattle.squawk_tree.specs.ChildSteps.{exit_steps, nested_steps, node_steps, steps_in_groups, steps_of_shape, unknown_error, IsWeaveOf};
+ghost use Rattle.squawk_tree.specs.Built.{IsBuilt};
+ghost use Rattle.squawk_tree.specs.ChildSpans.{child_spans};
+ghost use Rattle.squawk_tree.specs.ChildSteps.{child_weave, exit_steps, nested_steps, node_steps, shape_span, steps_in_groups, steps_of_shape};
 ghost use Rattle.squawk_tree.specs.ParseOf.{token_steps};
+ghost use Rattle.squawk_tree.specs.Parses.{ParsesTokens};
+ghost use Rattle.squawk_tree.specs.Steps.{without_errors};
+ghost use Rattle.squawk_tree.specs.Walk.{merged_errors};
 
-use crate::TreeSink;
-use squawk_events::{FrontError, StepSink, StrStep, is_trivia};
+use crate::builder::TreeBuilder;
+use crate::children::ChildSpan;
+use crate::errors::{Walk, push_child_errors, push_lexical_errors};
+use crate::parse::Parse;
+use crate::tables::children_with_room;
+use squawk_events::{FrontError, ParseError, StrStep, is_trivia};
 use squawk_kinds::SyntaxKind;
 use squawk_lexed::LexedStr;
 use squawk_statements::{ChildShape, Division, first_child_in};
 use std::alloc::Global;
 
-// The number of tokens for each `Enter` or `Exit` in most SQL is higher: room is reserved for one
-// such step for so many tokens.
-const TOKENS_PER_NODE_STEP: usize = 4;
+// In most SQL a child of the root has more tokens: room is reserved for one for so many.
+const TOKENS_PER_CHILD: usize = 8;
 
 // Emits an `Exit` for each of `groups` open groups.
-fn emit_exits(groups: usize, sink: &mut TreeSink) -> Result<(), FrontError>
-    ensures steps { OnOk result (sink.new.steps ≡ sink.old.steps ++ exit_steps groups) }
+fn emit_exits(groups: usize, tree: &mut TreeBuilder) -> Result<(), FrontError>
+    requires { IsBuilt tree.old }
+    ensures steps { OnOk result (tree.new.steps.items
+        ≡ tree.old.steps.items ++ exit_steps groups) }
+    ensures built { OnOk result (IsBuilt tree.new) }
     ensures refusals { IfErr result IsOutOfMemory }
 {
     let mut left = groups;
     while left > 0 {
-        sink.step(StrStep::Exit)?;
+        tree.push(StrStep::Exit)?;
         left -= 1;
     }
     Ok(())
@@ -42,30 +54,32 @@ fn emit_in_groups(
     groups: usize,
     kind: SyntaxKind,
     step: StrStep,
-    sink: &mut TreeSink,
+    tree: &mut TreeBuilder,
 ) -> Result<usize, FrontError>
-    requires { groups < 2 ^ 63 }
-    ensures steps { OnOk result (sink.new.steps
-        ≡ sink.old.steps ++ steps_in_groups groups (role kind) step) }
+    requires small { groups < 2 ^ 63 }
+    requires built { IsBuilt tree.old }
+    ensures steps { OnOk result (tree.new.steps.items
+        ≡ tree.old.steps.items ++ steps_in_groups groups (role kind) step) }
+    ensures built { OnOk result (IsBuilt tree.new) }
     ensures groups { IfOk result (λ n. n ≡ open_groups_after groups (role kind)) }
     ensures bound { IfOk result (λ n. n ≤ groups + 1) }
     ensures refusals { IfErr result IsOutOfMemory }
 {
     match kind {
         SyntaxKind::L_PAREN => {
-            sink.step(StrStep::Enter {
+            tree.push(StrStep::Enter {
                 kind: SyntaxKind::PAREN_EXPR,
             })?;
-            sink.step(step)?;
+            tree.push(step)?;
             Ok(groups + 1)
         }
         SyntaxKind::R_PAREN if groups > 0 => {
-            sink.step(step)?;
-            sink.step(StrStep::Exit)?;
+            tree.push(step)?;
+            tree.push(StrStep::Exit)?;
             Ok(groups - 1)
         }
         _ => {
-            sink.step(step)?;
+            tree.push(step)?;
             Ok(groups)
         }
     }
@@ -78,21 +92,23 @@ fn emit_nested(
     lexed: &LexedStr<'_>,
     from: usize,
     to: usize,
-    sink: &mut TreeSink,
+    tree: &mut TreeBuilder,
 ) -> Result<(), FrontError>
     requires ordered { from ≤ to }
     requires within { to ≤ length lexed.now.tokens }
-    ensures steps { OnOk result (sink.new.steps ≡ sink.old.steps
+    requires built { IsBuilt tree.old }
+    ensures steps { OnOk result (tree.new.steps.items ≡ tree.old.steps.items
         ++ nested_steps 0 (token_start lexed.now.tokens from)
         (slice_range lexed.now.tokens from to)) }
+    ensures built { OnOk result (IsBuilt tree.new) }
     ensures refusals { IfErr result IsOutOfMemory }
 {
     let kinds = lexed.kinds();
     let mut groups = 0;
     for i in from..to {
-        groups = emit_in_groups(groups, kinds[i], lexed.token_step(i), sink)?;
+        groups = emit_in_groups(groups, kinds[i], lexed.token_step(i), tree)?;
     }
-    emit_exits(groups, sink)
+    emit_exits(groups, tree)
 }
 
 // Emits the tokens from `from` up to `to`.
@@ -100,17 +116,19 @@ fn emit_tokens(
     lexed: &LexedStr<'_>,
     from: usize,
     to: usize,
-    sink: &mut TreeSink,
+    tree: &mut TreeBuilder,
 ) -> Result<(), FrontError>
     requires ordered { from ≤ to }
     requires within { to ≤ length lexed.now.tokens }
-    ensures steps { OnOk result (sink.new.steps ≡ sink.old.steps
+    requires built { IsBuilt tree.old }
+    ensures steps { OnOk result (tree.new.steps.items ≡ tree.old.steps.items
         ++ token_steps (token_start lexed.now.tokens from)
         (slice_range lexed.now.tokens from to)) }
+    ensures built { OnOk result (IsBuilt tree.new) }
     ensures refusals { IfErr result IsOutOfMemory }
 {
     for i in from..to {
-        sink.step(lexed.token_step(i))?;
+        tree.push(lexed.token_step(i))?;
     }
     Ok(())
 }
@@ -130,27 +148,6 @@ fn body_len(kinds: &[SyntaxKind], closed: bool) -> usize
     len
 }
 
-// Emits the error of an unknown statement if the node is `ERROR`.
-fn emit_unknown_error(
-    lexed: &LexedStr<'_>,
-    from: usize,
-    node: SyntaxKind,
-    sink: &mut TreeSink,
-) -> Result<(), FrontError>
-    requires { from < length lexed.now.tokens }
-    ensures steps { OnOk result (sink.new.steps
-        ≡ sink.old.steps ++ unknown_error (token_start lexed.now.tokens from) node) }
-    ensures refusals { IfErr result IsOutOfMemory }
-{
-    if node == SyntaxKind::ERROR {
-        // The length bounds the offsets.
-        let _ = lexed.len();
-        let at = lexed.text_start(from) as u32;
-        sink.step(StrStep::Error { number: 10, at })?;
-    }
-    Ok(())
-}
-
 // Emits a node of this kind with the tokens from `from` up to `to`. Groups that are open at its end
 // end before the token that ends the statement and the trivia before it.
 #[tactic(auto, using(crate::proofs::ChildTokenLemmas::kinds_len))]
@@ -160,22 +157,23 @@ fn emit_node(
     to: usize,
     shape: ChildShape,
     node: SyntaxKind,
-    sink: &mut TreeSink,
+    tree: &mut TreeBuilder,
 ) -> Result<(), FrontError>
     requires ordered { from < to }
     requires within { to ≤ length lexed.now.tokens }
-    ensures steps { OnOk result (sink.new.steps ≡ sink.old.steps
-        ++ node_steps node shape.closed (token_start lexed.now.tokens from)
-        (slice_range lexed.now.tokens from to)) }
+    requires built { IsBuilt tree.old }
+    ensures steps { OnOk result (tree.new.steps.items ≡ tree.old.steps.items
+        ++ without_errors (node_steps node shape.closed (token_start lexed.now.tokens from)
+        (slice_range lexed.now.tokens from to))) }
+    ensures built { OnOk result (IsBuilt tree.new) }
     ensures refusals { IfErr result IsOutOfMemory }
 {
     let kinds = lexed.kinds();
     let body_end = from + body_len(&kinds[from..to], shape.closed);
-    sink.step(StrStep::Enter { kind: node })?;
-    emit_unknown_error(lexed, from, node, sink)?;
-    emit_nested(lexed, from, body_end, sink)?;
-    emit_tokens(lexed, body_end, to, sink)?;
-    sink.step(StrStep::Exit)?;
+    tree.push(StrStep::Enter { kind: node })?;
+    emit_nested(lexed, from, body_end, tree)?;
+    emit_tokens(lexed, body_end, to, tree)?;
+    tree.push(StrStep::Exit)?;
     Ok(())
 }
 
@@ -185,48 +183,106 @@ fn emit_child(
     from: usize,
     to: usize,
     shape: ChildShape,
-    sink: &mut TreeSink,
+    tree: &mut TreeBuilder,
 ) -> Result<(), FrontError>
     requires ordered { from < to }
     requires within { to ≤ length lexed.now.tokens }
-    ensures steps { OnOk result (sink.new.steps ≡ sink.old.steps
-        ++ steps_of_shape shape (token_start lexed.now.tokens from)
-        (slice_range lexed.now.tokens from to)) }
+    requires built { IsBuilt tree.old }
+    ensures steps { OnOk result (tree.new.steps.items ≡ tree.old.steps.items
+        ++ without_errors (steps_of_shape shape (token_start lexed.now.tokens from)
+        (slice_range lexed.now.tokens from to))) }
+    ensures built { OnOk result (IsBuilt tree.new) }
     ensures refusals { IfErr result IsOutOfMemory }
 {
     match shape.node {
-        None => emit_tokens(lexed, from, to, sink),
-        Some(node) => emit_node(lexed, from, to, shape, node, sink),
+        None => emit_tokens(lexed, from, to, tree),
+        Some(node) => emit_node(lexed, from, to, shape, node, tree),
     }
 }
 
-// The steps of a text that is divided into statements, `Error` steps among them: the steps of the
-// plain grammar with the trivia between them.
-#[tactic(auto, using(crate::proofs::ChildTokenLemmas::kinds_len))]
-pub(crate) fn statement_steps(
-    alloc: Global,
+// Appends the child of this shape whose first token is that at `from`, and whose first step is that
+// at `step`.
+fn push_child(
+    children: &mut Vec<ChildSpan>,
     lexed: &LexedStr<'_>,
-    division: Division,
-) -> Result<TreeSink, FrontError>
-    ensures steps { IfOk result (λ sink. IsWeaveOf lexed.now.tokens
-        (plain division (kinds_without_trivia lexed.now.tokens)) sink.steps) }
-    ensures sound { IsTrue (are_sound lexed.now.tokens) }
+    from: usize,
+    shape: &ChildShape,
+    step: usize,
+) -> Result<(), FrontError>
+    requires { from + shape.now.tokens ≤ length lexed.now.tokens }
+    ensures children { OnOk result (children.new.items
+        ≡ children.old.items ++ shape_span lexed.now.tokens from shape.now step ∷ []) }
     ensures refusals { IfErr result IsOutOfMemory }
 {
-    let count = lexed.len();
-    let room = count.saturating_add(count / TOKENS_PER_NODE_STEP);
-    let mut sink = TreeSink::with_room(alloc, room);
-    sink.step(StrStep::Enter {
+    // The length bounds the offsets.
+    let _ = lexed.len();
+    children.push(ChildSpan {
+        step,
+        tokens: shape.tokens,
+        start: lexed.text_start(from) as u32,
+        end: lexed.text_start(from + shape.tokens) as u32,
+        node: shape.node,
+    })?;
+    Ok(())
+}
+
+// Emits the steps of a text that is divided into statements, and appends the children of the root
+// and the errors up to the last unknown statement. Returns the index of the next lexical error.
+#[tactic(auto, using(crate::proofs::ChildTokenLemmas::kinds_len))]
+fn emit_children(
+    lexed: &LexedStr<'_>,
+    division: Division,
+    tree: &mut TreeBuilder,
+    children: &mut Vec<ChildSpan>,
+    errors: &mut Vec<ParseError>,
+) -> Result<usize, FrontError>
+    requires built { IsBuilt tree.old }
+    requires no_steps { tree.old.steps.items ≡ [] }
+    requires no_children { children.old.items ≡ [] }
+    requires no_errors { errors.old.items ≡ [] }
+    ensures steps { OnOk result (tree.new.steps.items
+        ≡ without_errors (child_weave division lexed.now.tokens)) }
+    ensures built { OnOk result (IsBuilt tree.new) }
+    ensures children { OnOk result (children.new.items ≡ child_spans tree.new.steps.items) }
+    ensures errors { IfOk result (λ next. errors.new.items
+        ++ drop next (errors_of 0 lexed.now.tokens)
+        ≡ merged_errors 0 lexed.now.tokens (errors_of 0 lexed.now.tokens)
+        (child_weave division lexed.now.tokens)) }
+    ensures within { IfOk result (λ next. next ≤ length (errors_of 0 lexed.now.tokens)) }
+    ensures refusals { IfErr result IsOutOfMemory }
+{
+    tree.push(StrStep::Enter {
         kind: SyntaxKind::SOURCE_FILE,
     })?;
     let kinds = lexed.kinds();
-    let mut at = 0;
+    let (mut at, mut error) = (0, 0);
     while at < kinds.len() {
         let shape = first_child_in(&kinds[at..], division);
         let end = at + shape.tokens;
-        emit_child(lexed, at, end, shape, &mut sink)?;
+        push_child(children, lexed, at, &shape, tree.steps.len())?;
+        error = push_child_errors(errors, lexed, Walk { token: at, error }, &shape)?;
+        emit_child(lexed, at, end, shape, tree)?;
         at = end;
     }
-    sink.step(StrStep::Exit)?;
-    Ok(sink)
+    tree.push(StrStep::Exit)?;
+    Ok(error)
+}
+
+// The parse of these tokens into statements.
+pub(crate) fn statement_tree(
+    alloc: Global,
+    lexed: &LexedStr<'_>,
+    division: Division,
+) -> Result<Parse, FrontError>
+    ensures parse { ParsesTokens (plain division) lexed.now result }
+    ensures sound { IsTrue (are_sound lexed.now.tokens) }
+    ensures refusals { IfErr result IsOutOfMemory }
+{
+    let mut tree = TreeBuilder::with_room(alloc, lexed.len());
+    let mut children = children_with_room(alloc, lexed.len() / TOKENS_PER_CHILD);
+    let mut errors = Vec::new(alloc);
+    let next = emit_children(lexed, division, &mut tree, &mut children, &mut errors)?;
+    let len = lexed.text_start(lexed.len());
+    push_lexical_errors(&mut errors, lexed, next, len)?;
+    tree.finish(children, errors, len as u32)
 }

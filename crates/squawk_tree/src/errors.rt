@@ -1,20 +1,24 @@
 //! The errors of a parse.
-ghost use Rattle.std.specs.Prelude.{[], ◌≡◌, ◌≤◌, ◌<◌, ◌+◌, ◌^◌, ◌++◌, All, drop, take, length, OnOk, IfOk, IfErr, IsTrue};
+ghost use Rattle.std.specs.Prelude.{ℕ, List, [], ◌≡◌, ◌≤◌, ◌<◌, ◌+◌, ◌^◌, ◌++◌, All, drop, take, length, OnOk, IfOk, IfErr, IsTrue};
 ghost use Rattle.squawk_events.specs.Refusals.{IsOutOfMemory};
+ghost use Rattle.squawk_events.specs.declared.steps.StrStep.{StrStep as Given};
 ghost use Rattle.squawk_lexed.specs.LexedText.{total_len};
 ghost use Rattle.squawk_lexed.specs.Stored.{errors_of};
 ghost use Rattle.squawk_lexed.specs.Weave.{next_len};
+ghost use Rattle.squawk_tree.specs.ChildSteps.{child_error};
 ghost use Rattle.squawk_tree.specs.Walk as spec;
+ghost use Rattle.squawk_tree.specs.Walk.{merged_from};
 
 use squawk_events::{FrontError, ParseError, StrStep};
+use squawk_kinds::SyntaxKind;
 use squawk_lexed::{LexError, LexedStr};
 use std::alloc::Global;
 
 // How far a walk over the steps is: the indices of the next token and of the next lexical error.
 #[derive(Clone, Copy)]
-struct Walk {
-    token: usize,
-    error: usize,
+pub(crate) struct Walk {
+    pub(crate) token: usize,
+    pub(crate) error: usize,
 }
 
 // Appends the lexical errors from index `from` up to the first that does not begin before `end`.
@@ -48,7 +52,7 @@ fn push_errors_before(
 }
 
 // The same of the lexical errors of a text.
-fn push_lexical_errors(
+pub(crate) fn push_lexical_errors(
     errors: &mut Vec<ParseError>,
     lexed: &LexedStr<'_>,
     from: usize,
@@ -125,6 +129,29 @@ fn push_errors_up_to(
     let next = push_lexical_errors(errors, lexed, walk.error, start)?;
     push_step_error(errors, lexed, walk.token, number)?;
     Ok(next)
+}
+
+// Appends the error of a child of the root with this node if it is an unknown statement, and the
+// lexical errors before it. Returns the index of the lexical error after those.
+pub(crate) fn push_child_errors(
+    errors: &mut Vec<ParseError>,
+    lexed: &LexedStr<'_>,
+    walk: Walk,
+    node: Option<SyntaxKind>,
+) -> Result<usize, FrontError>
+    requires token { walk.token ≤ length lexed.now.tokens }
+    requires error { walk.error ≤ length (errors_of 0 lexed.now.tokens) }
+    ensures ok { IfOk result (λ next. (at : ℕ) (rest : List Given)
+        → errors.new.items ++ merged_from lexed.now.tokens walk.token next rest
+        ≡ errors.old.items ++ merged_from lexed.now.tokens walk.token walk.error
+        (child_error at node ++ rest)) }
+    ensures within { IfOk result (λ next. next ≤ length (errors_of 0 lexed.now.tokens)) }
+    ensures refusals { IfErr result IsOutOfMemory }
+{
+    match node {
+        Some(SyntaxKind::ERROR) => push_errors_up_to(errors, lexed, walk, 10),
+        _ => Ok(walk.error),
+    }
 }
 
 // The errors of a parse: the faults of the tokens and the `Error` steps, token by token.

@@ -1,6 +1,7 @@
 //! Lossless syntax trees: balanced lists of steps whose tokens cover a text, and its errors.
 #![tactic(auto)]
 
+mod builder;
 mod child_steps;
 mod children;
 mod errors;

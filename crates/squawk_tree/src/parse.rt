@@ -3,6 +3,7 @@ ghost use Rattle.std.specs.Prelude.{◌≡◌, ◌≤◌, ◌<◌, All, length, 
 ghost use Rattle.std.specs.List.{zip};
 ghost use Rattle.std.specs.Str.{IsCharBoundary};
 ghost use Rattle.squawk_tree.specs.ChildSpans.{child_spans, span_child};
+ghost use Rattle.squawk_tree.specs.NodeRanges.{node_ranges, AreNodeStepCounts};
 ghost use Rattle.squawk_tree.specs.Ranges.{ranges};
 ghost use Rattle.squawk_tree.specs.Steps.{root_children};
 ghost use Rattle.squawk_tree.specs.Tree.{Tree, IsTree, IsErrorWithin, IsRangeOf};
@@ -70,25 +71,33 @@ impl Parse {
     pub(crate) fn new(alloc: Global, parts: TreeParts) -> Result<Parse, AllocError>
         ensures { IfOk result (λ parse. parse ≡ parts) }
     {
+        let tables = tables_of(alloc, &parts.steps, parts.node_steps)?;
+        Ok(Parse::with_tables(parts, tables))
+    }
+
+    // The parse that is made of these parts and their tables.
+    pub(crate) fn with_tables(parts: TreeParts, tables: Tables) -> Parse
+        requires spans { tables.spans.items ≡ node_ranges parts.steps }
+        requires counts { AreNodeStepCounts parts.steps tables.counts.items }
+        requires children { tables.children.items ≡ child_spans parts.steps }
+        ensures { result ≡ parts }
+    {
         let TreeParts {
-            steps,
-            errors,
-            len,
-            node_steps,
+            steps, errors, len, ..
         } = parts;
         let Tables {
             spans,
             counts,
             children,
-        } = tables_of(alloc, &steps, node_steps)?;
-        Ok(Parse {
+        } = tables;
+        Parse {
             steps,
             spans,
             counts,
             children,
             errors,
             len,
-        })
+        }
     }
 
     /// The length of the text in bytes.

@@ -12,7 +12,7 @@ ghost use Rattle.squawk_tree.specs.ChildSteps.{IsWeaveOf, IsWoven};
 ghost use Rattle.squawk_tree.specs.Parses.{ParsesText, ParsesTokens};
 ghost use Rattle.squawk_tree.specs.Walk.{covers, errors_by_step};
 
-use crate::child_steps::statement_steps;
+use crate::child_steps::statement_tree;
 use crate::errors::{errors_of_steps, lexical_errors};
 use crate::laws::{children_join, parses_are_trees};
 use crate::parse::TreeParts;
@@ -99,20 +99,6 @@ fn parts_by<G: Grammar>(
     tree_parts(alloc, lexed, sink)
 }
 
-// The parts of the parse of these tokens into statements.
-fn statement_parts(
-    alloc: Global,
-    lexed: &LexedStr<'_>,
-    division: Division,
-) -> Result<TreeParts, FrontError>
-    ensures parse { ParsesTokens (plain division) lexed.now result }
-    ensures sound { IsTrue (are_sound lexed.now.tokens) }
-    ensures refusals { IfErr result IsOutOfMemory }
-{
-    let sink = statement_steps(alloc, lexed, division)?;
-    tree_parts(alloc, lexed, sink)
-}
-
 /// Parses the tokens of a text by a grammar. The only error is `OutOfMemory`.
 ///
 /// The steps of the parse are those of the grammar without `Error` steps, with the trivia between
@@ -163,17 +149,6 @@ pub fn parse_with<G: Grammar>(alloc: Global, text: &str, grammar: &G) -> Result<
     parse_with_in(alloc, text, Strings::Standard, grammar)
 }
 
-// The parse of the tokens of a text into statements, which are freed before the ranges are found.
-fn parse_tokens(alloc: Global, lexed: LexedStr<'_>, division: Division) -> Result<Parse, FrontError>
-    ensures parse { ParsesTokens (plain division) lexed.entry result }
-    ensures sound { IsTrue (are_sound lexed.entry.tokens) }
-    ensures refusals { IfErr result IsOutOfMemory }
-{
-    let parts = statement_parts(alloc, &lexed, division)?;
-    drop(lexed);
-    Ok(Parse::new(alloc, parts)?)
-}
-
 /// Parses a text into statements (`docs/STATEMENTS.md`). `strings` says how plain strings are read,
 /// and `division` whether a semicolon between parentheses ends a statement.
 ///
@@ -196,7 +171,7 @@ pub fn parse_divided(
     children_join();
     parses_are_trees();
     let lexed = LexedStr::new_in(alloc, text, strings)?;
-    parse_tokens(alloc, lexed, division)
+    statement_tree(alloc, &lexed, division)
 }
 
 /// Parses a text into statements, where each semicolon ends one; `strings` says how plain

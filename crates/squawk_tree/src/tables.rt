@@ -33,7 +33,7 @@ fn push_count(counts: &mut Vec<usize>, i: usize, node_steps: usize) -> Result<()
 
 // An empty list of children with room for this many. If that much memory cannot be had, it grows as
 // needed.
-fn children_with_room(alloc: Global, room: usize) -> Vec<ChildSpan>
+pub(crate) fn children_with_room(alloc: Global, room: usize) -> Vec<ChildSpan>
     ensures { result.items ≡ [] }
 {
     let mut children = Vec::new(alloc);

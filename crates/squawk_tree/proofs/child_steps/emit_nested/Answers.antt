@@ -9,4 +9,5 @@ loop-i-preserved c = record {
       c.token_step.ensures c.loop-i.invariant.steps
       c.in_ok-groups.ensures.steps c.in_ok-groups.ensures.groups;
   groups_within = omega (arith, c.loop-i.invariant.groups_within, c.in_ok-groups.ensures.bound);
+  built = c.in_ok-groups.ensures.built;
 }

@@ -1,6 +1,7 @@
 use Rattle.std.proofs.Common.{◌≤◌, drop}
 use Rattle.squawk_lexed.specs.Stored.{errors_of}
-use Rattle.squawk_tree.proofs.WalkLemmas.{merged_errors, WalkSoFar}
+use Rattle.squawk_tree.specs.Walk.{merged_errors}
+use Rattle.squawk_tree.proofs.WalkLemmas.{WalkSoFar}
 use Rattle.squawk_tree.proofs.errors.errors_of_steps.Given as goal
 
 abbrev pub invariant-loop-step : goal.invariant-loop-step

@@ -1,0 +1,31 @@
+-- A tree while it is built: its steps so far, and what is kept beside them.
+use Rattle.std.specs.Prelude.{◌≡◌, ℕ, ◌+◌, ◌*◌, ◌≤◌, List, [], ◌∷◌, ◌++◌, length, reverse, take}
+use Rattle.squawk_events.specs.declared.steps.StrStep.{StrStep}
+use Rattle.squawk_events.specs.declared.steps.StrStep.TheVariants.{Enter, Token, Exit, Error}
+use Rattle.squawk_tree.specs.NodeRanges.{at_nodes, node_ranges, node_step_count, stride, AreCountsByStride}
+use Rattle.squawk_tree.specs.Ranges.{node_end, ranges_from}
+use Rattle.squawk_tree.specs.Spans.{AreBelow, closing, open_count, starts, whole}
+use Rattle.squawk_tree.specs.Taken.{tokens_end}
+use Rattle.squawk_tree.specs.declared.builder.TreeBuilder.{TreeBuilder}
+
+-- the counts that are kept for the steps so far: none is missing but for steps after the last step
+-- of a node
+pub record AreCountsSoFar (steps : List StrStep) (counts : List ℕ) : Type 0 where
+  pub few : stride * length counts ≤ length steps + stride
+  pub counts_are : AreCountsByStride steps counts
+  pub complete : node_step_count (take (stride * length counts) steps) ≡ node_step_count steps
+
+-- the ranges of the nodes so far, and the open nodes, the innermost first: whatever steps follow
+pub record AreSpansSoFar (steps : List StrStep) (spans open_nodes : List (ℕ × ℕ)) : Type 0 where
+  pub below : AreBelow (length spans) open_nodes
+  pub whole_is : (rest : List StrStep)
+      → whole spans open_nodes (tokens_end steps) rest ≡ node_ranges (steps ++ rest)
+  pub open_are : (rest : List StrStep)
+      → open_count (length open_nodes) rest ≡ open_count 0 (steps ++ rest)
+  pub count : length spans ≡ node_step_count steps
+
+-- what is kept beside the steps so far
+pub record IsBuilt (tree : TreeBuilder) : Type 0 where
+  pub spans : AreSpansSoFar tree.steps.items tree.spans.items (reverse tree.open_nodes.items)
+  pub counts : AreCountsSoFar tree.steps.items tree.counts.items
+  pub end : tree.end ≡ tokens_end tree.steps.items

@@ -1,0 +1,129 @@
+//! The steps of a tree, and the ranges and counts that are kept beside them, built together.
+ghost use Rattle.std.specs.Prelude.{◌≡◌, ◌<◌, ◌*◌, ◌++◌, ◌∷◌, [], List, length, IfOk, OnOk, IfErr};
+ghost use Rattle.squawk_events.specs.Refusals.{IsOutOfMemory};
+ghost use Rattle.squawk_events.specs.declared.steps.StrStep.{StrStep as Given};
+ghost use Rattle.squawk_tree.specs.Built.{AreCountsSoFar, IsBuilt};
+ghost use Rattle.squawk_tree.specs.ChildSpans.{child_spans};
+ghost use Rattle.squawk_tree.specs.NodeRanges.{node_step_count, stride};
+ghost use Rattle.squawk_tree.specs.Tree.{IsTree};
+
+use crate::children::ChildSpan;
+use crate::parse::{Parse, TreeParts};
+use crate::spans::{STRIDE, add_step};
+use crate::tables::Tables;
+use squawk_events::{FrontError, ParseError, StrStep};
+use std::alloc::{AllocError, Global};
+
+// A tree while it is built. A count is appended only before a step of a node that comes after the
+// step for which the count is kept: in between the number of such steps is the same.
+#[derive(Drop)]
+pub(crate) struct TreeBuilder {
+    pub(crate) steps: Vec<StrStep>,
+    // The ranges of the `Enter` and `Exit` steps; those of open nodes are not known yet.
+    spans: Vec<(u32, u32)>,
+    // The open nodes: the index of the range of its `Enter`, and where it begins.
+    open_nodes: Vec<(usize, u32)>,
+    // For every 64th step, the number of `Enter` and `Exit` steps before it.
+    counts: Vec<usize>,
+    // The end of the last token.
+    pub(crate) end: u32,
+}
+
+// Appends the counts that are kept for the steps up to the last of `len` and the one after it.
+fn fill_counts(counts: &mut Vec<usize>, len: usize, node_steps: usize) -> Result<(), AllocError>
+    ensures so_far { OnOk result ((steps : List Given) → length steps ≡ len
+        → node_steps ≡ node_step_count steps → AreCountsSoFar steps counts.old.items
+        → AreCountsSoFar steps counts.new.items) }
+    ensures enough { OnOk result (len < stride * length counts.new.items) }
+{
+    while counts.len() <= len / STRIDE {
+        counts.push(node_steps)?;
+    }
+    Ok(())
+}
+
+// Appends the counts that are kept for the steps up to the next step, unless it is a `Token`.
+#[inline(always)]
+fn keep_counts(
+    counts: &mut Vec<usize>,
+    len: usize,
+    node_steps: usize,
+    next: &StrStep,
+) -> Result<(), AllocError>
+    ensures { OnOk result ((steps : List Given) → length steps ≡ len
+        → node_steps ≡ node_step_count steps → AreCountsSoFar steps counts.old.items
+        → AreCountsSoFar (steps ++ next.now ∷ []) counts.new.items) }
+{
+    match *next {
+        StrStep::Token { .. } => Ok(()),
+        _ => fill_counts(counts, len, node_steps),
+    }
+}
+
+impl TreeBuilder {
+    // A tree without steps, with room for this many tokens. If that much memory cannot be had, the
+    // lists grow as needed.
+    pub(crate) fn with_room(alloc: Global, tokens: usize) -> TreeBuilder
+        ensures steps { result.steps.items ≡ [] }
+        ensures built { IsBuilt result }
+    {
+        let mut tree = TreeBuilder {
+            steps: Vec::new(alloc),
+            spans: Vec::new(alloc),
+            open_nodes: Vec::new(alloc),
+            counts: Vec::new(alloc),
+            end: 0,
+        };
+        let steps = tokens.saturating_add(tokens / 4);
+        let _ = tree.steps.reserve(steps);
+        let _ = tree.spans.reserve(tokens / 4);
+        let _ = tree.counts.reserve(steps / STRIDE);
+        tree
+    }
+
+    // Appends a step.
+    #[inline(always)]
+    pub(crate) fn push(&mut self, step: StrStep) -> Result<(), FrontError>
+        requires { IsBuilt self.old }
+        ensures steps { OnOk result (self.new.steps.items ≡ self.old.steps.items ++ step ∷ []) }
+        ensures built { OnOk result (IsBuilt self.new) }
+        ensures refusals { IfErr result IsOutOfMemory }
+    {
+        keep_counts(&mut self.counts, self.steps.len(), self.spans.len(), &step)?;
+        let end = add_step(&mut self.spans, &mut self.open_nodes, self.end, step)?;
+        self.steps.push(step)?;
+        self.end = end;
+        Ok(())
+    }
+
+    // The parse with these steps, whose root has these children, and with these errors.
+    pub(crate) fn finish(
+        self,
+        children: Vec<ChildSpan>,
+        errors: Vec<ParseError>,
+        len: u32,
+    ) -> Result<Parse, FrontError>
+        requires built { IsBuilt self }
+        requires children { children.items ≡ child_spans self.steps.items }
+        requires tree { IsTree (record {
+            steps = self.steps.items; errors = errors.items; len = len }) }
+        ensures parse { IfOk result (λ parse. parse ≡ record {
+            steps = self.steps.items; errors = errors.items; len = len }) }
+        ensures refusals { IfErr result IsOutOfMemory }
+    {
+        let mut counts = self.counts;
+        fill_counts(&mut counts, self.steps.len(), self.spans.len())?;
+        let parts = TreeParts {
+            steps: self.steps,
+            errors,
+            len,
+            node_steps: 0,
+        };
+        let tables = Tables {
+            spans: self.spans,
+            counts,
+            children,
+        };
+        Ok(Parse::with_tables(parts, tables))
+    }
+}
