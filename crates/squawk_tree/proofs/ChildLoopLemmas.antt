@@ -1,27 +1,29 @@
 -- The loops that emit a node and all children.
-use Rattle.std.proofs.Common.{◌≡◌, ℕ, zero, suc, ◌+◌, ◌-◌, ◌<◌, ◌≤◌, Bool, cond, List, [], ◌∷◌, ◌++◌, length, take, drop, map, slice_range, append_assoc, refl, ap, sym, ◌∙◌, arith}
+use Rattle.std.proofs.Common.{◌≡◌, ℕ, zero, suc, ◌+◌, ◌-◌, ◌==◌, ◌<◌, ◌≤◌, Bool, true, false, cond, List, [], ◌∷◌, ◌++◌, length, take, drop, map, slice_range, append_assoc, refl, ap, sym, ◌∙◌, arith}
 use Rattle.std.proofs.Math.Seq.{take-add}
 use Rattle.std.proofs.lemmas.List.{append-nil, drop-drop, drop-take, take_rest, drop_all, length-drop, length-take-le}
 use Rattle.squawk_events.specs.declared.steps.StrStep.{StrStep}
 use Rattle.squawk_events.specs.declared.steps.StrStep.TheVariants as out
-use Rattle.squawk_kinds.specs.Role.{role}
-use Rattle.squawk_kinds.specs.declared.numbers.TheConstants.Number.{SOURCE_FILE}
+use Rattle.squawk_kinds.specs.Role.{Role, role, Trivia, Semicolon, Terminator, Command, Open, Close, Other}
+use Rattle.squawk_kinds.specs.declared.numbers.TheConstants.Number.{ERROR, SOURCE_FILE}
 use Rattle.squawk_lexed.specs.LexedText.{total_len, token_start}
 use Rattle.squawk_lexed.specs.LexedToken.{LexedToken}
 use Rattle.squawk_lexed.specs.Stored.{kinds_of}
 use Rattle.squawk_lexed.specs.Weave.{kinds_without_trivia}
-use Rattle.squawk_statements.specs.Children.{parts, first_child, trimmed_len}
+use Rattle.squawk_statements.specs.Children.{open_groups_after, parts, first_child, trimmed_len}
 use Rattle.squawk_statements.specs.First.{first_shape}
 use Rattle.squawk_statements.specs.Plain.{plain}
 use Rattle.squawk_statements.specs.PlainIsLawful.{plain_lawful}
 use Rattle.squawk_statements.specs.declared.division.Division.{Division}
 use Rattle.squawk_statements.specs.declared.first.ChildShape.{ChildShape}
-use Rattle.squawk_tree.specs.ChildSteps.{woven_children, unknown_error, nested_steps, body_len, node_steps, steps_of_shape, IsWeaveOf}
+use Rattle.squawk_tree.specs.ChildSteps.{woven_children, unknown_error, exit_steps, steps_in_groups, nested_steps, body_len, steps_of_node, node_steps, steps_of_shape}
 use Rattle.squawk_tree.specs.Join.{woven_child}
 use Rattle.squawk_tree.specs.ParseOf.{lexed_role, token_steps}
 use Rattle.squawk_tree.proofs.ChildShapeLemmas.{shape_is}
 use Rattle.squawk_tree.proofs.ChildTokenLemmas.{kinds_len, kinds_take, kinds_drop, kinds_roles}
 use Rattle.squawk_tree.proofs.FirstPart.{more_of, first_part, first_tokens}
+use Rattle.squawk_tree.specs.Steps.{without_errors}
+use Rattle.squawk_tree.proofs.JoinIsParse.{without_errors_append}
 use Rattle.squawk_tree.proofs.JoinLemmas.{placed, total_append}
 use Rattle.squawk_tree.proofs.JoinErrorLemmas.{has_no_trivia_kept}
 
@@ -68,25 +70,83 @@ cut_at ts from to n h =
 -- ---- a node
 
 -- steps that are appended one after another
-appended : (s e u n t x : List StrStep)
-    → ((((s ++ e) ++ u) ++ n) ++ t) ++ x ≡ s ++ (e ++ (((u ++ n) ++ t) ++ x))
-appended [] [] u n t x = refl
-appended [] (y ∷ e) u n t x = ap (λ zs. y ∷ zs) (appended [] e u n t x)
-appended (y ∷ s) e u n t x = ap (λ zs. y ∷ zs) (appended s e u n t x)
+appended : (s e n t x : List StrStep)
+    → (((s ++ e) ++ n) ++ t) ++ x ≡ s ++ (e ++ ((n ++ t) ++ x))
+appended [] [] n t x = refl
+appended [] (y ∷ e) n t x = ap (λ zs. y ∷ zs) (appended [] e n t x)
+appended (y ∷ s) e n t x = ap (λ zs. y ∷ zs) (appended s e n t x)
+
+-- no step of a list is an `Error`: of the steps of a token inside groups, of tokens inside groups,
+-- and of tokens
+groups_kept : (n : ℕ) (f : Role) (kind start end : ℕ)
+    → without_errors (steps_in_groups n f (out.Token kind start end))
+    ≡ steps_in_groups n f (out.Token kind start end)
+groups_kept n Trivia kind start end = refl
+groups_kept n Semicolon kind start end = refl
+groups_kept n Terminator kind start end = refl
+groups_kept n Command kind start end = refl
+groups_kept n Open kind start end = refl
+groups_kept zero Close kind start end = refl
+groups_kept (suc n) Close kind start end = refl
+groups_kept n Other kind start end = refl
+
+exits_kept : (n : ℕ) → without_errors (exit_steps n) ≡ exit_steps n
+exits_kept zero = refl
+exits_kept (suc n) = ap (λ xs. out.Exit ∷ xs) (exits_kept n)
+
+nested_kept : (n at : ℕ) (ts : List LexedToken)
+    → without_errors (nested_steps n at ts) ≡ nested_steps n at ts
+nested_kept n at [] = exits_kept n
+nested_kept n at (t ∷ ts) =
+    let more = open_groups_after n (role t.kind) in
+    without_errors_append (steps_in_groups n (role t.kind) (out.Token t.kind at (at + t.len)))
+    (nested_steps more (at + t.len) ts)
+    ∙ ap (λ xs. xs ++ without_errors (nested_steps more (at + t.len) ts))
+    (groups_kept n (role t.kind) t.kind at (at + t.len))
+    ∙ ap (λ xs. steps_in_groups n (role t.kind) (out.Token t.kind at (at + t.len)) ++ xs)
+    (nested_kept more (at + t.len) ts)
+
+tokens_kept : (at : ℕ) (ts : List LexedToken)
+    → without_errors (token_steps at ts) ≡ token_steps at ts
+tokens_kept at [] = refl
+tokens_kept at (t ∷ ts) =
+    ap (λ xs. out.Token t.kind at (at + t.len) ∷ xs) (tokens_kept (at + t.len) ts)
+
+-- the error of an unknown statement is one
+unknown_lost : (at node : ℕ) → without_errors (unknown_error at node) ≡ []
+unknown_lost at node = by (node == ERROR)
+  where
+    by : (b : Bool) → without_errors (cond b (out.Error 10 at ∷ []) []) ≡ []
+    by true = refl
+    by false = refl
+
+-- the steps of a node that stay in the tree
+node_kept : (node at : ℕ) (body rest : List LexedToken)
+    → without_errors (steps_of_node node at body rest)
+    ≡ out.Enter node ∷ ((nested_steps 0 at body
+    ++ token_steps (at + total_len body) rest) ++ out.Exit ∷ [])
+node_kept node at body rest =
+    let u = unknown_error at node in
+    let n = nested_steps 0 at body in
+    let t = token_steps (at + total_len body) rest in
+    ap (λ xs. out.Enter node ∷ xs) (without_errors_append ((u ++ n) ++ t) (out.Exit ∷ [])
+    ∙ ap (λ xs. xs ++ out.Exit ∷ []) (without_errors_append (u ++ n) t
+    ∙ ap (λ xs. xs ++ without_errors t) (without_errors_append u n
+    ∙ ap (λ xs. xs ++ without_errors n) (unknown_lost at node) ∙ nested_kept 0 at body)
+    ∙ ap (λ xs. n ++ xs) (tokens_kept (at + total_len body) rest)))
 
 -- the steps of a node, emitted one after another
 pub node_emitted : (ts : List LexedToken) (kinds : List ℕ) (from to n node : ℕ) (closed : Bool)
-    (s0 s1 s2 s3 s4 s5 : List StrStep) → from < to → to ≤ length ts → kinds ≡ kinds_of ts
+    (s0 s1 s2 s3 s4 : List StrStep) → from < to → to ≤ length ts → kinds ≡ kinds_of ts
     → n ≡ trimmed_len (map role (take (length (slice_range kinds from to) - cond closed 1 0)
     (slice_range kinds from to)))
-    → n ≤ length (slice_range kinds from to)
-    → s1 ≡ s0 ++ out.Enter node ∷ [] → s2 ≡ s1 ++ unknown_error (token_start ts from) node
-    → s3 ≡ s2 ++ nested_steps 0 (token_start ts from) (slice_range ts from (from + n))
-    → s4 ≡ s3 ++ token_steps (token_start ts (from + n)) (slice_range ts (from + n) to)
-    → s5 ≡ s4 ++ out.Exit ∷ []
-    → s5 ≡ s0 ++ node_steps node closed (token_start ts from) (slice_range ts from to)
-node_emitted ts kinds from to n node closed s0 s1 s2 s3 s4 s5 some within ks n_is le e1 e2 e3 e4
-    e5 =
+    → n ≤ length (slice_range kinds from to) → s1 ≡ s0 ++ out.Enter node ∷ []
+    → s2 ≡ s1 ++ nested_steps 0 (token_start ts from) (slice_range ts from (from + n))
+    → s3 ≡ s2 ++ token_steps (token_start ts (from + n)) (slice_range ts (from + n) to)
+    → s4 ≡ s3 ++ out.Exit ∷ []
+    → s4 ≡ s0 ++ without_errors
+    (node_steps node closed (token_start ts from) (slice_range ts from to))
+node_emitted ts kinds from to n node closed s0 s1 s2 s3 s4 some within ks n_is le e1 e2 e3 e4 =
     let part = slice_range ts from to in
     let at = token_start ts from in
     let same : slice_range kinds from to ≡ kinds_of part =
@@ -105,9 +165,10 @@ node_emitted ts kinds from to n node closed s0 s1 s2 s3 s4 s5 some within ks n_i
     let nested = ap (nested_steps 0 at) cut.prefix in
     let tokens = ap (λ m. token_steps m (slice_range ts (from + n) to)) cut.start
     ∙ ap (token_steps (at + total_len (take n part))) cut.left in
-    rw (e5, e4, e3, e2, e1, nested, tokens, ← body)
-    (appended s0 (out.Enter node ∷ []) (unknown_error at node) (nested_steps 0 at (take n part))
-    (token_steps (at + total_len (take n part)) (drop n part)) (out.Exit ∷ []))
+    rw (e4, e3, e2, e1, nested, tokens, ← body)
+    (appended s0 (out.Enter node ∷ []) (nested_steps 0 at (take n part))
+    (token_steps (at + total_len (take n part)) (drop n part)) (out.Exit ∷ [])
+    ∙ ap (λ ys. s0 ++ ys) (sym (node_kept node at (take n part) (drop n part))))
 
 -- ---- all children
 

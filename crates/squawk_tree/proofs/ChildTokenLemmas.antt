@@ -8,7 +8,7 @@ use Rattle.squawk_lexed.specs.LexedText.{token_start, total_len}
 use Rattle.squawk_lexed.specs.LexedToken.{LexedToken}
 use Rattle.squawk_lexed.specs.Stored.{kinds_of}
 use Rattle.squawk_statements.specs.Children.{open_groups_after, trimmed_len}
-use Rattle.squawk_tree.specs.ChildSteps.{nested_steps, steps_in_groups}
+use Rattle.squawk_tree.specs.ChildSteps.{exit_steps, nested_steps, steps_in_groups}
 use Rattle.squawk_tree.specs.ParseOf.{lexed_role, token_steps}
 use Rattle.squawk_tree.proofs.CutLemmas.{not_zero}
 
@@ -83,6 +83,15 @@ next_of_range i to ts h within =
       kind = next.kind;
       end = rw one next.end;
     }
+
+-- one more `Exit`
+pub exits_more : (n : ℕ) (before after start : List StrStep) → 0 < n
+    → before ++ exit_steps n ≡ start → after ≡ before ++ out.Exit ∷ []
+    → after ++ exit_steps (n - 1) ≡ start
+exits_more zero before after start some so_far more = absurd (omega arith)
+exits_more (suc n) before after start some so_far more =
+    let one : suc n - 1 ≡ n = omega arith in
+    rw (more, one) (append_assoc before (out.Exit ∷ []) (exit_steps n)) ∙ so_far
 
 -- one more token inside groups
 pub nested_more : (ts : List LexedToken) (kinds : List ℕ) (i to groups after_it kind : ℕ)

@@ -10,7 +10,9 @@ returns-clause-built c =
           c.requires.spans c.requires.end c.in_ok-end.ensures.spans
           c.in_ok-end.ensures.open_nodes);
       counts = rw c.in_ok-push.ensures.items (c.in_ok-keep_counts.ensures steps
-          (sym c.len.ensures) (c.len-2.ensures ∙ c.requires.spans.count) c.requires.counts);
+          (sym (c.len.ensures ∙ c.args.self.now.steps.ok.0))
+          (c.len-2.ensures ∙ c.args.self.now.spans.ok.0 ∙ c.requires.spans.count)
+          c.requires.counts);
       end = rw (c.in_ok-push.ensures.items, end_pushed steps c.args.step, ← c.requires.end)
           c.in_ok-end.ensures.offset;
     }
