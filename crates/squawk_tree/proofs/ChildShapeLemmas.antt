@@ -96,7 +96,7 @@ node_some Close kinds h = refl
 node_some Other kinds h = refl
 
 -- which is that of its kinds without trivia
-node_is : (t : LexedToken) (ts : List LexedToken) → is_trivia_kind t.kind ≡ false
+pub node_is : (t : LexedToken) (ts : List LexedToken) → is_trivia_kind t.kind ≡ false
     → child_node (kinds_of (t ∷ ts)) ≡ Some (node_of (kinds_without_trivia (t ∷ ts)))
 node_is t ts is =
     let kept = kept_other t ts is in

@@ -111,7 +111,7 @@ first_is_node d f fs not_trivia = by f not_trivia
     by Other h = statement_node (statement_end d 0 (Other ∷ fs)) (Other ∷ fs)
 
 -- there are as many `Token` steps as tokens
-length_token_steps : (at : ℕ) (ts : List LexedToken) → length (token_steps at ts) ≡ length ts
+pub length_token_steps : (at : ℕ) (ts : List LexedToken) → length (token_steps at ts) ≡ length ts
 length_token_steps at [] = refl
 length_token_steps at (t ∷ ts) = ap suc (length_token_steps (at + t.len) ts)
 

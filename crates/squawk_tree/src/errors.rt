@@ -12,6 +12,7 @@ ghost use Rattle.squawk_tree.specs.Walk.{merged_from};
 use squawk_events::{FrontError, ParseError, StrStep};
 use squawk_kinds::SyntaxKind;
 use squawk_lexed::{LexError, LexedStr};
+use squawk_statements::ChildShape;
 use std::alloc::Global;
 
 // How far a walk over the steps is: the indices of the next token and of the next lexical error.
@@ -131,24 +132,24 @@ fn push_errors_up_to(
     Ok(next)
 }
 
-// Appends the error of a child of the root with this node if it is an unknown statement, and the
+// Appends the error of a child of the root of this shape if it is an unknown statement, and the
 // lexical errors before it. Returns the index of the lexical error after those.
 pub(crate) fn push_child_errors(
     errors: &mut Vec<ParseError>,
     lexed: &LexedStr<'_>,
     walk: Walk,
-    node: Option<SyntaxKind>,
+    shape: &ChildShape,
 ) -> Result<usize, FrontError>
     requires token { walk.token ≤ length lexed.now.tokens }
     requires error { walk.error ≤ length (errors_of 0 lexed.now.tokens) }
     ensures ok { IfOk result (λ next. (at : ℕ) (rest : List Given)
         → errors.new.items ++ merged_from lexed.now.tokens walk.token next rest
         ≡ errors.old.items ++ merged_from lexed.now.tokens walk.token walk.error
-        (child_error at node ++ rest)) }
+        (child_error at shape.now.node ++ rest)) }
     ensures within { IfOk result (λ next. next ≤ length (errors_of 0 lexed.now.tokens)) }
     ensures refusals { IfErr result IsOutOfMemory }
 {
-    match node {
+    match shape.node {
         Some(SyntaxKind::ERROR) => push_errors_up_to(errors, lexed, walk, 10),
         _ => Ok(walk.error),
     }

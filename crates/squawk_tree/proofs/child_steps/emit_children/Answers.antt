@@ -1,17 +1,45 @@
-use Rattle.std.proofs.Common.{arith, refl}
-use Rattle.squawk_tree.proofs.ChildLoopLemmas.{child_within, children_more, children_done}
-use Rattle.squawk_tree.proofs.child_steps.statement_steps.Goals as goal
+use Rattle.std.proofs.Common.{◌∙◌, arith, refl}
+use Rattle.squawk_tree.proofs.ChildLoopLemmas.{child_within, children_start, children_more, children_done}
+use Rattle.squawk_tree.proofs.child_steps.emit_children.Goals as goal
+
+pub loop-at-init : goal.loop-at-init
+loop-at-init c = record {
+  children = children_start c.args.division c.args.lexed.now.tokens _ _ _ _
+      c.in_ok-push.ensures.steps c.requires.no_steps c.requires.no_children c.requires.no_errors;
+  built = c.in_ok-push.ensures.built;
+  within = omega arith;
+  error_within = omega arith;
+}
 
 pub loop-at-preserved : goal.loop-at-preserved
-loop-at-preserved c = record {
-  steps = children_more c.args.division c.args.lexed.now.tokens _ _ c.loop-at.at _ _ _ _ _
-      c.kinds-kinds.ensures c.loop-at-test.true refl c.first_child_in-shape.ensures.shape refl
-      c.loop-at.invariant.steps c.in_ok-emit_child.ensures.steps;
-  within = child_within c.args.lexed.now.tokens _ _ c.loop-at.at _ c.kinds-kinds.ensures
-      c.loop-at-test.true refl c.first_child_in-shape.ensures.within;
-}
+loop-at-preserved c =
+    let within = child_within c.args.lexed.now.tokens _ _ c.loop-at.at _ c.kinds-kinds.ensures
+    c.loop-at-test.true refl c.first_child_in-shape.ensures.within in
+    record {
+      children = children_more c.args.division c.args.lexed.now.tokens _ _ c.loop-at.at _ _ _
+          _ _ _ _ _ _ _ _ (c.len.ensures ∙ c.loop-at.sink.steps.ok.0) c.kinds-kinds.ensures c.loop-at-test.true refl
+          c.first_child_in-shape.ensures.shape refl within c.in_ok-emit_child.ensures.steps
+          c.in_ok-push_child.ensures.children c.in_ok-error.ensures.ok
+          c.loop-at.invariant.children;
+      built = c.in_ok-emit_child.ensures.built;
+      within = within;
+      error_within = c.in_ok-error.ensures.within;
+    }
 
 pub returns-clause-steps : goal.returns-clause-steps
 returns-clause-steps c =
-    children_done c.args.division c.args.lexed.now.tokens _ c.loop-at.at _ _ c.kinds-kinds.ensures
-    (omega (arith, c.loop-at-test.false)) c.loop-at.invariant.steps c.in_ok-step-2.ensures.ok
+    (children_done c.args.division c.args.lexed.now.tokens _ c.loop-at.at c.loop-at.error _ _ _ _
+    c.kinds-kinds.ensures (omega (arith, c.loop-at-test.false)) c.loop-at.invariant.children
+    c.in_ok-push-2.ensures.steps).steps_are
+
+pub returns-clause-children : goal.returns-clause-children
+returns-clause-children c =
+    (children_done c.args.division c.args.lexed.now.tokens _ c.loop-at.at c.loop-at.error _ _ _ _
+    c.kinds-kinds.ensures (omega (arith, c.loop-at-test.false)) c.loop-at.invariant.children
+    c.in_ok-push-2.ensures.steps).children_are
+
+pub returns-clause-errors : goal.returns-clause-errors
+returns-clause-errors c =
+    (children_done c.args.division c.args.lexed.now.tokens _ c.loop-at.at c.loop-at.error _ _ _ _
+    c.kinds-kinds.ensures (omega (arith, c.loop-at-test.false)) c.loop-at.invariant.children
+    c.in_ok-push-2.ensures.steps).errors_are
