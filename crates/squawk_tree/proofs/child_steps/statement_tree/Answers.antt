@@ -1,0 +1,18 @@
+use Rattle.squawk_tree.proofs.StatementParse.{emitted_is, emitted_tree, parses_emitted}
+use Rattle.squawk_tree.proofs.child_steps.statement_tree.Goals as goal
+
+pub finish-requires-clause-tree : goal.finish-requires-clause-tree
+finish-requires-clause-tree c =
+    let ts = c.args.lexed.now.tokens in
+    emitted_tree c.args.division ts _ c.len.ensures.sound
+    (emitted_is c.args.division ts _ _ _ _ _ _ c.len.ensures.sound c.in_ok-next.ensures.steps
+    c.in_ok-next.ensures.errors c.len-3.ensures.count c.text_start-len.ensures
+    c.in_ok-push_lexical_errors.ensures.ok)
+
+pub returns-clause-parse : goal.returns-clause-parse
+returns-clause-parse c =
+    let ts = c.args.lexed.now.tokens in
+    parses_emitted c.args.division c.args.lexed.now _ _ c.len.ensures.sound c.len.ensures.whole
+    (emitted_is c.args.division ts _ _ _ _ _ _ c.len.ensures.sound c.in_ok-next.ensures.steps
+    c.in_ok-next.ensures.errors c.len-3.ensures.count c.text_start-len.ensures
+    c.in_ok-push_lexical_errors.ensures.ok) c.finish.ensures.parse
