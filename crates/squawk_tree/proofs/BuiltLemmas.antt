@@ -1,12 +1,12 @@
 -- What is kept beside the steps of a tree while they are appended one by one.
-use Rattle.std.proofs.Common.{◌≡◌, ℕ, zero, suc, ◌+◌, ◌-◌, ◌*◌, ◌/◌, ◌<◌, ◌≤◌, true, List, [], ◌∷◌, ◌++◌, length, take, drop, ap, sym, subst, ◌∙◌, refl, append_assoc, arith}
-use Rattle.std.proofs.lemmas.List.{append-nil, length-append, length_push, take-append-le, take_all}
+use Rattle.std.proofs.Common.{◌≡◌, ℕ, zero, suc, ◌+◌, ◌-◌, ◌*◌, ◌/◌, ◌<◌, ◌≤◌, true, List, [], ◌∷◌, ◌++◌, length, take, ap, sym, ◌∙◌, refl, append_assoc, arith}
+use Rattle.std.proofs.lemmas.List.{append-nil, length_push, take-append-le, take_all}
 use Rattle.std.specs.Prelude.{Some}
 use Rattle.squawk_events.specs.declared.steps.StrStep.{StrStep}
 use Rattle.squawk_events.specs.declared.steps.StrStep.TheVariants.{Enter, Token, Exit, Error}
 use Rattle.squawk_tree.specs.Built.{AreCountsSoFar, AreSpansSoFar}
-use Rattle.squawk_tree.specs.NodeRanges.{node_ranges, node_step_count, AreNodeStepCounts, AreCountsByStride}
-use Rattle.squawk_tree.specs.Spans.{AreBelow, spans_after, open_nodes_after, offset_after, open_count, whole}
+use Rattle.squawk_tree.specs.NodeRanges.{node_ranges, node_step_count, AreNodeStepCounts}
+use Rattle.squawk_tree.specs.Spans.{spans_after, open_nodes_after, offset_after, open_count, whole}
 use Rattle.squawk_tree.specs.Steps.{is_balanced}
 use Rattle.squawk_tree.specs.Taken.{end_after, tokens_end}
 use Rattle.squawk_tree.proofs.NodeRangeLemmas.{by_index_push, node_count_split}

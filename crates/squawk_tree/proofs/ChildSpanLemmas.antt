@@ -1,7 +1,7 @@
 -- A child of the root as it is stored, by its shape and its woven steps.
-use Rattle.std.proofs.Common.{◌≡◌, ℕ, zero, suc, ◌+◌, ◌==◌, ◌<◌, Bool, true, false, List, [], ◌∷◌, ◌++◌, length, take, drop, map, append_assoc, refl, ap, sym, subst, ◌∙◌, arith}
+use Rattle.std.proofs.Common.{◌≡◌, ℕ, zero, suc, ◌+◌, ◌<◌, Bool, true, false, List, [], ◌∷◌, ◌++◌, length, take, map, refl, ap, sym, subst, ◌∙◌, arith}
 use Rattle.std.specs.Prelude.{Option, Some, None}
-use Rattle.squawk_events.specs.Kinds.{is_trivia_kind, without_trivia}
+use Rattle.squawk_events.specs.Kinds.{is_trivia_kind}
 use Rattle.squawk_events.specs.declared.steps.Step.TheVariants.{Exit}
 use Rattle.squawk_events.specs.declared.steps.StrStep.{StrStep}
 use Rattle.squawk_events.specs.declared.steps.StrStep.TheVariants as out
@@ -11,7 +11,7 @@ use Rattle.squawk_lexed.specs.LexedToken.{LexedToken}
 use Rattle.squawk_lexed.specs.Stored.{kinds_of}
 use Rattle.squawk_lexed.specs.Weave.{kinds_without_trivia, weave_from}
 use Rattle.squawk_statements.specs.Children.{first_child}
-use Rattle.squawk_statements.specs.First.{child_node, first_shape, node_by}
+use Rattle.squawk_statements.specs.First.{child_node, first_shape}
 use Rattle.squawk_statements.specs.Kinds.{role_trivia}
 use Rattle.squawk_statements.specs.Plain.{node_of, unknown_statement_error, body_steps, child_steps}
 use Rattle.squawk_statements.specs.PlainIsLawful.{child_balanced, child_tokens}

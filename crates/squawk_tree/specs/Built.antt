@@ -1,10 +1,8 @@
 -- A tree while it is built: its steps so far, and what is kept beside them.
-use Rattle.std.specs.Prelude.{◌≡◌, ℕ, ◌+◌, ◌*◌, ◌≤◌, List, [], ◌∷◌, ◌++◌, length, reverse, take}
+use Rattle.std.specs.Prelude.{◌≡◌, ℕ, ◌+◌, ◌*◌, ◌≤◌, List, ◌++◌, length, reverse, take}
 use Rattle.squawk_events.specs.declared.steps.StrStep.{StrStep}
-use Rattle.squawk_events.specs.declared.steps.StrStep.TheVariants.{Enter, Token, Exit, Error}
-use Rattle.squawk_tree.specs.NodeRanges.{at_nodes, node_ranges, node_step_count, stride, AreCountsByStride}
-use Rattle.squawk_tree.specs.Ranges.{node_end, ranges_from}
-use Rattle.squawk_tree.specs.Spans.{AreBelow, closing, open_count, starts, whole}
+use Rattle.squawk_tree.specs.NodeRanges.{node_ranges, node_step_count, stride, AreCountsByStride}
+use Rattle.squawk_tree.specs.Spans.{AreBelow, open_count, whole}
 use Rattle.squawk_tree.specs.Taken.{tokens_end}
 use Rattle.squawk_tree.specs.declared.builder.TreeBuilder.{TreeBuilder}
 

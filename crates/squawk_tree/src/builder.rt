@@ -106,9 +106,15 @@ impl TreeBuilder {
         requires built { IsBuilt self }
         requires children { children.items ≡ child_spans self.steps.items }
         requires tree { IsTree (record {
-            steps = self.steps.items; errors = errors.items; len = len }) }
+          steps = self.steps.items;
+          errors = errors.items;
+          len = len;
+        }) }
         ensures parse { IfOk result (λ parse. parse ≡ record {
-            steps = self.steps.items; errors = errors.items; len = len }) }
+          steps = self.steps.items;
+          errors = errors.items;
+          len = len;
+        }) }
         ensures refusals { IfErr result IsOutOfMemory }
     {
         let mut counts = self.counts;

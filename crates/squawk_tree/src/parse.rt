@@ -83,7 +83,10 @@ impl Parse {
         ensures { result ≡ parts }
     {
         let TreeParts {
-            steps, errors, len, ..
+            steps,
+            errors,
+            len,
+            ..
         } = parts;
         let Tables {
             spans,

@@ -1,4 +1,4 @@
-use Rattle.std.proofs.Common.{arith, ap, sym, ◌∙◌}
+use Rattle.std.proofs.Common.{arith}
 use Rattle.squawk_tree.proofs.BuiltLemmas.{counts_filled}
 use Rattle.squawk_tree.proofs.builder.fill_counts.Goals as goal
 

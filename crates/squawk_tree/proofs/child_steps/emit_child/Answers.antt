@@ -5,6 +5,6 @@ use Rattle.squawk_tree.proofs.child_steps.emit_child.Goals as goal
 
 pub returns-in-None-clause-steps : goal.returns-in-None-clause-steps
 returns-in-None-clause-steps c =
-    subst (λ xs. OnOk c.emit_tokens.result (c.emit_tokens.new.sink.steps.items
-    ≡ c.args.sink.now.steps.items ++ xs)) (sym (leaf_kept c.args.shape _ _ c.in-None.is))
+    subst (λ xs. OnOk c.emit_tokens.result (c.emit_tokens.new.tree.steps.items
+    ≡ c.args.tree.now.steps.items ++ xs)) (sym (leaf_kept c.args.shape _ _ c.in-None.is))
     c.emit_tokens.ensures.steps

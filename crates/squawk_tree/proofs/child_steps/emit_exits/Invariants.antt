@@ -6,9 +6,9 @@ use Rattle.squawk_tree.proofs.child_steps.emit_exits.Given as goal
 -- what was emitted, and the `Exit` steps that are left, are all
 abbrev pub invariant-loop-left : goal.invariant-loop-left
 invariant-loop-left l = record {
-  steps : l.sink.steps.items ++ exit_steps l.left
-      ≡ l.initial.sink.steps.items ++ exit_steps l.groups;
-  built : IsBuilt l.sink;
+  steps : l.tree.steps.items ++ exit_steps l.left
+      ≡ l.initial.tree.steps.items ++ exit_steps l.groups;
+  built : IsBuilt l.tree;
 }
 
 abbrev pub decreases-loop-left : goal.decreases-loop-left

@@ -7,9 +7,9 @@ use Rattle.squawk_tree.proofs.child_steps.emit_tokens.Given as goal
 -- what was emitted, and the steps of the tokens that are left, are the steps of all
 abbrev pub invariant-loop-i : goal.invariant-loop-i
 invariant-loop-i l = record {
-  steps : l.sink.steps.items ++ token_steps (token_start l.lexed.tokens l.i)
+  steps : l.tree.steps.items ++ token_steps (token_start l.lexed.tokens l.i)
       (slice_range l.lexed.tokens l.i l.to)
-      ≡ l.initial.sink.steps.items ++ token_steps (token_start l.lexed.tokens l.from)
+      ≡ l.initial.tree.steps.items ++ token_steps (token_start l.lexed.tokens l.from)
       (slice_range l.lexed.tokens l.from l.to);
-  built : IsBuilt l.sink;
+  built : IsBuilt l.tree;
 }
