@@ -16,9 +16,9 @@ pub is_replayed : (script text lines output : List ℕ) (tree : Tree) → IsGood
     → IsParsed text tree → IsTree tree → output ≡ lines ++ report_of tree
     → IsReplayed script tree output
 unfolding lines_of_script
-is_replayed script text lines output tree good ranges text_is lines_are parsed balanced is = record {
+is_replayed script text lines output tree good ranges last lines_are parsed balanced is = record {
   accepted = record { good = good; ranges = ranges };
-  parsed = subst (λ u. IsParsed u tree) text_is parsed;
+  parsed = subst (λ u. IsParsed u tree) last parsed;
   balanced = balanced;
   lines = is ∙ ap (λ ls. ls ++ report_of tree) lines_are;
 }

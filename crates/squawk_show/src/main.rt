@@ -1,5 +1,5 @@
-//! The program: it writes the report of the SQL on standard input, a summary of a made text, or what
-//! the edits of a script do.
+//! The program: it writes the report of the SQL on standard input, a summary of a made text, or
+//! what the edits of a script do.
 #![tactic(auto)]
 
 mod command;

@@ -129,8 +129,8 @@ fn run_command<S: Source, K: Sink>(
 /// `words` are those of the command line without the program's name. Without words the text is what
 /// `source` has left, and the output is the report of its tree. With `make` and a number from 1 to
 /// 100000 the text is made, the output is a summary, and the source is not read. With `replay` what
-/// `source` has left is a script of edits of a text that is empty at first, and the output is a line
-/// for each edit, and then the report of the last tree.
+/// `source` has left is a script of edits of a text that is empty at first, and the output is a
+/// line for each edit, and then the report of the last tree.
 ///
 /// The whole output is made before its first byte is written to `out`, and writing allocates
 /// nothing. After an error its line is written to `err`, whose faults change nothing.

@@ -44,7 +44,8 @@ fn push_step(
     }
 }
 
-// A text with room for the lines of a report. If that much memory cannot be had, it grows as needed.
+// A text with room for the lines of a report after it. If that much memory cannot be had, it grows
+// as needed.
 fn make_room(text: Vec<u8>, steps: usize) -> Vec<u8>
     ensures { result.items ≡ text.items }
 {
@@ -77,9 +78,9 @@ fn append_step_lines(alloc: Global, text: Vec<u8>, parse: &Parse) -> Result<Vec<
     Ok(out)
 }
 
-/// Appends the report of a tree to a text and returns both, in the text's memory where that is
-/// large enough (`docs/PROGRAM.md`, "The report"): a line for each node and leaf, in order, and then
-/// a line for each error. The report is UTF-8. Fails only if memory runs out.
+/// Appends the report of a tree to a text, and returns both (`docs/PROGRAM.md`, "The report"): a
+/// line for each node and leaf, in order, and then a line for each error. The memory of the text is
+/// used again where it is large enough. The report is UTF-8. Fails only if memory runs out.
 pub fn append_report(alloc: Global, text: Vec<u8>, parse: &Parse) -> Result<Vec<u8>, AllocError>
     ensures { IfOk result (λ out. out.items ≡ text.items ++ report_of parse.now) }
 {

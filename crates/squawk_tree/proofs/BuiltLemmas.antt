@@ -157,7 +157,8 @@ counts_token steps x counts kind start end so_far is =
       few = omega (arith, few, len);
       counts_are = λ j lt. so_far.counts_are j lt ∙ ap Some (sym (same (64 * j)));
       complete = same (64 * length counts) ∙ so_far.complete
-          ∙ sym (node_count-append steps (Token kind start end ∷ []) ∙ plus_none (node_step_count steps));
+          ∙ sym (node_count-append steps (Token kind start end ∷ [])
+          ∙ plus_none (node_step_count steps));
     })
   where
     plus_none : (n : ℕ) → n + 0 ≡ n

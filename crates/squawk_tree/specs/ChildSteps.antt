@@ -111,7 +111,8 @@ shape_span ts from shape step = record {
 }
 
 -- the steps are the weave of these tokens and the lawful steps of a grammar
-pub record IsWeaveOf (ts : List LexedToken) (output : List Step) (steps : List StrStep) : Type 0 where
+pub record IsWeaveOf (ts : List LexedToken) (output : List Step) (steps : List StrStep)
+    : Type 0 where
   pub lawful : IsLawful (kinds_without_trivia ts) output
   pub steps_are : steps ≡ weave ts output
 

@@ -14,8 +14,8 @@ use crate::tables::Tables;
 use squawk_events::{FrontError, ParseError, StrStep};
 use std::alloc::{AllocError, Global};
 
-// A tree while it is built. A count is appended only before a step of a node that comes after the
-// step for which the count is kept: in between the number of such steps is the same.
+// A tree while it is built. The count that is kept for a step is appended no later than before the
+// next step of a node: up to there the number of these steps is the same.
 #[derive(Drop)]
 pub(crate) struct TreeBuilder {
     pub(crate) steps: Vec<StrStep>,
@@ -26,10 +26,11 @@ pub(crate) struct TreeBuilder {
     // For every 64th step, the number of `Enter` and `Exit` steps before it.
     counts: Vec<usize>,
     // The end of the last token.
-    pub(crate) end: u32,
+    end: u32,
 }
 
-// Appends the counts that are kept for the steps up to the last of `len` and the one after it.
+// Appends the counts that are kept for the first `len` steps and the step after them, if they are
+// missing. They are all the number of `Enter` and `Exit` steps among the first `len`.
 fn fill_counts(counts: &mut Vec<usize>, len: usize, node_steps: usize) -> Result<(), AllocError>
     ensures so_far { OnOk result ((steps : List Given) → length steps ≡ len
         → node_steps ≡ node_step_count steps → AreCountsSoFar steps counts.old.items
@@ -42,7 +43,7 @@ fn fill_counts(counts: &mut Vec<usize>, len: usize, node_steps: usize) -> Result
     Ok(())
 }
 
-// Appends the counts that are kept for the steps up to the next step, unless it is a `Token`.
+// Appends the missing counts for the first `len` steps and the next one, unless that is a `Token`.
 #[inline(always)]
 fn keep_counts(
     counts: &mut Vec<usize>,

@@ -17,7 +17,8 @@ loop-at-preserved c =
     c.loop-at-test.true refl c.first_child_in-shape.ensures.within in
     record {
       children = children_more c.args.division c.args.lexed.now.tokens _ _ c.loop-at.at _ _ _
-          _ _ _ _ _ _ _ _ (c.len.ensures ∙ c.loop-at.tree.steps.ok.0) c.kinds-kinds.ensures c.loop-at-test.true refl
+          _ _ _ _ _ _ _ _ (c.len.ensures ∙ c.loop-at.tree.steps.ok.0) c.kinds-kinds.ensures
+          c.loop-at-test.true refl
           c.first_child_in-shape.ensures.shape refl within c.in_ok-emit_child.ensures.steps
           c.in_ok-push_child.ensures.children c.in_ok-error.ensures.ok
           c.loop-at.invariant.children;
