@@ -162,20 +162,15 @@ class Refusals:
         print(f"refuse_memory: {name} {which}: {'refused' if refused else 'nothing refused'}, status {status},"
               f" {len(output)} bytes of output, error line {line!r}", file=sys.stderr)
 
-    def growths(self, words, text, wanted):
-        """The number of growths of a run that ends as wanted, which the caller knows to be below ALL."""
-        first = 1
-        while self.end(words, text, first, first)[0]:
-            first += 1
-        ended = self.end(words, text, 0, 0)
-        if ended != (False, *wanted):
-            sys.exit(f"refuse_memory: the words {words} end with {ended}")
-        return first - 1
-
     def silent_bound(self, words):
         """A bound of the growths of a run for its words: those of a run whose words name no command."""
-        none = [words[0][::-1], *words[1:]] if words else ["x"]
-        return self.growths(none, b"", (2, b"", b"bad words\n"))
+        words = [words[0][::-1], *words[1:]] if words else ["x"]
+        growths = 0
+        while (ended := self.end(words, b"", growths + 1, ALL))[0]:
+            growths += 1
+        if ended != (False, 2, b"", b"bad words\n"):
+            self.wrong(" ".join(words), 0, 0, ended)
+        return growths
 
     def refuse(self, name, words, text):
         """Refuses each growth of a run, prints its line, and returns the number of growths."""
