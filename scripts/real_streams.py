@@ -9,8 +9,8 @@ or none. The cases and their ends are those of the table in docs/PROGRAM.md, "Re
 numbers of cases and of wrong ends. The status is 0 if there are no wrong ends, and the table and the script have the
 same cases, else 1.
 
-With --huge it also runs the cases of 4 GiB, which need 10 GB of memory and a minute. Where memory is short they may end
-with status 6. It needs Linux.
+With --huge it also runs the cases of 4 GiB, which need 6 GB of memory and half a minute. Where memory is short they may
+end with status 6. It needs Linux.
 """
 import argparse
 import contextlib
