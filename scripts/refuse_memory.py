@@ -2,6 +2,7 @@
 """Refuses each growth of the program's memory in turn, and checks how the program ends.
 
 Use: refuse_memory.py [--program PROGRAM] [--runs NAMES]
+     refuse_memory.py --program TESTS --test NAME
 
 The program is the one that ./run builds, which is built first if need be; PROGRAM is any other. NAMES are one or more
 of these, with commas between them; all of them if nothing is said:
@@ -23,8 +24,9 @@ then the second, and so on, until a run meets no refusal. Each is refused twice:
   program can do without room that it reserves in advance.
 
 Each run has a line: its name, the number of growths, and how many of these are for the words and how many the program
-can do without. The last line has the sums. The status is 0 if all is as it must be, else 1. It needs Linux with the
-GNU C library, and a C compiler `cc`.
+can do without. With --test, TESTS is the program `out/CRATE_tests` that `rt test` leaves in a crate, and NAME the full
+name of a test in it that must pass whichever of its growths are refused. The last line has the sums. The status is 0 if
+all is as it must be, else 1. It needs Linux with the GNU C library, and a C compiler `cc`.
 """
 import argparse
 import os
@@ -196,6 +198,18 @@ class Refusals:
         print(f"{name:10} {growths:6} growths refused, {silent} for the words, {spared} that it can do without")
         return growths
 
+    def refuse_test(self, name):
+        """Refuses each growth of a test, which must pass, and returns the number of growths."""
+        growths = 0
+        while (ended := self.end([name], b"", growths + 1, ALL))[0]:
+            growths += 1
+            for last, done in (ALL, ended), (growths, self.end([name], b"", growths, growths)):
+                if done[:2] != (True, 0):
+                    self.wrong(name, growths, last, done)
+        if ended[1] != 0:
+            self.wrong(name, 0, 0, ended)
+        return growths
+
 
 def compile_library(folder):
     """Compiles the library in a folder, and returns its path."""
@@ -209,16 +223,23 @@ def main():
     parser = argparse.ArgumentParser(description=__doc__, formatter_class=argparse.RawDescriptionHelpFormatter)
     parser.add_argument("--program", metavar="PROGRAM")
     parser.add_argument("--runs", metavar="NAMES", default=",".join(RUNS))
+    parser.add_argument("--test", metavar="NAME")
     options = parser.parse_args()
     names = options.runs.split(",")
     for name in names:
         if name not in RUNS:
             parser.error(f"no run {name}")
+    if options.test and not options.program:
+        parser.error("--test needs --program")
     if options.program is None:
         subprocess.run([TOP / "run", "make", "1"], stdout=subprocess.DEVNULL, check=True)
     with tempfile.TemporaryDirectory() as folder:
         refusals = Refusals(options.program or str(BUILT), compile_library(pathlib.Path(folder)))
-        total = sum(refusals.refuse(name, RUNS[name][0], RUNS[name][1].encode()) for name in names)
+        if options.test:
+            names = [options.test]
+            total = refusals.refuse_test(options.test)
+        else:
+            total = sum(refusals.refuse(name, RUNS[name][0], RUNS[name][1].encode()) for name in names)
     print(f"refuse_memory: {len(names)} runs, {total} growths refused, each alone and with all after it,"
           f" {refusals.failures} wrong ends")
     sys.exit(1 if refusals.failures or not total else 0)
