@@ -12,8 +12,8 @@ For each text, and each reading that the program's options choose:
   tree      the leaves tile the text, nodes nest and begin and end with a leaf that is no trivia, a leaf that prints as
             a word or punctuation is that word, each error lies in a leaf, and the errors are in the order of the leaves
   parts     the lines and errors of two parts of the text, cut at the end of a closed statement, are those of the text
-  replay    a script of edits that make the text ends with the report of the text; there is a line for each edit, whose
-            counts add up to the tokens and children of the last text, and keep no more than the text before had
+  replay    a script of edits that make the text ends with its report, and begins as its first records alone do;
+            the counts of each edit keep no more than there was, and add up to the tokens and children of the report
   refusals  bytes that are not UTF-8 end with status 4 and the right offset; a broken script with status 8 at a place up
             to which it is a script, or with 9, or with 0; nothing was written to standard output but with 0
   time      the processor time is below 0.1 s and 1 microsecond for each byte and edit; each 200th text is repeated up
@@ -57,6 +57,7 @@ EDIT = re.compile(r"edit (\d+): tokens (\d+)\+(\d+)\+(\d+) children (\d+)\+(\d+)
 BAD_SCRIPT = re.compile(r"bad script at (\d+)\n")
 BAD_BYTES = b"\xff", b"\x80", b"\xc3", b"\xed\xa0\x80", b"\xf4\x90\x80\x80", b"\xc0\x80", b"\xe2\x82", b"\xf0\x9d"
 
+
 class Program:
     """The program. Its streams are files in memory, which all its runs share."""
 
@@ -82,14 +83,14 @@ class Program:
         spent, bound = usage.ru_utime + usage.ru_stime, START_TIME + BYTE_TIME * len(data) * (edits + 1)
         check(spent <= bound, f"time: {words} took {spent:.3f} s for {len(data)} bytes and {edits} edits")
         output, line = (os.pread(stream, os.fstat(stream).st_size, 0) for stream in self.streams[1:])
-        return os.waitstatus_to_exitcode(status), output, line.decode()
+        return os.waitstatus_to_exitcode(status), output, line.decode("ascii", "replace")
 
     def report(self, words, data, edits=0):
         """The lines that the program writes on bytes with which it must end well."""
         status, output, line = self.run(words, data, edits)
         check((status, line) == (0, ""), f"status: {words} ended with {status}, {line!r}")
         check(output.endswith(b"\n"), f"output: {words} ended without a line end")
-        return output.decode().splitlines()
+        return output.decode("ascii", "replace").splitlines()
 
 
 def check_parts(program, words, data, report, rng):
@@ -103,21 +104,32 @@ def check_parts(program, words, data, report, rng):
     check(sums == list(report.shifted(0)), f"parts: the text cut at {end}")
 
 
+def check_edit_lines(lines):
+    """The lines of edits, in order. Returns the numbers of tokens and of children after the last."""
+    counts = 0, 0
+    for number, line in enumerate(lines, 1):
+        match = EDIT.fullmatch(line)
+        check(match and int(match[1]) == number, f"replay: the line of edit {number}")
+        numbers = [int(group) for group in match.groups()[1:]]
+        kept = numbers[0] + numbers[2], numbers[3] + numbers[5]
+        check(kept[0] <= counts[0] and kept[1] <= counts[1], f"replay: edit {number} keeps more than there was")
+        counts = sum(numbers[:3]), sum(numbers[3:])
+    return counts
+
+
 def check_replay(program, words, data, lines, rng):
-    """A script that makes the text ends with its report."""
+    """A script that makes the text ends with its report, and begins as its first records alone. Returns the script."""
     records = script(data.decode(), rng)
     whole = b"".join(records)
     written = program.report(words, whole, len(records))
     check(written[len(records):] == lines, "replay: the report of the last text")
-    report, before = Report(lines), (0, 0)
-    for number, line in enumerate(written[:len(records)], 1):
-        match = EDIT.fullmatch(line)
-        check(match and int(match[1]) == number, f"replay: the line of edit {number}")
-        front, new, back, *children = map(int, match.groups()[1:])
-        after = front + new + back, sum(children)
-        check(front + back <= before[0] and children[0] + children[2] <= before[1], f"replay: edit {number} keeps more")
-        before = after
-    check(before == (len(report.leaves), report.children()), "replay: the counts of the last text")
+    first = rng.randint(0, len(records))
+    begun = program.report(words, b"".join(records[:first]), first)
+    check(begun[:first] == written[:first], f"replay: the lines of the first {first} edits")
+    for count, output in (first, begun), (len(records), written):
+        report = Report(output[count:])
+        counts = len(report.leaves), report.children()
+        check(check_edit_lines(output[:count]) == counts, f"replay: the counts after {count} edits")
     return whole
 
 

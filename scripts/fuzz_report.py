@@ -19,6 +19,7 @@ class Wrong(Exception):
 
 
 def check(holds, what):
+    """Says what is wrong, unless it holds."""
     if not holds:
         raise Wrong(what)
 
@@ -69,6 +70,7 @@ class Report:
         check(unknown == nodes, "errors: the unknown statements")
 
     def children(self):
+        """The number of the root's children."""
         return sum(line[0] == 1 for line in self.lines)
 
     def closed_ends(self):

@@ -23,6 +23,7 @@ FORMS = [
 
 
 def random_range(text, rng):
+    """The start and the end of a random part of a text."""
     return sorted((rng.randint(0, len(text)), rng.randint(0, len(text))))
 
 

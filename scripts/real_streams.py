@@ -53,7 +53,6 @@ WITHOUT_MEMORY = ("6", "`out of memory`", "none")
 BAD_WORDS = ("nothing",)
 MAKE = ("make", "4")
 
-
 # Limits of the system: the kind, and the value twice.
 MEMORY = (resource.RLIMIT_AS, (64 << 20, 64 << 20))
 STACK = (resource.RLIMIT_STACK, (64 << 10, 64 << 10))
@@ -92,7 +91,6 @@ CASES = {
     "4294967295 spaces": {"text": LIMIT, "source": "spaces"},
     "4294967296 spaces": {"text": LIMIT + 1, "source": "spaces"},
 }
-
 
 # The kinds of streams that are files or nothing, each with its path and mode. Those that are closed are closed by the
 # new process.
