@@ -115,7 +115,7 @@ def record(start, end, new):
 
 def document():
     """A script that makes a document of 1000 tokens, and edits it."""
-    text = "select a1 ;\n" * 200
+    text = "select a;\n" * 200
     middle = len(text) // 2
     return (record(0, 0, text) + record(middle, middle + 6, "delete") + record(0, 0, "/*") + record(0, 2, "")
             + record(len(text), len(text), "'") + record(0, len(text) + 1, ""))
