@@ -12,8 +12,8 @@ For each text, and each reading that the program's options choose:
   tree      the leaves tile the text, nodes nest and begin and end with a leaf that is no trivia, a leaf that prints as
             a word or punctuation is that word, each error lies in a leaf, and the errors are in the order of the leaves
   parts     the lines and errors of two parts of the text, cut at the end of a closed statement, are those of the text
-  replay    a script of edits that make the text ends with its report, and begins as its first records alone do;
-            the counts of each edit keep no more than there was, and add up to the tokens and children of the report
+  replay    a script of edits that make the text ends with its report, and begins as its first records alone do; the
+            counts of an edit add up to the tokens and children of the text after it, and what it keeps is in both texts
   refusals  bytes that are not UTF-8 end with status 4 and the right offset; a broken script with status 8 at a place up
             to which it is a script, or with 9, or with 0; nothing was written to standard output but with 0
   time      the processor time is below 0.1 s and 1 microsecond for each byte and edit; each 200th text is repeated up
@@ -36,7 +36,7 @@ import time
 
 # The modules beside this script leave no compiled files there.
 sys.dont_write_bytecode = True
-from fuzz_report import BOM, Report, Wrong, check
+from fuzz_report import BOM, Report, Wrong, check, check_kept
 from fuzz_texts import random_range, random_text, script
 
 TOP = pathlib.Path(__file__).resolve().parent.parent
@@ -104,16 +104,13 @@ def check_parts(program, words, data, report, rng):
     check(sums == list(report.shifted(0)), f"parts: the text cut at {end}")
 
 
-def check_edit_lines(lines):
-    """The lines of edits, in order. Returns the numbers of tokens and of children after the last."""
-    counts = 0, 0
+def edit_counts(lines):
+    """The six counts of each edit, by its line."""
+    counts = []
     for number, line in enumerate(lines, 1):
         match = EDIT.fullmatch(line)
         check(match and int(match[1]) == number, f"replay: the line of edit {number}")
-        numbers = [int(group) for group in match.groups()[1:]]
-        kept = numbers[0] + numbers[2], numbers[3] + numbers[5]
-        check(kept[0] <= counts[0] and kept[1] <= counts[1], f"replay: edit {number} keeps more than there was")
-        counts = sum(numbers[:3]), sum(numbers[3:])
+        counts.append([int(group) for group in match.groups()[1:]])
     return counts
 
 
@@ -123,13 +120,19 @@ def check_replay(program, words, data, lines, rng):
     whole = b"".join(records)
     written = program.report(words, whole, len(records))
     check(written[len(records):] == lines, "replay: the report of the last text")
-    first = rng.randint(0, len(records))
-    begun = program.report(words, b"".join(records[:first]), first)
-    check(begun[:first] == written[:first], f"replay: the lines of the first {first} edits")
-    for count, output in (first, begun), (len(records), written):
-        report = Report(output[count:])
-        counts = len(report.leaves), report.children()
-        check(check_edit_lines(output[:count]) == counts, f"replay: the counts after {count} edits")
+    counts = edit_counts(written[:len(records)])
+    first = rng.randrange(len(records))
+    reports = []
+    for count in first, first + 1:
+        begun = program.report(words, b"".join(records[:count]), count)
+        check(begun[:count] == written[:count], f"replay: the lines of the first {count} edits")
+        reports.append(Report(begun[count:]))
+    before, after = reports
+    sums = [sum(counts[first][:3]), sum(counts[first][3:])]
+    check(sums == [len(after.leaves), len(after.children())], f"replay: the counts of edit {first + 1}")
+    kept = counts[first][0] + counts[first][2], counts[first][3] + counts[first][5]
+    check(kept[0] <= len(before.leaves) and kept[1] <= len(before.children()), f"replay: edit {first + 1} keeps more")
+    check_kept(before, after, counts[first])
     return whole
 
 

@@ -70,8 +70,9 @@ class Report:
         check(unknown == nodes, "errors: the unknown statements")
 
     def children(self):
-        """The number of the root's children."""
-        return sum(line[0] == 1 for line in self.lines)
+        """The lines of each child of the root."""
+        starts = [index for index, line in enumerate(self.lines) if line[0] == 1]
+        return [self.lines[start:end] for start, end in zip(starts, starts[1:] + [len(self.lines)])]
 
     def closed_ends(self):
         """The ends of the children that are closed: their last leaf is a semicolon or a psql command."""
@@ -83,8 +84,8 @@ class Report:
 
     def shifted(self, by):
         """The lines without the root, and the errors, moved by an offset."""
-        lines = [(depth, letter, kind, start + by, end + by) for depth, letter, kind, start, end in self.lines[1:]]
-        return lines, [(start + by, end + by, message) for start, end, message in self.errors]
+        errors = [(start + by, end + by, message) for start, end, message in self.errors]
+        return [moved(line, by) for line in self.lines[1:]], errors
 
 
 def check_leaf(kind, start, token):
@@ -97,3 +98,23 @@ def check_leaf(kind, start, token):
     elif kind.startswith("`"):
         fits = kind[1:-1].encode() in (token.lower(), token.removeprefix(b"\\"))
     check(fits, f"tree: the kind {kind} of {token!r}")
+
+
+def moved(line, by):
+    """A line, moved by an offset."""
+    depth, letter, kind, start, end = line
+    return depth, letter, kind, start + by, end + by
+
+
+def check_kept(before, after, counts):
+    """The leaves and children that an edit keeps, by the counts of its line, are in the reports before and after it."""
+    by = after.lines[0][4] - before.lines[0][4]
+    front_leaves, _, back_leaves, front, _, back = counts
+    leaves = [[(0, *line[1:]) for line in report.leaves] for report in (before, after)]
+    check(leaves[0][:front_leaves] == leaves[1][:front_leaves], "kept: the leaves before the edit")
+    last = [moved(line, by) for line in leaves[0][len(leaves[0]) - back_leaves:]]
+    check(last == leaves[1][len(leaves[1]) - back_leaves:], "kept: the leaves behind the edit")
+    old, new = before.children(), after.children()
+    check(old[:front] == new[:front], "kept: the children before the edit")
+    last = [[moved(line, by) for line in child] for child in old[len(old) - back:]]
+    check(last == new[len(new) - back:], "kept: the children behind the edit")
