@@ -1,10 +1,10 @@
 -- What is kept beside the steps of a tree while they are appended one by one.
-use Rattle.std.proofs.Common.{◌≡◌, ℕ, zero, suc, ◌+◌, ◌-◌, ◌*◌, ◌/◌, ◌<◌, ◌≤◌, true, List, [], ◌∷◌, ◌++◌, length, take, ap, sym, ◌∙◌, refl, append_assoc, arith}
+use Rattle.std.proofs.Common.{◌≡◌, ℕ, zero, suc, ◌+◌, ◌-◌, ◌*◌, ◌/◌, ◌<◌, ◌≤◌, true, List, [], ◌∷◌, ◌++◌, length, take, ap, sym, ◌∙◌, refl, append_assoc, arith, get_or, false, ◌==◌}
 use Rattle.std.proofs.lemmas.List.{append-nil, length_push, take-append-le, take_all}
 use Rattle.std.specs.Prelude.{Some}
 use Rattle.squawk_events.specs.declared.steps.StrStep.{StrStep}
 use Rattle.squawk_events.specs.declared.steps.StrStep.TheVariants.{Enter, Token, Exit, Error}
-use Rattle.squawk_tree.specs.Built.{AreCountsSoFar, AreSpansSoFar}
+use Rattle.squawk_tree.specs.Built.{end_of_last, AreCountsSoFar, AreSpansSoFar}
 use Rattle.squawk_tree.specs.NodeRanges.{node_ranges, node_step_count, AreNodeStepCounts}
 use Rattle.squawk_tree.specs.Spans.{spans_after, open_nodes_after, offset_after, open_count, whole}
 use Rattle.squawk_tree.specs.Steps.{is_balanced}
@@ -33,6 +33,48 @@ end_one at (Error number offset) = refl
 pub end_pushed : (steps : List StrStep) (x : StrStep)
     → tokens_end (steps ++ x ∷ []) ≡ offset_after (tokens_end steps) x
 end_pushed steps x = end_after-append 0 steps (x ∷ []) ∙ end_one (tokens_end steps) x
+
+-- the end of the last step
+pub end_of_last-push : (at : ℕ) (xs : List StrStep) (x : StrStep)
+    → end_of_last at (xs ++ x ∷ []) ≡ offset_after at x
+end_of_last-push at [] x = refl
+end_of_last-push at (y ∷ []) x = refl
+end_of_last-push at (y ∷ z ∷ zs) x = end_of_last-push at (z ∷ zs) x
+
+pub end_of_last_at : (at : ℕ) (xs : List StrStep) (x : StrStep) → 0 < length xs
+    → x ≡ get_or xs (length xs - 1) x → end_of_last at xs ≡ offset_after at x
+end_of_last_at at [] x some is = absurd (omega arith)
+end_of_last_at at (y ∷ []) x some is = ap (offset_after at) (sym is)
+end_of_last_at at (y ∷ z ∷ zs) x some is =
+    end_of_last_at at (z ∷ zs) x (omega arith)
+    (is ∙ ap (λ n. get_or (y ∷ z ∷ zs) n x) (let e : suc (suc (length zs)) - 1
+    ≡ suc (suc (length zs) - 1) = omega arith in e))
+
+-- a step other than a `Token` keeps the offset, and each step does so the second time
+pub offset_kept : (at : ℕ) (x : StrStep)
+    → ((kind start end : ℕ) → x ≡ Token kind start end → ⊥) → at ≡ offset_after at x
+offset_kept at (Enter kind) other = refl
+offset_kept at (Token kind start end) other = absurd (other kind start end refl)
+offset_kept at Exit other = refl
+offset_kept at (Error number offset) other = refl
+
+pub offset_twice : (at : ℕ) (x : StrStep)
+    → offset_after (offset_after at x) x ≡ offset_after at x
+offset_twice at (Enter kind) = refl
+offset_twice at (Token kind start end) = refl
+offset_twice at Exit = refl
+offset_twice at (Error number offset) = refl
+
+-- its end is that of the steps with it
+pub end_token : (at : ℕ) (steps : List StrStep) (x : StrStep) (kind start end : ℕ)
+    → x ≡ Token kind start end → end_of_last at (steps ++ x ∷ []) ≡ tokens_end (steps ++ x ∷ [])
+end_token at steps x kind start end is =
+    end_of_last-push at steps x ∙ rw is refl ∙ sym (end_pushed steps x)
+
+-- a number other than 0
+pub some_of : (n : ℕ) → (n == 0) ≡ false → 0 < n
+some_of zero h = absurd (cc)
+some_of (suc n) h = omega arith
 
 -- the number of steps of nodes, with more steps
 node_count-append : (xs ys : List StrStep)
@@ -72,6 +114,13 @@ spans_pushed steps x spans ps spans' ps' at so_far at_is spans_is ps_is =
           ∙ ap (λ n. n + node_step_count (x ∷ [])) so_far.count
           ∙ sym (node_count-append steps (x ∷ []));
     })
+
+-- a `Token` changes neither the ranges nor the open nodes
+pub spans_token : (steps : List StrStep) (x : StrStep) (spans ps : List (ℕ × ℕ))
+    (kind start end : ℕ) → AreSpansSoFar steps spans ps → x ≡ Token kind start end
+    → AreSpansSoFar (steps ++ x ∷ []) spans ps
+spans_token steps x spans ps kind start end so_far is =
+    spans_pushed steps x spans ps spans ps (tokens_end steps) so_far refl (rw is refl) (rw is refl)
 
 -- after the last step of a tree they are those of all nodes
 pub spans_done : (steps : List StrStep) (spans ps : List (ℕ × ℕ)) → AreSpansSoFar steps spans ps

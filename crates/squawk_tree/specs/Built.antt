@@ -1,8 +1,8 @@
 -- A tree while it is built: its steps so far, and what is kept beside them.
-use Rattle.std.specs.Prelude.{◌≡◌, ℕ, ◌+◌, ◌*◌, ◌≤◌, List, ◌++◌, length, reverse, take}
+use Rattle.std.specs.Prelude.{◌∷◌, ◌≡◌, ℕ, ◌+◌, ◌*◌, ◌≤◌, List, ◌++◌, length, reverse, take, []}
 use Rattle.squawk_events.specs.declared.steps.StrStep.{StrStep}
 use Rattle.squawk_tree.specs.NodeRanges.{node_ranges, node_step_count, stride, AreCountsByStride}
-use Rattle.squawk_tree.specs.Spans.{AreBelow, open_count, whole}
+use Rattle.squawk_tree.specs.Spans.{AreBelow, offset_after, open_count, whole}
 use Rattle.squawk_tree.specs.Taken.{tokens_end}
 use Rattle.squawk_tree.specs.declared.builder.TreeBuilder.{TreeBuilder}
 
@@ -22,8 +22,14 @@ pub record AreSpansSoFar (steps : List StrStep) (spans open_nodes : List (ℕ ×
       → open_count (length open_nodes) rest ≡ open_count 0 (steps ++ rest)
   pub count : length spans ≡ node_step_count steps
 
+-- the end of the last step if that is a `Token`, else the offset
+abbrev pub end_of_last : ℕ → List StrStep → ℕ
+end_of_last at [] = at
+end_of_last at (x ∷ []) = offset_after at x
+end_of_last at (x ∷ y ∷ ys) = end_of_last at (y ∷ ys)
+
 -- what is kept beside the steps so far
 pub record IsBuilt (tree : TreeBuilder) : Type 0 where
   pub spans : AreSpansSoFar tree.steps.items tree.spans.items (reverse tree.open_nodes.items)
   pub counts : AreCountsSoFar tree.steps.items tree.counts.items
-  pub end : tree.end ≡ tokens_end tree.steps.items
+  pub end : end_of_last tree.end tree.steps.items ≡ tokens_end tree.steps.items

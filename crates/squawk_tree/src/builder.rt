@@ -2,7 +2,7 @@
 ghost use Rattle.std.specs.Prelude.{◌≡◌, ◌<◌, ◌*◌, ◌++◌, ◌∷◌, [], List, length, IfOk, OnOk, IfErr};
 ghost use Rattle.squawk_events.specs.Refusals.{IsOutOfMemory};
 ghost use Rattle.squawk_events.specs.declared.steps.StrStep.{StrStep as Given};
-ghost use Rattle.squawk_tree.specs.Built.{AreCountsSoFar, IsBuilt};
+ghost use Rattle.squawk_tree.specs.Built.{end_of_last, AreCountsSoFar, IsBuilt};
 ghost use Rattle.squawk_tree.specs.ChildSpans.{child_spans};
 ghost use Rattle.squawk_tree.specs.NodeRanges.{node_step_count, stride};
 ghost use Rattle.squawk_tree.specs.Tree.{IsTree};
@@ -25,7 +25,7 @@ pub(crate) struct TreeBuilder {
     open_nodes: Vec<(usize, u32)>,
     // For every 64th step, the number of `Enter` and `Exit` steps before it.
     counts: Vec<usize>,
-    // The end of the last token.
+    // The end of the last token before the last step of a node, or 0.
     end: u32,
 }
 
@@ -43,21 +43,18 @@ fn fill_counts(counts: &mut Vec<usize>, len: usize, node_steps: usize) -> Result
     Ok(())
 }
 
-// Appends the missing counts for the first `len` steps and the next one, unless that is a `Token`.
+// The end of the last step if that is a `Token`, else the offset `before`.
 #[inline(always)]
-fn keep_counts(
-    counts: &mut Vec<usize>,
-    len: usize,
-    node_steps: usize,
-    next: &StrStep,
-) -> Result<(), AllocError>
-    ensures { OnOk result ((steps : List Given) → length steps ≡ len
-        → node_steps ≡ node_step_count steps → AreCountsSoFar steps counts.old.items
-        → AreCountsSoFar (steps ++ next.now ∷ []) counts.new.items) }
+fn end_of_last(steps: &[StrStep], before: u32) -> u32
+    ensures { result ≡ end_of_last before steps.now }
 {
-    match *next {
-        StrStep::Token { .. } => Ok(()),
-        _ => fill_counts(counts, len, node_steps),
+    if steps.is_empty() {
+        return before;
+    }
+    let last = steps[steps.len() - 1];
+    match last {
+        StrStep::Token { end, .. } => end,
+        _ => before,
     }
 }
 
@@ -82,6 +79,23 @@ impl TreeBuilder {
         tree
     }
 
+    // Appends a step of a node, and the counts that are missing before it.
+    #[inline(always)]
+    fn push_node_step(&mut self, step: StrStep) -> Result<(), FrontError>
+        requires { IsBuilt self.old }
+        ensures steps { OnOk result (self.new.steps.items ≡ self.old.steps.items ++ step ∷ []) }
+        ensures built { OnOk result (IsBuilt self.new) }
+        ensures refusals { IfErr result IsOutOfMemory }
+    {
+        fill_counts(&mut self.counts, self.steps.len(), self.spans.len())?;
+        let at = end_of_last(&self.steps, self.end);
+        let next = &step;
+        let end = add_step(&mut self.spans, &mut self.open_nodes, at, *next)?;
+        self.steps.push(*next)?;
+        self.end = end;
+        Ok(())
+    }
+
     // Appends a step.
     #[inline(always)]
     pub(crate) fn push(&mut self, step: StrStep) -> Result<(), FrontError>
@@ -90,11 +104,13 @@ impl TreeBuilder {
         ensures built { OnOk result (IsBuilt self.new) }
         ensures refusals { IfErr result IsOutOfMemory }
     {
-        keep_counts(&mut self.counts, self.steps.len(), self.spans.len(), &step)?;
-        let end = add_step(&mut self.spans, &mut self.open_nodes, self.end, step)?;
-        self.steps.push(step)?;
-        self.end = end;
-        Ok(())
+        match step {
+            StrStep::Token { .. } => {
+                self.steps.push(step)?;
+                Ok(())
+            }
+            _ => self.push_node_step(step),
+        }
     }
 
     // The parse with these steps, whose root has these children, and with these errors.
