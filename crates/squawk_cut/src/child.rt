@@ -52,7 +52,7 @@ impl Child {
     /// The only root child of a tree: its steps without those of the root, and its errors. `closed`
     /// says whether no later token can belong to it. The only error is `OutOfMemory`.
     ///
-    /// The root of `parse` must have exactly one child.
+    /// The root of `parse` must have exactly one child: `parse.children().len()` is 1.
     pub fn from_parse(alloc: Global, parse: &Parse, closed: bool) -> Result<Child, FrontError>
         requires one { length (root_children parse.now.steps) ≡ 1 }
         ensures child { IfOk result (λ child. child ≡ child_of_tree parse.now closed) }
