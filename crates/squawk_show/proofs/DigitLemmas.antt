@@ -2,7 +2,7 @@
 use Rattle.std.proofs.Common.{◌≡◌, ℕ, ◌+◌, ◌-◌, ◌/◌, ◌%◌, ◌^◌, ◌<◌, ◌≤◌, List, [], ◌∷◌, ◌++◌, length, refl, subst, ◌⊎◌, inl, inr, take, drop, ap, sym, ◌∙◌, append_assoc, arith, slice_index, length-take-le}
 use Rattle.std.specs.Prelude.{decimal}
 use Rattle.std.proofs.lemmas.Fmt.{decimal_digit, decimal_step}
-use Rattle.std.proofs.lemmas.List.{take_at, drop_at, take-append-le, take-take, take_all, length-append, length_push, get_or_push, get_or_append_left}
+use Rattle.std.proofs.lemmas.List.{take_at, drop_at, take-append-le, take-take, length-append, length_push, get_or_push, get_or_append_left}
 use Rattle.std.proofs.lemmas.Bool.{cases_lt}
 use Rattle.std.proofs.Math.Seq.{take-add, take-append-add}
 use borrow.Rule.Slice.PartMut.{put_mid, post_of}
@@ -97,20 +97,6 @@ pub table_push : (Is : ℕ → ℕ → Type 0) (n x : ℕ) (xs : List ℕ) → I
 table_push Is n x xs so_far is = record {
   counted = length_push xs x ∙ ap (λ m. m + 1) so_far.counted;
   each = λ k below. entry_push Is n x xs so_far is k below (cases_lt k n);
-}
-
--- the digits of a number of at most four, packed with four bytes after them
-pub packed_few : (n leading packed width rest : ℕ) → width ≡ length (decimal n) → width ≤ 4
-    → StartsWithDigits n leading
-    → take (width + 4) (u64_bytes packed) ≡ take width (u32_bytes leading) ++ u32_bytes rest
-    → StartsPacked n packed width
-packed_few n leading packed width rest wide narrow starts joined = record {
-  narrow = let h : width ≤ 6 = omega (arith, narrow) in h;
-  written = sym (take-take width (width + 4) (u64_bytes packed) (omega arith))
-      ∙ ap (take width) joined
-      ∙ take_at (take width (u32_bytes leading)) (u32_bytes rest) width
-      (length-take-le width (u32_bytes leading) narrow)
-      ∙ ap (λ m. take m (u32_bytes leading)) wide ∙ starts;
 }
 
 -- the digits of a number of five or six, packed with the last four after the others

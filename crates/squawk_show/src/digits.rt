@@ -202,8 +202,7 @@ impl DigitTables {
         ensures { spec.StartsPacked value result.0 result.1 }
     {
         if value < GROUP {
-            let width = digit_count(value);
-            return (join_groups(self.leading[value as usize], width, 0), width);
+            return (self.leading[value as usize] as u64, digit_count(value));
         }
         let high = value / GROUP;
         let width = digit_count(high);

@@ -1,4 +1,4 @@
-use Rattle.std.proofs.Common.{◌≡◌, ◌≤◌, ◌+◌, ◌++◌, ◌∙◌, ap, sym, take, arith}
+use Rattle.std.proofs.Common.{◌≡◌, ◌+◌, ◌++◌, ◌∙◌, ap, sym, take, arith}
 use Rattle.squawk_show.specs.Digits.{u32_bytes}
 use Rattle.squawk_show.proofs.digits.join_groups.Goals as goal
 

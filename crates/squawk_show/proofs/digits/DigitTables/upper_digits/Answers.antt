@@ -22,5 +22,5 @@ returns c =
     let two = length-decimal-le 2 (n / 10000) (omega arith) (omega arith)
     (omega (arith, c.requires)) in
     packed_more n _ _ _ _ (omega (arith, c.if-value-lt-GROUP.false)) (omega (arith, c.requires))
-    c.digit_count-width-2.ensures.count
-    (omega (arith, c.digit_count-width-2.ensures.count, two)) starts ends c.join_groups-upper.ensures
+    c.digit_count-width.ensures.count
+    (omega (arith, c.digit_count-width.ensures.count, two)) starts ends c.join_groups-upper.ensures
