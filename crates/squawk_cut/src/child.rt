@@ -94,7 +94,8 @@ impl Child {
         self.node
     }
 
-    /// Whether no later token can belong to it: `false` only for a statement that no token ends.
+    /// Whether no later token can belong to it. In a plain front it is `false` only for a statement
+    /// that no token ends.
     pub fn closed(&self) -> bool
         ensures { result ≡ self.now.closed }
     {

@@ -153,8 +153,8 @@ fn push_upper_digits(
     Ok(depth % 10)
 }
 
-// Appends a line as `push_line` does, whatever its depth and its range. Most reports have few of the
-// lines that come here.
+// Appends a line as `push_line` does, whatever its depth and its range. Most reports have few lines
+// that come here.
 #[cold]
 #[inline(never)]
 fn push_rare_line(

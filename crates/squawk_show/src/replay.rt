@@ -31,6 +31,7 @@ fn parse_document(alloc: Global, document: &Document<PlainFront>) -> Result<Pars
 {
     plain_fronts_parse();
     parses_have_the_tokens();
+    // The text of a document is UTF-8 and within the limit: the call says so to the prover.
     let _text = document.text();
     document.parse(alloc)
 }

@@ -80,7 +80,8 @@ fn append_step_lines(alloc: Global, text: Vec<u8>, parse: &Parse) -> Result<Vec<
 
 /// Appends the report of a tree to a text, and returns both (`docs/PROGRAM.md`, "The report"): a
 /// line for each node and leaf, in order, and then a line for each error. The memory of the text is
-/// used again where it is large enough. The report is UTF-8. Fails only if memory runs out.
+/// used again where it is large enough. The report is UTF-8. Fails only if memory runs out; the text
+/// is dropped then.
 pub fn append_report(alloc: Global, text: Vec<u8>, parse: &Parse) -> Result<Vec<u8>, AllocError>
     ensures { IfOk result (λ out. out.items ≡ text.items ++ report_of parse.now) }
 {

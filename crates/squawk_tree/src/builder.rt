@@ -14,8 +14,12 @@ use crate::tables::Tables;
 use squawk_events::{FrontError, ParseError, StrStep};
 use std::alloc::{AllocError, Global};
 
-// A tree while it is built. The count that is kept for a step is appended no later than before the
-// next step of a node: up to there the number of these steps is the same.
+// In most SQL there are more tokens for each `Enter` or `Exit`: room is reserved for one such step
+// for so many tokens.
+const TOKENS_PER_NODE_STEP: usize = 4;
+
+// A tree while it is built. Counts may be missing for the steps after the last `Enter` or `Exit`: up
+// to the next one they are all the same, and it appends them.
 #[derive(Drop)]
 pub(crate) struct TreeBuilder {
     pub(crate) steps: Vec<StrStep>,
@@ -72,9 +76,10 @@ impl TreeBuilder {
             counts: Vec::new(alloc),
             end: 0,
         };
-        let steps = tokens.saturating_add(tokens / 4);
+        let node_steps = tokens / TOKENS_PER_NODE_STEP;
+        let steps = tokens.saturating_add(node_steps);
         let _ = tree.steps.reserve(steps);
-        let _ = tree.spans.reserve(tokens / 4);
+        let _ = tree.spans.reserve(node_steps);
         let _ = tree.counts.reserve(steps / STRIDE);
         tree
     }
@@ -89,6 +94,7 @@ impl TreeBuilder {
     {
         fill_counts(&mut self.counts, self.steps.len(), self.spans.len())?;
         let at = end_of_last(&self.steps, self.end);
+        // The prover takes a step that is passed twice by reference.
         let next = &step;
         let end = add_step(&mut self.spans, &mut self.open_nodes, at, *next)?;
         self.steps.push(*next)?;
