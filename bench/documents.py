@@ -3,7 +3,7 @@
 
 Use: documents.py [--times N] [--program PROGRAM] [--tables NAMES] [FILE..]
 
-Each FILE is a SQL text; without one, statements.sql beside this script is repeated up to 1 MB. The
+Each FILE is a SQL text; without one, statements.sql beside this script is repeated up to 10 MB. The
 program is the one that ./run builds, which is built first if need be; PROGRAM is any other with the
 command `replay`.
 
@@ -69,14 +69,14 @@ def record(start, end, new):
     return b"@%d %d %d\n%b\n" % (start, end, len(new), new)
 
 
-def in_and_out(place, new):
-    """The edit that inserts bytes at a place, and the one that deletes them again, by turns."""
-    edits = (place, place, new), (place, place + len(new), b"")
+def in_and_out(offset, new):
+    """The edit that inserts bytes at an offset, and the one that deletes them again, by turns."""
+    edits = (offset, offset, new), (offset, offset + len(new), b"")
     return lambda i: edits[i % 2]
 
 
 def middle(text, pattern):
-    """The end of the first match behind the middle of the text, or else of the first of all."""
+    """The end of the first match after the middle of the text, or else of the first of all."""
     match = re.compile(pattern).search(text, len(text) // 2) or re.search(pattern, text)
     if match is None:
         sys.exit("documents.py: the text has no word to edit")
@@ -102,10 +102,10 @@ def random_edits(text):
     now = bytearray(text)
     chance = random.Random(1)
 
-    def boundary(place):
-        while place < len(now) and now[place] & 0xC0 == 0x80:
-            place += 1
-        return place
+    def boundary(offset):
+        while offset < len(now) and now[offset] & 0xC0 == 0x80:
+            offset += 1
+        return offset
 
     edits = []
     for _ in range(RANDOM_EDITS):
@@ -235,7 +235,7 @@ def main():
             parser.error(f"{path} is empty")
     statements = (HERE / "statements.sql").read_bytes()
     texts = [(path.name, path.read_bytes()) for path in words.files]
-    texts = texts or [("statements.sql", statements * (MB // len(statements)))]
+    texts = texts or [("statements.sql", statements * (10 * MB // len(statements)))]
     with tempfile.TemporaryDirectory() as folder:
         bench = Bench(words.program or str(BUILT), words.times, folder)
         for name, text in texts:

@@ -14,8 +14,8 @@ For each text, and each reading that the program's options choose:
   parts     the lines and errors of two parts of the text, cut at the end of a closed statement, are those of the text
   replay    a script of edits that make the text ends with its report, and begins as its first records alone do; the
             counts of an edit add up to the tokens and children of the text after it, and what it keeps is in both texts
-  refusals  bytes that are not UTF-8 end with status 4 and the right offset; a broken script with status 8 at a place up
-            to which it is a script, or with 9, or with 0; nothing was written to standard output but with 0
+  refusals  bytes that are not UTF-8 end with status 4 and the right offset; a broken script with status 8 at an offset
+            up to which it is a script, or with 9, or with 0; nothing was written to standard output but with 0
   time      the processor time is below 0.1 s and 1 microsecond for each byte and edit; each 200th text is repeated up
             to 100 KB
 
@@ -124,9 +124,9 @@ def check_replay(program, words, data, lines, rng):
     first = rng.randrange(len(records))
     reports = []
     for count in first, first + 1:
-        begun = program.report(words, b"".join(records[:count]), count)
-        check(begun[:count] == written[:count], f"replay: the lines of the first {count} edits")
-        reports.append(Report(begun[count:]))
+        first_lines = program.report(words, b"".join(records[:count]), count)
+        check(first_lines[:count] == written[:count], f"replay: the lines of the first {count} edits")
+        reports.append(Report(first_lines[count:]))
     before, after = reports
     sums = [sum(counts[first][:3]), sum(counts[first][3:])]
     check(sums == [len(after.leaves), len(after.children())], f"replay: the counts of edit {first + 1}")
@@ -146,15 +146,15 @@ def check_script(program, words, data, rng):
     lines = {0: line == "", 8: bad, 9: line == "bad range\n"}
     check(lines.get(status) and (status == 0) == (output != b""), f"refusals: status {status}, {line!r}")
     if bad:
-        check(int(bad[1]) < len(broken), "refusals: the place is past the end")
+        check(int(bad[1]) < len(broken), "refusals: the offset is past the end")
         status, *_ = program.run(words, broken[:int(bad[1])], len(broken) // 8)
         check(status in (0, 9), f"refusals: up to {bad[1]} it is no script: {broken!r}")
 
 
 def check_not_utf8(program, words, data, rng):
     """Bytes that are not UTF-8, made from the text, have the right refusal."""
-    place = rng.randint(0, len(data))
-    data = data[:place] + rng.choice(BAD_BYTES) + data[place + rng.randint(0, 1):]
+    offset = rng.randint(0, len(data))
+    data = data[:offset] + rng.choice(BAD_BYTES) + data[offset + rng.randint(0, 1):]
     try:
         data.decode()
     except UnicodeDecodeError as error:

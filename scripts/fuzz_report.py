@@ -39,22 +39,22 @@ class Report:
     def check_tree(self, data):
         """The leaves tile the text, and the nodes nest."""
         check(self.lines[:1] == [(0, "N", "source file", 0, len(data))], "tree: the root")
-        place, open_nodes, after_node, trivial = 0, [len(data)], False, False
+        offset, open_nodes, after_node, trivial = 0, [len(data)], False, False
         for depth, letter, kind, start, end in self.lines[1:] + [(1, "N", "", len(data), len(data))]:
-            check(1 <= depth <= len(open_nodes), f"tree: the depth at {place}")
+            check(1 <= depth <= len(open_nodes), f"tree: the depth at {offset}")
             closed, open_nodes = open_nodes[depth:], open_nodes[:depth]
-            check(all(node == place for node in closed), f"tree: the end of a node at {place}")
-            check(not (closed and trivial), f"tree: trivia ends a node at {place}")
-            check(start == place and end <= open_nodes[-1], f"tree: the range at {place}")
+            check(all(node == offset for node in closed), f"tree: the end of a node at {offset}")
+            check(not (closed and trivial), f"tree: trivia ends a node at {offset}")
+            check(start == offset and end <= open_nodes[-1], f"tree: the range at {offset}")
             if letter == "N":
-                check(start < end or kind == "", f"tree: an empty node at {place}")
+                check(start < end or kind == "", f"tree: an empty node at {offset}")
                 open_nodes.append(end)
                 after_node = True
                 continue
             trivial = kind in TRIVIA
-            check(start < end and not (after_node and trivial), f"tree: the leaf at {place}")
+            check(start < end and not (after_node and trivial), f"tree: the leaf at {offset}")
             check_leaf(kind, start, data[start:end])
-            place, after_node = end, False
+            offset, after_node = end, False
 
     def check_errors(self):
         """Each error lies in a leaf, the errors are in order, and each unknown statement has one."""
@@ -113,8 +113,8 @@ def check_kept(before, after, counts):
     leaves = [[(0, *line[1:]) for line in report.leaves] for report in (before, after)]
     check(leaves[0][:front_leaves] == leaves[1][:front_leaves], "kept: the leaves before the edit")
     last = [moved(line, by) for line in leaves[0][len(leaves[0]) - back_leaves:]]
-    check(last == leaves[1][len(leaves[1]) - back_leaves:], "kept: the leaves behind the edit")
+    check(last == leaves[1][len(leaves[1]) - back_leaves:], "kept: the leaves after the edit")
     old, new = before.children(), after.children()
     check(old[:front] == new[:front], "kept: the children before the edit")
     last = [[moved(line, by) for line in child] for child in old[len(old) - back:]]
-    check(last == new[len(new) - back:], "kept: the children behind the edit")
+    check(last == new[len(new) - back:], "kept: the children after the edit")
