@@ -1,5 +1,5 @@
 //! A document: a text, its tokens, the children of its root, and the front that cuts and parses it.
-ghost use Rattle.std.specs.Prelude.{◌≡◌, ◌+◌, ◌-◌, ◌<◌, ◌≤◌, ◌^◌, ◌↔◌, IfOk, IfErr, OnOk, OnErr, IsErrOf, IsTrue, length};
+ghost use Rattle.std.specs.Prelude.{◌≡◌, ◌≢◌, ◌+◌, ◌-◌, ◌<◌, ◌≤◌, ◌^◌, ◌↔◌, IfOk, IfErr, OnOk, OnErr, IsErrOf, IsTrue, length};
 ghost use Rattle.squawk_cut.specs.Children.{children_of};
 ghost use Rattle.squawk_cut.specs.Join.{join_of};
 ghost use Rattle.squawk_cut.specs.Tokens.{tokens_of};
@@ -101,7 +101,7 @@ impl<F: Front> Document<F> {
     /// `BadRange` exactly if `start` is above `end`, or one of them is no character boundary of the
     /// text; otherwise `TooLong` exactly if the new text would have more than `LIMIT` bytes. On
     /// every error text, tokens and children are unchanged. The front takes at most one step for
-    /// each token cut and each child parsed.
+    /// each token cut and each child parsed. On `BadRange` and `TooLong` the front takes no step.
     pub fn edit(&mut self, start: usize, end: usize, new: &str) -> Result<Edited, FrontError>
         ensures text { OnOk result (self.new.text ≡ splice self.old.text start end new.now) }
         ensures tokens { self.new.tokens ≡ tokens_of (F.tells self.new.front) self.new.text }
@@ -118,6 +118,8 @@ impl<F: Front> Document<F> {
         ensures refusals { IfErr result (MayRefuseEdit self.old.text start end new.now) }
         ensures unchanged { OnErr result ((self.new.text ≡ self.old.text)
             × (self.new.tokens ≡ self.old.tokens) × (self.new.children ≡ self.old.children)) }
+        ensures refused { IfErr result (λ error.
+            error ≢ FrontError.OutOfMemory → self.new.front ≡ self.old.front) }
     {
         if !is_range(self.text.as_str(), start, end) {
             return Err(FrontError::BadRange);
@@ -139,23 +141,28 @@ impl<F: Front> Document<F> {
         Ok(update.edited)
     }
 
-    /// The text.
+    /// The text. The clause `short` holds at every moment: it has at most `LIMIT` bytes.
     pub fn text(&self) -> &str
-        ensures { result.now ≡ self.now.text }
+        ensures text { result.now ≡ self.now.text }
+        ensures short { length self.now.text ≤ limit }
     {
         self.text.as_str()
     }
 
-    /// The tokens of the text, in order.
+    /// The tokens of the text, in order. The clause `told` holds at every moment: they are those
+    /// that the front tells for the text.
     pub fn tokens(&self) -> &[Token]
-        ensures { result.now ≡ self.now.tokens }
+        ensures tokens { result.now ≡ self.now.tokens }
+        ensures told { self.now.tokens ≡ tokens_of (F.tells self.now.front) self.now.text }
     {
         &self.tokens
     }
 
-    /// The children of the text's root, in order.
+    /// The children of the text's root, in order. The clause `told` holds at every moment: they are
+    /// those that the front tells for the text.
     pub fn children(&self) -> &[Child]
-        ensures { result.now ≡ self.now.children }
+        ensures children { result.now ≡ self.now.children }
+        ensures told { self.now.children ≡ children_of (F.tells self.now.front) self.now.text }
     {
         &self.children
     }

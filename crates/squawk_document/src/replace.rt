@@ -38,6 +38,7 @@ fn replace_by_rotation<T: Drop>(items: &mut Vec<T>, start: usize, end: usize, wi
     let len = items.len() - count + added;
     match items.append(&mut with) {
         Ok(()) => {}
+        // `append` fails only if it must take memory, and by `room` it need not.
         Err(_) => unreachable!(),
     }
     rotate_from(items, start, count);

@@ -11,7 +11,7 @@ use Rattle.squawk_show.proofs.replay.parse_document.Goals as goal
 pub returns-clause-parsed : goal.returns-clause-parsed
 returns-clause-parsed c =
     let text = c.args.document.now.text in
-    let utf8 = subst IsUtf8 c.text-text.ensures c.text-text.utf8 in
+    let utf8 = subst IsUtf8 c.text-text.ensures.text c.text-text.utf8 in
     if_ok _ (IsParsed text) (λ parse is.
     is_parse c.parses_have_the_tokens.ensures.leaves c.parses_have_the_tokens.ensures.children
     text parse (record { within = c.requires.short; valid = utf8 })
