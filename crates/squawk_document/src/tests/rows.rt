@@ -2,7 +2,7 @@
 use super::{same_document, same_parse, sums};
 use crate::{Document, FrontError};
 use squawk_cut::{Child, Division, Front, PlainFront, StrStep, Strings};
-use squawk_tree::parse_divided;
+use squawk_tree::{parse_divided, parse_source};
 use std::alloc::{AllocError, Global};
 use std::test::Fail;
 
@@ -166,6 +166,15 @@ const ROWS: &[Row<'static>] = &[
     },
 ];
 
+// The text after the edit of a row.
+fn text_after(alloc: Global, row: &Row<'_>) -> Result<String, Fail> {
+    let before = row.text.get(..row.start).ok_or(row.name)?;
+    let after = row.text.get(row.end..).ok_or(row.name)?;
+    let new = row.new;
+    Ok(format!(in alloc; "{before}{new}{after}")?)
+}
+
+// A parse of the document is that of the text after the edit.
 #[test]
 fn edits_keep_what_they_can(rt: HostRuntime) -> Result<(), Fail> {
     let alloc = rt.alloc();
@@ -178,11 +187,20 @@ fn edits_keep_what_they_can(rt: HostRuntime) -> Result<(), Fail> {
             .edit(row.start, row.end, row.new)
             .ok()
             .ok_or(row.name)?;
-        assert_eq!(rt; sums(alloc, edited)?.as_str(), row.counts);
-        assert_eq!(rt; render(alloc, &document)?.as_str(), row.lines);
+        assert_eq!(rt; sums(alloc, edited)?.as_str(), row.counts, "{}", row.name);
+        assert_eq!(rt;
+            render(alloc, &document)?.as_str(),
+            row.lines,
+            "{}",
+            row.name
+        );
         let steps = document.front().steps().saturating_sub(before);
         let most = edited.cut_tokens.saturating_add(edited.parsed_children);
-        assert!(rt; steps <= most as u64);
+        assert!(rt; steps <= most as u64, "{}", row.name);
+        let parse = document.parse(alloc).ok().ok_or(row.name)?;
+        let text = text_after(alloc, row)?;
+        let whole = parse_source(alloc, text.as_str()).ok().ok_or(row.name)?;
+        assert!(rt; same_parse(&parse, &whole), "{}", row.name);
     }
     Ok(())
 }
@@ -197,12 +215,15 @@ fn bad_ranges(rt: HostRuntime) -> Result<(), Fail> {
         .ok()
         .ok_or("no memory")?;
     let ranges: &[(usize, usize, &str)] = &[(1, 1, "x"), (0, 3, ""), (2, 1, "")];
+    let steps = document.front().steps();
     for &(start, end, new) in ranges {
         assert_eq!(rt;
             document.edit(start, end, new).err(),
-            Some(FrontError::BadRange)
+            Some(FrontError::BadRange),
+            "{start}..{end}"
         );
-        assert!(rt; same_document(&document, &whole));
+        assert!(rt; same_document(&document, &whole), "{start}..{end}");
+        assert_eq!(rt; document.front().steps(), steps, "{start}..{end}");
     }
     Ok(())
 }
@@ -250,11 +271,11 @@ fn readings_and_divisions(rt: HostRuntime) -> Result<(), Fail> {
         let text = "select (1, '\\'; c');";
         let mut document = Document::new(alloc, front, text).ok().ok_or(row.name)?;
         let edited = document.edit(8, 9, "22").ok().ok_or(row.name)?;
-        assert_eq!(rt; sums(alloc, edited)?.as_str(), row.counts);
+        assert_eq!(rt; sums(alloc, edited)?.as_str(), row.counts, "{}", row.name);
         let parse = document.parse(alloc).ok().ok_or(row.name)?;
         let whole = parse_divided(alloc, document.text(), row.strings, row.division);
         let whole = whole.ok().ok_or(row.name)?;
-        assert!(rt; same_parse(&parse, &whole));
+        assert!(rt; same_parse(&parse, &whole), "{}", row.name);
     }
     Ok(())
 }
