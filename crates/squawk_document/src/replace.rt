@@ -2,6 +2,7 @@
 ghost use Rattle.std.specs.Prelude.{◌≡◌, ◌+◌, ◌-◌, ◌≤◌, ◌++◌, List, length, take, drop, vec_capacity};
 
 // Exchanges the two parts of the elements from `at` on: those up to `at + mid`, and the others.
+// Each step below is a function of its own, over a slice or a vector, which keeps proofs short.
 fn rotate_tail<T>(items: &mut [T], at: usize, mid: usize)
     requires { at + mid ≤ length items.old }
     ensures parts { (front left right : List T) → items.old ≡ front ++ (left ++ right)
