@@ -5,37 +5,37 @@ use Rattle.std.specs.Str.{chars}
 use Rattle.squawk_events.specs.declared.error.FrontError.{FrontError}
 use Rattle.squawk_lexer.specs.Cut.{tokens, token_ends}
 use Rattle.squawk_lexer.specs.declared.token.Strings.{Strings}
-use Rattle.squawk_lexer.specs.declared.token.Strings.TheVariants.{Standard}
+use Rattle.squawk_show.specs.Command.{asks}
 use Rattle.squawk_show.specs.Edge.{SourceView}
 use Rattle.squawk_show.specs.Made.{made}
 use Rattle.squawk_show.specs.Run.{IsText, IsParsed, IsPrepared, IsSummarized, tree_of, LeavesAreTokens, ChildrenAreStatements}
 use Rattle.squawk_show.specs.declared.command.Command.TheVariants.{Make}
+use Rattle.squawk_show.specs.declared.options.Reading.{Reading}
 use Rattle.squawk_statements.specs.Children.{children}
 use Rattle.squawk_statements.specs.declared.division.Division.{Division}
-use Rattle.squawk_statements.specs.declared.division.Division.TheVariants.{Flat}
 use Rattle.squawk_tree.specs.ParseOf.{parse_of, roles_of}
 use Rattle.squawk_tree.specs.Parses.{ParsesText}
 use Rattle.squawk_tree.specs.Steps.{leaves, ranges_through, root_children, root_child}
 use Rattle.squawk_tree.specs.Tree.{Tree}
 
 -- the tree of bytes that are a text
-parsed : (bytes : List ℕ) (tree : Tree) → IsText bytes
-    → ParsesText Standard Flat bytes (Ok tree) → IsParsed bytes tree
+parsed : (reading : Reading) (bytes : List ℕ) (tree : Tree) → IsText bytes
+    → ParsesText reading.strings reading.division bytes (Ok tree) → IsParsed reading bytes tree
 unfolding tree_of LeavesAreTokens ChildrenAreStatements
-parsed bytes tree valid parses = record {
+parsed reading bytes tree valid parses = record {
   text = valid;
   parsed = parses.tree;
   leaves = parses.leaves;
   children = parses.children;
 }
 
--- the tree that `parse_source` returned for a text of these bytes
-pub is_parsed : (bytes text : List ℕ) (tree : Tree) (result : Result Tree FrontError)
-    → text ≡ bytes → result ≡ Ok tree → IsText bytes → ParsesText Standard Flat text result
-    → IsParsed bytes tree
-is_parsed bytes text tree result same is valid parses = parsed bytes tree valid
-    (subst (λ u. ParsesText Standard Flat u (Ok tree)) same
-    (subst (ParsesText Standard Flat text) is parses))
+-- the tree that `parse_divided` returned for a text of these bytes
+pub is_parsed : (reading : Reading) (bytes text : List ℕ) (tree : Tree)
+    (result : Result Tree FrontError) → text ≡ bytes → result ≡ Ok tree → IsText bytes
+    → ParsesText reading.strings reading.division text result → IsParsed reading bytes tree
+is_parsed reading bytes text tree result same is valid parses = parsed reading bytes tree valid
+    (subst (λ u. ParsesText reading.strings reading.division u (Ok tree)) same
+    (subst (ParsesText reading.strings reading.division text) is parses))
 
 -- a parse of a text has the tokens of the text
 module _ (leaves_are : (strings : Strings) (division : Division) (text : List ℕ)
@@ -45,14 +45,16 @@ module _ (leaves_are : (strings : Strings) (division : Division) (text : List �
     → root_children (parse_of strings division text).steps
     ≡ map root_child (children division (roles_of (tokens strings (chars text))))) where
   -- the tree that is the parse of bytes that are a text
-  pub is_parse : (text : List ℕ) (tree : Tree) → IsText text → tree ≡ parse_of Standard Flat text
-      → IsParsed text tree
+  pub is_parse : (reading : Reading) (text : List ℕ) (tree : Tree) → IsText text
+      → tree ≡ parse_of reading.strings reading.division text → IsParsed reading text tree
   unfolding tree_of LeavesAreTokens ChildrenAreStatements
-  is_parse text tree valid is = record {
+  is_parse reading text tree valid is = record {
     text = valid;
     parsed = is;
-    leaves = ap (λ (t : Tree). leaves t.steps) is ∙ leaves_are Standard Flat text;
-    children = ap (λ (t : Tree). root_children t.steps) is ∙ children_are Standard Flat text;
+    leaves = ap (λ (t : Tree). leaves t.steps) is
+    ∙ leaves_are reading.strings reading.division text;
+    children = ap (λ (t : Tree). root_children t.steps) is
+    ∙ children_are reading.strings reading.division text;
   }
 
 -- what follows from a fact of a result holds of it
@@ -62,9 +64,10 @@ if_ok P Q next (Ok t) h = next t h
 if_ok P Q next (Err e) h = tt
 
 -- the summary of a made text is what `make` prepares, whatever the source
-pub summary_prepared : (pieces : ℕ) (source : SourceView) (tree : Tree) (output : List ℕ)
-    → IsSummarized pieces tree output → IsPrepared (Make pieces) source source tree output
-summary_prepared pieces source tree output h = record {
+pub summary_prepared : (reading : Reading) (pieces : ℕ) (source : SourceView) (tree : Tree)
+    (output : List ℕ) → IsSummarized reading pieces tree output
+    → IsPrepared (asks reading (Make pieces)) source source tree output
+summary_prepared reading pieces source tree output h = record {
   output_of = (
     made pieces,
     refl,

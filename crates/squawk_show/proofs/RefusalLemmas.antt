@@ -5,6 +5,7 @@ use Rattle.std.proofs.lemmas.List.{length-append}
 use Rattle.std.specs.Io.KnownBytes.{Consumes}
 use Rattle.squawk_events.specs.Limit.{limit}
 use Rattle.squawk_events.specs.declared.error.FrontError.TheVariants.{TooLong, OutOfMemory, BadRange}
+use Rattle.squawk_show.specs.Command.{Request}
 use Rattle.squawk_show.specs.Edge.{SourceView, SourceFaultRose, SinkFaultRose}
 use Rattle.squawk_show.specs.Outcome.{status_of_error}
 use Rattle.squawk_show.specs.Run.{Run, IsRunRefusal, IsText, IsInvalidText, IsOverLimit, IsBadScript, HasBadRange, IsAcceptedScript, IsAll, IsInput, Accepts, parsed_text, Reads, ReadsSource, HasAcceptedInput, OnParsedText, SourceFailed, IsTreeOf, IsMalformedAt, MeetsBadRange, IsCutOff, text_of_script}
@@ -98,179 +99,190 @@ over_taken P (Some left) (Some rest) taken within known h size =
 
 -- The bytes left are of a class P. For each cause of a refusal, and for the trees, none of the
 -- class has it.
-module _ (P : List ℕ → Type 0) (command : Result Command RunError) (old : SourceView)
+module _ (P : List ℕ → Type 0) (request : Request) (old : SourceView)
     (left : IsSomeAnd old.left P) where
-  no_tree : (tree : Tree) → ((bs : List ℕ) → P bs → Accepts command bs → ⊥) → ReadsSource command
-      → IsTreeOf command old tree → ⊥
-  no_tree tree apart reads t = both_left P (Accepts command) old.left t.0 apart left
-      (input_is_all command old t.0 reads t.1) t.2.accepted
+  no_tree : (tree : Tree) → ((bs : List ℕ) → P bs → Accepts request.command bs → ⊥)
+      → ReadsSource request.command → IsTreeOf request old tree → ⊥
+  no_tree tree apart reads t = both_left P (Accepts request.command) old.left t.0 apart left
+      (input_is_all request.command old t.0 reads t.1) t.2.accepted
 
   no_bad_script : (at : ℕ) (new : SourceView) → ((bs : List ℕ) → P bs → IsBadScript bs → ⊥)
-      → IsMalformedAt at command old new → ⊥
+      → IsMalformedAt at request.command old new → ⊥
   no_bad_script at new apart h = both_left P IsBadScript old.left h.input.0 apart left
-      (input_is_all command old h.input.0 (replay_reads command h.replay) h.input.1) h.input.2
+      (input_is_all request.command old h.input.0 (replay_reads request.command h.replay)
+      h.input.1) h.input.2
 
   no_bad_range : (new : SourceView) → ((bs : List ℕ) → P bs → HasBadRange bs → ⊥)
-      → MeetsBadRange command old new → ⊥
+      → MeetsBadRange request.command old new → ⊥
   no_bad_range new apart h = both_left P HasBadRange old.left h.input.0 apart left
-      (input_is_all command old h.input.0 (replay_reads command h.replay) h.input.1) h.input.2
+      (input_is_all request.command old h.input.0 (replay_reads request.command h.replay)
+      h.input.1) h.input.2
 
 -- `over_no_tree` to `bad_range_no_tree`: an input of such a class has no tree
-pub over_no_tree : (command : Result Command RunError) (source : SourceView) (tree : Tree)
-    → IsTreeOf command source tree → Reads IsOverLimit command source → ⊥
-over_no_tree command source tree t input =
-    let reads = reads_source IsOverLimit command source input in
-    no_tree IsOverLimit command source (left_read IsOverLimit command source input) tree
-    (λ bs over ok. let small = (accepted_text command bs reads ok).within in omega arith) reads t
+pub over_no_tree : (request : Request) (source : SourceView) (tree : Tree)
+    → IsTreeOf request source tree → Reads IsOverLimit request.command source → ⊥
+over_no_tree request source tree t input =
+    let reads = reads_source IsOverLimit request.command source input in
+    no_tree IsOverLimit request source (left_read IsOverLimit request.command source input) tree
+    (λ bs over ok. let small = (accepted_text request.command bs reads ok).within in
+    omega arith) reads t
 
-pub invalid_no_tree : (command : Result Command RunError) (source : SourceView) (tree : Tree)
-    → IsTreeOf command source tree → Reads IsInvalidText command source → ⊥
-invalid_no_tree command source tree t input =
-    let reads = reads_source IsInvalidText command source input in
-    no_tree IsInvalidText command source (left_read IsInvalidText command source input) tree
-    (λ bs bad ok. bad.invalid (accepted_text command bs reads ok).valid) reads t
+pub invalid_no_tree : (request : Request) (source : SourceView) (tree : Tree)
+    → IsTreeOf request source tree → Reads IsInvalidText request.command source → ⊥
+invalid_no_tree request source tree t input =
+    let reads = reads_source IsInvalidText request.command source input in
+    no_tree IsInvalidText request source
+    (left_read IsInvalidText request.command source input) tree
+    (λ bs bad ok. bad.invalid (accepted_text request.command bs reads ok).valid) reads t
 
-pub bad_script_no_tree : (command : Result Command RunError) (source : SourceView) (tree : Tree)
-    → IsTreeOf command source tree → command ≡ Ok Replay → IsSomeAnd source.left IsBadScript → ⊥
-bad_script_no_tree command source tree t is left = no_tree IsBadScript command source left tree
-    (λ bs bad ok. bad.bad (replay_accepts command bs is ok).good.script)
-    (replay_reads command is) t
+pub bad_script_no_tree : (request : Request) (source : SourceView) (tree : Tree)
+    → IsTreeOf request source tree → request.command ≡ Ok Replay
+    → IsSomeAnd source.left IsBadScript → ⊥
+bad_script_no_tree request source tree t is left = no_tree IsBadScript request source left tree
+    (λ bs bad ok. bad.bad (replay_accepts request.command bs is ok).good.script)
+    (replay_reads request.command is) t
 
-pub bad_range_no_tree : (command : Result Command RunError) (source : SourceView) (tree : Tree)
-    → IsTreeOf command source tree → command ≡ Ok Replay → IsSomeAnd source.left HasBadRange → ⊥
-bad_range_no_tree command source tree t is left = no_tree HasBadRange command source left tree
-    (λ bs bad ok. bad.range (replay_accepts command bs is ok).ranges)
-    (replay_reads command is) t
+pub bad_range_no_tree : (request : Request) (source : SourceView) (tree : Tree)
+    → IsTreeOf request source tree → request.command ≡ Ok Replay
+    → IsSomeAnd source.left HasBadRange → ⊥
+bad_range_no_tree request source tree t is left = no_tree HasBadRange request source left tree
+    (λ bs bad ok. bad.range (replay_accepts request.command bs is ok).ranges)
+    (replay_reads request.command is) t
 
 -- the tree whose output was cut off
 cut_off_tree : (run : Run) → IsCutOff run
-    → (tree : Tree) × IsTreeOf run.command run.source_before tree
+    → (tree : Tree) × IsTreeOf run.request run.source_before tree
 cut_off_tree run h = (h.prefix.0, (h.prefix.2.0, h.prefix.2.1, h.prefix.2.2))
 
 -- `accepted_status` to `bad_range_status`: the status of a refused run by its input
 pub accepted_status : (run : Run) (e : RunError) → IsRunRefusal run e
-    → HasAcceptedInput run.command run.source_before
-    → ¬ (SourceFailed run.command run.source_before run.source_after)
+    → HasAcceptedInput run.request.command run.source_before
+    → ¬ (SourceFailed run.request.command run.source_before run.source_after)
     → ¬ (SinkFaultRose run.out_before run.out_after)
     → (status_of_error e ≡ 0) ⊎ (status_of_error e ≡ 6)
 accepted_status run BadWords h input no_read_fault no_write_fault =
-    absurd (no_input run.command run.source_before input h)
+    absurd (no_input run.request.command run.source_before input h)
 accepted_status run ReadFault h input no_read_fault no_write_fault = absurd (no_read_fault h)
 accepted_status run (NotUtf8 at) h input no_read_fault no_write_fault =
-    absurd (both_left (Accepts run.command) IsInvalidText run.source_before.left h.input.0
-    (λ bs ok bad. bad.invalid (accepted_text run.command bs h.reads ok).valid)
-    (accepted_left run.command run.source_before h.reads input)
-    (input_is_all run.command run.source_before h.input.0 h.reads h.input.1) h.input.2)
+    absurd (both_left (Accepts run.request.command) IsInvalidText run.source_before.left h.input.0
+    (λ bs ok bad. bad.invalid (accepted_text run.request.command bs h.reads ok).valid)
+    (accepted_left run.request.command run.source_before h.reads input)
+    (input_is_all run.request.command run.source_before h.input.0 h.reads h.input.1) h.input.2)
 accepted_status run (Front TooLong) h input no_read_fault no_write_fault =
-    absurd (over_taken (Accepts run.command) run.source_before.left run.source_after.left h.1.0
-    (λ bs ok. (accepted_text run.command bs h.0 ok).within)
-    (accepted_left run.command run.source_before h.0 input) h.1.1.consumed h.1.2)
+    absurd (over_taken (Accepts run.request.command) run.source_before.left run.source_after.left
+    h.1.0
+    (λ bs ok. (accepted_text run.request.command bs h.0 ok).within)
+    (accepted_left run.request.command run.source_before h.0 input) h.1.1.consumed h.1.2)
 accepted_status run (Front OutOfMemory) h input no_read_fault no_write_fault = inr refl
 accepted_status run (Front BadRange) h input no_read_fault no_write_fault =
-    absurd (no_bad_range (Accepts run.command) run.command run.source_before
-    (accepted_left run.command run.source_before (replay_reads run.command h.replay) input)
+    absurd (no_bad_range (Accepts run.request.command) run.request run.source_before
+    (accepted_left run.request.command run.source_before (replay_reads run.request.command
+    h.replay) input)
     run.source_after
-    (λ bs ok bad. bad.range (replay_accepts run.command bs h.replay ok).ranges) h)
+    (λ bs ok bad. bad.range (replay_accepts run.request.command bs h.replay ok).ranges) h)
 accepted_status run (BadScript at) h input no_read_fault no_write_fault =
-    absurd (no_bad_script (Accepts run.command) run.command run.source_before
-    (accepted_left run.command run.source_before (replay_reads run.command h.replay) input)
+    absurd (no_bad_script (Accepts run.request.command) run.request run.source_before
+    (accepted_left run.request.command run.source_before (replay_reads run.request.command
+    h.replay) input)
     at run.source_after
-    (λ bs ok bad. bad.bad (replay_accepts run.command bs h.replay ok).good.script) h)
+    (λ bs ok bad. bad.bad (replay_accepts run.request.command bs h.replay ok).good.script) h)
 accepted_status run WriteFault h input no_read_fault no_write_fault =
     absurd (no_write_fault h.fault)
 
 pub invalid_status : (run : Run) (e : RunError) → IsRunRefusal run e
-    → Reads IsInvalidText run.command run.source_before
-    → ¬ (SourceFailed run.command run.source_before run.source_after)
+    → Reads IsInvalidText run.request.command run.source_before
+    → ¬ (SourceFailed run.request.command run.source_before run.source_after)
     → (status_of_error e ≡ 4) ⊎ (status_of_error e ≡ 6)
-invalid_status run BadWords h input no_read_fault = absurd (no_command run.command
-    (reads_source IsInvalidText run.command run.source_before input) h)
+invalid_status run BadWords h input no_read_fault = absurd (no_command run.request.command
+    (reads_source IsInvalidText run.request.command run.source_before input) h)
 invalid_status run ReadFault h input no_read_fault = absurd (no_read_fault h)
 invalid_status run (NotUtf8 at) h input no_read_fault = inl refl
 invalid_status run (Front TooLong) h input no_read_fault =
     absurd (over_taken IsInvalidText run.source_before.left run.source_after.left h.1.0
-    (λ bs bad. bad.within) (left_read IsInvalidText run.command run.source_before input)
+    (λ bs bad. bad.within) (left_read IsInvalidText run.request.command run.source_before input)
     h.1.1.consumed h.1.2)
 invalid_status run (Front OutOfMemory) h input no_read_fault = inr refl
 invalid_status run (Front BadRange) h input no_read_fault =
-    absurd (no_bad_range IsInvalidText run.command run.source_before
-    (left_read IsInvalidText run.command run.source_before input) run.source_after
+    absurd (no_bad_range IsInvalidText run.request run.source_before
+    (left_read IsInvalidText run.request.command run.source_before input) run.source_after
     (λ bs bad other. bad.invalid other.good.text.valid) h)
 invalid_status run (BadScript at) h input no_read_fault =
-    absurd (no_bad_script IsInvalidText run.command run.source_before
-    (left_read IsInvalidText run.command run.source_before input) at run.source_after
+    absurd (no_bad_script IsInvalidText run.request run.source_before
+    (left_read IsInvalidText run.request.command run.source_before input) at run.source_after
     (λ bs bad other. bad.invalid other.text.valid) h)
 invalid_status run WriteFault h input no_read_fault = let t = cut_off_tree run h in
-    absurd (invalid_no_tree run.command run.source_before t.0 t.1 input)
+    absurd (invalid_no_tree run.request run.source_before t.0 t.1 input)
 
 pub over_status : (run : Run) (e : RunError) → IsRunRefusal run e
-    → Reads IsOverLimit run.command run.source_before
-    → ¬ (SourceFailed run.command run.source_before run.source_after)
+    → Reads IsOverLimit run.request.command run.source_before
+    → ¬ (SourceFailed run.request.command run.source_before run.source_after)
     → (status_of_error e ≡ 5) ⊎ (status_of_error e ≡ 6)
-over_status run BadWords h input no_read_fault = absurd (no_command run.command
-    (reads_source IsOverLimit run.command run.source_before input) h)
+over_status run BadWords h input no_read_fault = absurd (no_command run.request.command
+    (reads_source IsOverLimit run.request.command run.source_before input) h)
 over_status run ReadFault h input no_read_fault = absurd (no_read_fault h)
 over_status run (NotUtf8 at) h input no_read_fault =
     absurd (both_left IsOverLimit IsInvalidText run.source_before.left h.input.0
     (λ bs over bad. let small = bad.within in omega arith)
-    (left_read IsOverLimit run.command run.source_before input)
-    (input_is_all run.command run.source_before h.input.0 h.reads h.input.1) h.input.2)
+    (left_read IsOverLimit run.request.command run.source_before input)
+    (input_is_all run.request.command run.source_before h.input.0 h.reads h.input.1) h.input.2)
 over_status run (Front TooLong) h input no_read_fault = inl refl
 over_status run (Front OutOfMemory) h input no_read_fault = inr refl
 over_status run (Front BadRange) h input no_read_fault =
-    absurd (no_bad_range IsOverLimit run.command run.source_before
-    (left_read IsOverLimit run.command run.source_before input) run.source_after
+    absurd (no_bad_range IsOverLimit run.request run.source_before
+    (left_read IsOverLimit run.request.command run.source_before input) run.source_after
     (λ bs over bad. let small = bad.good.text.within in omega arith) h)
 over_status run (BadScript at) h input no_read_fault =
-    absurd (no_bad_script IsOverLimit run.command run.source_before
-    (left_read IsOverLimit run.command run.source_before input) at run.source_after
+    absurd (no_bad_script IsOverLimit run.request run.source_before
+    (left_read IsOverLimit run.request.command run.source_before input) at run.source_after
     (λ bs over bad. let small = bad.text.within in omega arith) h)
 over_status run WriteFault h input no_read_fault = let t = cut_off_tree run h in
-    absurd (over_no_tree run.command run.source_before t.0 t.1 input)
+    absurd (over_no_tree run.request run.source_before t.0 t.1 input)
 
-pub bad_script_status : (run : Run) (e : RunError) → IsRunRefusal run e → run.command ≡ Ok Replay
+pub bad_script_status : (run : Run) (e : RunError) → IsRunRefusal run e
+    → run.request.command ≡ Ok Replay
     → IsSomeAnd run.source_before.left IsBadScript
     → ¬ (SourceFaultRose run.source_before run.source_after)
     → (status_of_error e ≡ 8) ⊎ (status_of_error e ≡ 6)
 bad_script_status run BadWords h is left no_read_fault =
-    absurd (no_command run.command (replay_reads run.command is) h)
+    absurd (no_command run.request.command (replay_reads run.request.command is) h)
 bad_script_status run ReadFault h is left no_read_fault = absurd (no_read_fault h.1)
 bad_script_status run (NotUtf8 at) h is left no_read_fault =
     absurd (both_left IsBadScript IsInvalidText run.source_before.left h.input.0
     (λ bs bad other. other.invalid bad.text.valid) left
-    (input_is_all run.command run.source_before h.input.0 h.reads h.input.1) h.input.2)
+    (input_is_all run.request.command run.source_before h.input.0 h.reads h.input.1) h.input.2)
 bad_script_status run (Front TooLong) h is left no_read_fault =
     absurd (over_taken IsBadScript run.source_before.left run.source_after.left h.1.0
     (λ bs bad. bad.text.within) left h.1.1.consumed h.1.2)
 bad_script_status run (Front OutOfMemory) h is left no_read_fault = inr refl
 bad_script_status run (Front BadRange) h is left no_read_fault =
-    absurd (no_bad_range IsBadScript run.command run.source_before left run.source_after
+    absurd (no_bad_range IsBadScript run.request run.source_before left run.source_after
     (λ bs bad other. bad.bad other.good.script) h)
 bad_script_status run (BadScript at) h is left no_read_fault = inl refl
 bad_script_status run WriteFault h is left no_read_fault = let t = cut_off_tree run h in
-    absurd (bad_script_no_tree run.command run.source_before t.0 t.1 is left)
+    absurd (bad_script_no_tree run.request run.source_before t.0 t.1 is left)
 
-pub bad_range_status : (run : Run) (e : RunError) → IsRunRefusal run e → run.command ≡ Ok Replay
+pub bad_range_status : (run : Run) (e : RunError) → IsRunRefusal run e
+    → run.request.command ≡ Ok Replay
     → IsSomeAnd run.source_before.left HasBadRange
     → ¬ (SourceFaultRose run.source_before run.source_after)
     → (status_of_error e ≡ 9) ⊎ (status_of_error e ≡ 6)
 bad_range_status run BadWords h is left no_read_fault =
-    absurd (no_command run.command (replay_reads run.command is) h)
+    absurd (no_command run.request.command (replay_reads run.request.command is) h)
 bad_range_status run ReadFault h is left no_read_fault = absurd (no_read_fault h.1)
 bad_range_status run (NotUtf8 at) h is left no_read_fault =
     absurd (both_left HasBadRange IsInvalidText run.source_before.left h.input.0
     (λ bs bad other. other.invalid bad.good.text.valid) left
-    (input_is_all run.command run.source_before h.input.0 h.reads h.input.1) h.input.2)
+    (input_is_all run.request.command run.source_before h.input.0 h.reads h.input.1) h.input.2)
 bad_range_status run (Front TooLong) h is left no_read_fault =
     absurd (over_taken HasBadRange run.source_before.left run.source_after.left h.1.0
     (λ bs bad. bad.good.text.within) left h.1.1.consumed h.1.2)
 bad_range_status run (Front OutOfMemory) h is left no_read_fault = inr refl
 bad_range_status run (Front BadRange) h is left no_read_fault = inl refl
 bad_range_status run (BadScript at) h is left no_read_fault =
-    absurd (no_bad_script HasBadRange run.command run.source_before left at run.source_after
+    absurd (no_bad_script HasBadRange run.request run.source_before left at run.source_after
     (λ bs bad other. other.bad bad.good.script) h)
 bad_range_status run WriteFault h is left no_read_fault = let t = cut_off_tree run h in
-    absurd (bad_range_no_tree run.command run.source_before t.0 t.1 is left)
+    absurd (bad_range_no_tree run.request run.source_before t.0 t.1 is left)
 
 -- what holds of an input holds of all bytes left
 on_left : (P : List ℕ → Type 0) (left : Option (List ℕ)) (input : List ℕ) → IsAll left input

@@ -6,9 +6,9 @@ use Rattle.squawk_cut.specs.PlainTells.{plain_tells}
 use Rattle.squawk_events.specs.Limit.{limit}
 use Rattle.squawk_events.specs.declared.error.FrontError.TheVariants.{TooLong, OutOfMemory, BadRange}
 use Rattle.squawk_lexer.specs.Cut.{tokens, token_ends}
-use Rattle.squawk_lexer.specs.declared.token.Strings.TheVariants.{Standard}
 use Rattle.squawk_replay.specs.Replay.{AreRanges, edit_lines, last_text}
 use Rattle.squawk_script.specs.Script.{records, records_len, IsScript}
+use Rattle.squawk_show.specs.Command.{Request}
 use Rattle.squawk_show.specs.Edge.{SourceView, SinkView, SourceFaultRose, SinkFaultRose, TakesExactly, AppendsAll, AppendsPrefix}
 use Rattle.squawk_show.specs.Outcome.{status_of_error, error_line}
 use Rattle.squawk_show.specs.Made.{made}
@@ -18,11 +18,11 @@ use Rattle.squawk_show.specs.declared.command.Command.{Command}
 use Rattle.squawk_show.specs.declared.command.Command.TheVariants.{Report, Make, Replay}
 use Rattle.squawk_show.specs.declared.error.RunError.{RunError}
 use Rattle.squawk_show.specs.declared.error.RunError.TheVariants.{BadWords, ReadFault, NotUtf8, Front, BadScript, WriteFault}
+use Rattle.squawk_show.specs.declared.options.Reading.{Reading}
 use Rattle.squawk_statements.specs.Children.{children}
 use Rattle.squawk_tree.specs.ParseOf.{parse_of, roles_of}
 use Rattle.squawk_tree.specs.Steps.{leaves, ranges_through, root_children, root_child}
 use Rattle.squawk_tree.specs.Tree.{Tree, IsTree}
-use Rattle.squawk_statements.specs.declared.division.Division.TheVariants.{Flat}
 
 -- Texts and their trees
 
@@ -39,27 +39,27 @@ pub record IsInvalidText (bytes : List ℕ) : Type 0 where
 abbrev pub IsOverLimit : List ℕ → Type 0
 IsOverLimit bytes = limit < length bytes
 
--- the tree of a text of these bytes
-unfoldable pub tree_of : List ℕ → Tree
-tree_of text = parse_of Standard Flat text
+-- the tree of a text of these bytes, by a reading
+unfoldable pub tree_of : Reading → List ℕ → Tree
+tree_of reading text = parse_of reading.strings reading.division text
 
 -- the leaves of a tree are the tokens of a text, each by its range in bytes
-unfoldable pub LeavesAreTokens : List ℕ → Tree → Type 0
-LeavesAreTokens text tree = leaves tree.steps
-    ≡ ranges_through 0 (token_ends 0 (tokens Standard (chars text)))
+unfoldable pub LeavesAreTokens : Reading → List ℕ → Tree → Type 0
+LeavesAreTokens reading text tree = leaves tree.steps
+    ≡ ranges_through 0 (token_ends 0 (tokens reading.strings (chars text)))
 
 -- the children of a tree's root are those into which the tokens of a text are divided, as leaves
 -- and nodes
-unfoldable pub ChildrenAreStatements : List ℕ → Tree → Type 0
-ChildrenAreStatements text tree = root_children tree.steps
-    ≡ map root_child (children Flat (roles_of (tokens Standard (chars text))))
+unfoldable pub ChildrenAreStatements : Reading → List ℕ → Tree → Type 0
+ChildrenAreStatements reading text tree = root_children tree.steps
+    ≡ map root_child (children reading.division (roles_of (tokens reading.strings (chars text))))
 
--- the bytes are a text, and this is its tree
-pub record IsParsed (bytes : List ℕ) (tree : Tree) : Type 0 where
+-- the bytes are a text, and this is its tree by a reading
+pub record IsParsed (reading : Reading) (bytes : List ℕ) (tree : Tree) : Type 0 where
   pub text : IsText bytes
-  pub parsed : tree ≡ tree_of bytes
-  pub leaves : LeavesAreTokens bytes tree
-  pub children : ChildrenAreStatements bytes tree
+  pub parsed : tree ≡ tree_of reading bytes
+  pub leaves : LeavesAreTokens reading bytes tree
+  pub children : ChildrenAreStatements reading bytes tree
 
 -- Scripts of edits
 
@@ -77,9 +77,10 @@ pub record IsGoodScript (bytes : List ℕ) : Type 0 where
 abbrev pub text_of_script : List ℕ → List ℕ
 text_of_script bytes = last_text (records bytes)
 
--- the lines of the edits of a script
-unfoldable pub lines_of_script : List ℕ → List ℕ
-lines_of_script bytes = edit_lines (plain_tells Standard Flat) (records bytes)
+-- the lines of the edits of a script, by a reading
+unfoldable pub lines_of_script : Reading → List ℕ → List ℕ
+lines_of_script reading bytes =
+    edit_lines (plain_tells reading.strings reading.division) (records bytes)
 
 -- the range of each edit of a script is lawful for the text that it meets
 abbrev pub RangesAreLawful : List ℕ → Type 0
@@ -130,12 +131,12 @@ parsed_text (Ok (Make pieces)) input = input
 parsed_text (Ok Replay) input = text_of_script input
 parsed_text (Err e) input = []
 
--- what a command writes to `out` for its input and its tree
-abbrev pub output_of : Result Command RunError → List ℕ → Tree → List ℕ
-output_of (Ok Report) input tree = report_of tree
-output_of (Ok (Make pieces)) input tree = summary_line tree
-output_of (Ok Replay) input tree = lines_of_script input ++ report_of tree
-output_of (Err e) input tree = []
+-- what a command writes to `out` for its input and its tree, by a reading
+abbrev pub output_of : Reading → Result Command RunError → List ℕ → Tree → List ℕ
+output_of reading (Ok Report) input tree = report_of tree
+output_of reading (Ok (Make pieces)) input tree = summary_line tree
+output_of reading (Ok Replay) input tree = lines_of_script reading input ++ report_of tree
+output_of reading (Err e) input tree = []
 
 -- the bytes that a command reads are observable, and P holds of them
 abbrev pub Reads : (List ℕ → Type 0) → Result Command RunError → SourceView → Type 0
@@ -169,35 +170,38 @@ IsReadToEnd (Err e) source = ⊥
 abbrev pub SourceFailed : Result Command RunError → (old new : SourceView) → Type 0
 SourceFailed command old new = ReadsSource command × SourceFaultRose old new
 
--- a command accepts its input, and this is the tree of the text that it parses
-pub record IsTreeFor (command : Result Command RunError) (input : List ℕ) (tree : Tree)
-    : Type 0 where
-  pub accepted : Accepts command input
-  pub parsed : IsParsed (parsed_text command input) tree
+-- Requests
 
--- this is the tree of a command for its input
-abbrev pub IsTreeOf : Result Command RunError → SourceView → Tree → Type 0
-IsTreeOf command source tree = (input : List ℕ) × IsInput command source input
-    × IsTreeFor command input tree
+-- the command accepts its input, and this is the tree of the text that it parses
+pub record IsTreeFor (request : Request) (input : List ℕ) (tree : Tree) : Type 0 where
+  pub accepted : Accepts request.command input
+  pub parsed : IsParsed request.reading (parsed_text request.command input) tree
 
--- this is the output of a command for its input and the tree
-abbrev pub IsOutputOf : Result Command RunError → SourceView → Tree → List ℕ → Type 0
-IsOutputOf command source tree output = (input : List ℕ) × IsInput command source input
-    × IsTreeFor command input tree × (output ≡ output_of command input tree)
+-- this is the tree of the command for its input
+abbrev pub IsTreeOf : Request → SourceView → Tree → Type 0
+IsTreeOf request source tree = (input : List ℕ) × IsInput request.command source input
+    × IsTreeFor request input tree
 
--- a sink took exactly the output of a command for its input and the tree
-abbrev pub Writes : Result Command RunError → SourceView → (old new : SinkView) → Tree → Type 0
-Writes command source old new tree = (output : List ℕ)
-    × IsOutputOf command source tree output × AppendsAll old new output
+-- this is the output of the command for its input and the tree
+abbrev pub IsOutputOf : Request → SourceView → Tree → List ℕ → Type 0
+IsOutputOf request source tree output = (input : List ℕ) × IsInput request.command source input
+    × IsTreeFor request input tree
+    × (output ≡ output_of request.reading request.command input tree)
 
--- the leaves of a tree are the tokens of the text that a command parses
-abbrev pub HasLeavesOf : Result Command RunError → SourceView → Tree → Type 0
-HasLeavesOf command source tree = OnParsedText (λ text. LeavesAreTokens text tree) command source
+-- a sink took exactly the output of the command for its input and the tree
+abbrev pub Writes : Request → SourceView → (old new : SinkView) → Tree → Type 0
+Writes request source old new tree = (output : List ℕ)
+    × IsOutputOf request source tree output × AppendsAll old new output
+
+-- the leaves of a tree are the tokens of the text that the command parses
+abbrev pub HasLeavesOf : Request → SourceView → Tree → Type 0
+HasLeavesOf request source tree =
+    OnParsedText (λ text. LeavesAreTokens request.reading text tree) request.command source
 
 -- the children of a tree's root are those into which the tokens of that text are divided
-abbrev pub IsDivided : Result Command RunError → SourceView → Tree → Type 0
-IsDivided command source tree =
-    OnParsedText (λ text. ChildrenAreStatements text tree) command source
+abbrev pub IsDivided : Request → SourceView → Tree → Type 0
+IsDivided request source tree =
+    OnParsedText (λ text. ChildrenAreStatements request.reading text tree) request.command source
 
 -- Runs
 
@@ -208,7 +212,7 @@ status_of (Err e) = status_of_error e
 
 -- what a run was called with, and what it did to the source and to the sink of its output
 pub record Run : Type 0 where
-  pub command : Result Command RunError
+  pub request : Request
   pub source_before : SourceView
   pub source_after : SourceView
   pub out_before : SinkView
@@ -242,30 +246,34 @@ pub record MeetsBadRange (command : Result Command RunError) (old new : SourceVi
 
 -- a prefix of the command's output was written, and then the sink failed
 pub record IsCutOff (run : Run) : Type 0 where
-  pub end : IsReadToEnd run.command run.source_after
+  pub end : IsReadToEnd run.request.command run.source_after
   pub fault : SinkFaultRose run.out_before run.out_after
   pub prefix : (tree : Tree) × (output : List ℕ)
-      × IsOutputOf run.command run.source_before tree output
+      × IsOutputOf run.request run.source_before tree output
       × AppendsPrefix run.out_before run.out_after output
 
 -- the errors of a run, and when each comes
 abbrev pub IsRunRefusal : Run → RunError → Type 0
-IsRunRefusal run BadWords = IsErr run.command
-IsRunRefusal run ReadFault = SourceFailed run.command run.source_before run.source_after
-IsRunRefusal run (NotUtf8 at) = IsInvalidAt at run.command run.source_before run.source_after
-IsRunRefusal run (Front TooLong) = ExceedsLimit run.command run.source_before run.source_after
-IsRunRefusal run (Front OutOfMemory) = IsOk run.command
-IsRunRefusal run (Front BadRange) = MeetsBadRange run.command run.source_before run.source_after
-IsRunRefusal run (BadScript at) = IsMalformedAt at run.command run.source_before run.source_after
+IsRunRefusal run BadWords = IsErr run.request.command
+IsRunRefusal run ReadFault = SourceFailed run.request.command run.source_before run.source_after
+IsRunRefusal run (NotUtf8 at) =
+    IsInvalidAt at run.request.command run.source_before run.source_after
+IsRunRefusal run (Front TooLong) =
+    ExceedsLimit run.request.command run.source_before run.source_after
+IsRunRefusal run (Front OutOfMemory) = IsOk run.request.command
+IsRunRefusal run (Front BadRange) =
+    MeetsBadRange run.request.command run.source_before run.source_after
+IsRunRefusal run (BadScript at) =
+    IsMalformedAt at run.request.command run.source_before run.source_after
 IsRunRefusal run WriteFault = IsCutOff run
 
 -- a run with this outcome, but for what it writes to `err`
 pub record EndsWith (run : Run) (outcome : Result Tree RunError) : Type 0 where
   pub written : IfOk outcome
-      (Writes run.command run.source_before run.out_before run.out_after)
-  pub tree : IfOk outcome (IsTreeOf run.command run.source_before)
+      (Writes run.request run.source_before run.out_before run.out_after)
+  pub tree : IfOk outcome (IsTreeOf run.request run.source_before)
   pub balanced : IfOk outcome IsTree
-  pub end : OnOk outcome (IsReadToEnd run.command run.source_after)
+  pub end : OnOk outcome (IsReadToEnd run.request.command run.source_after)
   pub refusals : IfErr outcome (IsRunRefusal run)
 
 -- a sink took the line of an error, or a prefix of it where it failed
@@ -309,21 +317,23 @@ IsPrepareRefusal command old new (BadScript at) = IsMalformedAt at (Ok command) 
 IsPrepareRefusal command old new WriteFault = ⊥
 
 -- a command read what it reads of a source, and this is its tree, and its whole output
-pub record IsPrepared (command : Command) (old new : SourceView) (tree : Tree) (output : List ℕ)
+pub record IsPrepared (request : Request) (old new : SourceView) (tree : Tree) (output : List ℕ)
     : Type 0 where
-  pub output_of : IsOutputOf (Ok command) old tree output
+  pub output_of : IsOutputOf request old tree output
   pub balanced : IsTree tree
-  pub end : IsReadToEnd (Ok command) new
+  pub end : IsReadToEnd request.command new
 
 -- the tree of a made text, and its summary
-pub record IsSummarized (pieces : ℕ) (tree : Tree) (output : List ℕ) : Type 0 where
-  pub parsed : IsParsed (made pieces) tree
+pub record IsSummarized (reading : Reading) (pieces : ℕ) (tree : Tree) (output : List ℕ)
+    : Type 0 where
+  pub parsed : IsParsed reading (made pieces) tree
   pub balanced : IsTree tree
   pub summary : output ≡ summary_line tree
 
 -- the tree of the last text of a script, and the lines of its edits with the report of that tree
-pub record IsReplayed (script : List ℕ) (tree : Tree) (output : List ℕ) : Type 0 where
+pub record IsReplayed (reading : Reading) (script : List ℕ) (tree : Tree) (output : List ℕ)
+    : Type 0 where
   pub accepted : IsAcceptedScript script
-  pub parsed : IsParsed (text_of_script script) tree
+  pub parsed : IsParsed reading (text_of_script script) tree
   pub balanced : IsTree tree
-  pub lines : output ≡ lines_of_script script ++ report_of tree
+  pub lines : output ≡ lines_of_script reading script ++ report_of tree

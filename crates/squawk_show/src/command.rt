@@ -1,9 +1,10 @@
-//! The commands of the program.
-ghost use Rattle.std.specs.Prelude.{◌≡◌, IfOk};
-ghost use Rattle.squawk_show.specs.Command.{command_of, make_command, IsWithinPieces};
+//! The commands of the program, and the words of its command line.
+ghost use Rattle.std.specs.Prelude.{◌≡◌, IfOk, IfErr, Err};
+ghost use Rattle.squawk_show.specs.Command.{asks, command_of, named_command, make_command, request_of, IsWithinPieces};
 
-use crate::RunError;
 use crate::made::MAX_PIECES;
+use crate::options::parse_options;
+use crate::{Reading, RunError};
 
 /// A command of the program. Public for contracts: `run` reads it from its words.
 #[derive(Clone, Copy, Debug, PartialEq, Eq)]
@@ -33,9 +34,9 @@ fn parse_make(count: &str) -> Result<Command, RunError>
     }
 }
 
-// Parses the words of the command line, which leave out the program's name.
-pub(crate) fn parse_command(words: &[String]) -> Result<Command, RunError>
-    ensures command { result ≡ command_of words.now }
+// Parses the words of the command line after its options.
+fn parse_command(words: &[String]) -> Result<Command, RunError>
+    ensures command { result ≡ named_command words.now }
     ensures within { IfOk result IsWithinPieces }
 {
     match words.len() {
@@ -44,4 +45,17 @@ pub(crate) fn parse_command(words: &[String]) -> Result<Command, RunError>
         2 if words[0].as_str() == "make" => parse_make(words[1].as_str()),
         _ => Err(RunError::BadWords),
     }
+}
+
+// Parses the words of the command line, which leave out the program's name: first the options, and
+// then the command.
+#[tactic(auto, unfolding(crate::specs::Command::request_of))]
+pub(crate) fn parse_words(words: &[String]) -> Result<(Reading, Command), RunError>
+    ensures request { IfOk result (λ r. request_of words.now ≡ asks r.0 r.1) }
+    ensures bad_words { IfErr result (λ e. command_of words.now ≡ Err e) }
+    ensures within { IfOk result (λ r. IsWithinPieces r.1) }
+{
+    let (reading, rest) = parse_options(words);
+    let command = parse_command(rest)?;
+    Ok((reading, command))
 }

@@ -1,21 +1,21 @@
 //! The whole program, over a source and two sinks.
 ghost use Rattle.std.specs.Prelude.{◌⊎◌, ◌≡◌, ◌≢◌, ◌≤◌, ◌↔◌, ℕ, length, IfOk, IfErr, OnOk, IsErr, IsErrOf, IsOkUnless, IsSomeAnd, Ok, Err};
 ghost use Rattle.squawk_events.specs.Limit.{limit};
-ghost use Rattle.squawk_show.specs.Command.{command_of, IsWithinPieces};
+ghost use Rattle.squawk_show.specs.Command.{asks, command_of, request_of, IsWithinPieces};
 ghost use Rattle.squawk_show.specs.Edge.{TakesAtMost, SinkFaultRose, SourceFaultRose};
 ghost use Rattle.squawk_show.specs.Made.{most_pieces};
 ghost use Rattle.squawk_show.specs.Run as spec;
 ghost use Rattle.squawk_show.specs.Run.{HasLeavesOf, IsDivided, IsReadToEnd, WritesErrorLine};
 ghost use Rattle.squawk_tree.specs.Tree.{IsTree};
 
-use crate::command::parse_command;
+use crate::command::parse_words;
 use crate::made::make_text;
 use crate::refusal::write_error_line;
 use crate::replay::prepare_replay;
 use crate::summary::make_summary;
-use crate::{Command, RunError, Sink, Source, append_report, read_all, write_whole};
+use crate::{Command, Reading, RunError, Sink, Source, append_report, read_all, write_whole};
 use squawk_events::{FrontError, LIMIT};
-use squawk_tree::{Parse, parse_source};
+use squawk_tree::{Parse, parse_divided};
 use std::alloc::Global;
 
 /// How a run ended: the status that the program ends with, and the tree, or the error.
@@ -28,14 +28,19 @@ pub struct Shown {
 }
 
 // Parses bytes, if they are UTF-8.
-fn parse_bytes(alloc: Global, bytes: &[u8]) -> Result<Parse, RunError>
+fn parse_bytes(alloc: Global, bytes: &[u8], reading: Reading) -> Result<Parse, RunError>
     requires { length bytes.now ≤ limit }
-    ensures parsed { IfOk result (spec.IsParsed bytes.now) }
+    ensures parsed { IfOk result (spec.IsParsed reading bytes.now) }
     ensures balanced { IfOk result IsTree }
     ensures refusals { IfErr result (spec.IsParseRefusal bytes.now) }
 {
     match std::str::from_utf8(bytes) {
-        Ok(text) => Ok(parse_source(alloc, text)?),
+        Ok(text) => Ok(parse_divided(
+            alloc,
+            text,
+            reading.strings,
+            reading.division,
+        )?),
         Err(error) => Err(RunError::NotUtf8 {
             at: error.valid_up_to(),
         }),
@@ -43,16 +48,20 @@ fn parse_bytes(alloc: Global, bytes: &[u8]) -> Result<Parse, RunError>
 }
 
 // Reads the source to its end, and makes the tree of its text and the report.
-fn prepare_report<S: Source>(alloc: Global, source: &mut S) -> Result<(Parse, Vec<u8>), RunError>
-    ensures prepared { IfOk result (λ r.
-        spec.IsPrepared Command.Report (S.view source.old) (S.view source.new) r.0 r.1.items) }
+fn prepare_report<S: Source>(
+    alloc: Global,
+    reading: Reading,
+    source: &mut S,
+) -> Result<(Parse, Vec<u8>), RunError>
+    ensures prepared { IfOk result (λ r. spec.IsPrepared (asks reading Command.Report)
+        (S.view source.old) (S.view source.new) r.0 r.1.items) }
     ensures refusals { IfErr result
         (spec.IsPrepareRefusal Command.Report (S.view source.old) (S.view source.new)) }
     ensures taken { result ≢ Err (RunError.Front FrontError.TooLong)
         → TakesAtMost (S.view source.old) (S.view source.new) limit }
 {
     let mut bytes = read_all(alloc, source, LIMIT)?;
-    let parse = parse_bytes(alloc, &bytes)?;
+    let parse = parse_bytes(alloc, &bytes, reading)?;
 
     // The tree does not borrow from the bytes: the report is made in their memory.
     bytes.clear();
@@ -61,13 +70,17 @@ fn prepare_report<S: Source>(alloc: Global, source: &mut S) -> Result<(Parse, Ve
 }
 
 // Makes a text, its tree and its summary.
-fn prepare_summary(alloc: Global, pieces: u32) -> Result<(Parse, Vec<u8>), RunError>
+fn prepare_summary(
+    alloc: Global,
+    reading: Reading,
+    pieces: u32,
+) -> Result<(Parse, Vec<u8>), RunError>
     requires { pieces ≤ most_pieces }
-    ensures summarized { IfOk result (λ r. spec.IsSummarized pieces r.0 r.1.items) }
+    ensures summarized { IfOk result (λ r. spec.IsSummarized reading pieces r.0 r.1.items) }
     ensures refusals { IsOkUnless result (RunError.Front FrontError.OutOfMemory) }
 {
     let text = make_text(alloc, pieces)?;
-    let parse = parse_source(alloc, text.as_str())?;
+    let parse = parse_divided(alloc, text.as_str(), reading.strings, reading.division)?;
     drop(text);
     let summary = make_summary(alloc, &parse)?;
     Ok((parse, summary))
@@ -76,12 +89,13 @@ fn prepare_summary(alloc: Global, pieces: u32) -> Result<(Parse, Vec<u8>), RunEr
 // Does all that a command does before it writes: returns its tree and its whole output.
 fn prepare<S: Source>(
     alloc: Global,
+    reading: Reading,
     command: Command,
     source: &mut S,
 ) -> Result<(Parse, Vec<u8>), RunError>
     requires { IsWithinPieces command }
-    ensures prepared { IfOk result (λ r.
-        spec.IsPrepared command (S.view source.old) (S.view source.new) r.0 r.1.items) }
+    ensures prepared { IfOk result (λ r. spec.IsPrepared (asks reading command)
+        (S.view source.old) (S.view source.new) r.0 r.1.items) }
     ensures refusals { IfErr result
         (spec.IsPrepareRefusal command (S.view source.old) (S.view source.new)) }
     ensures unread { ¬ (spec.ReadsSource (Ok command)) → source.new ≡ source.old }
@@ -89,9 +103,9 @@ fn prepare<S: Source>(
         → TakesAtMost (S.view source.old) (S.view source.new) limit }
 {
     match command {
-        Command::Report => prepare_report(alloc, source),
-        Command::Make { pieces } => prepare_summary(alloc, pieces),
-        Command::Replay => prepare_replay(alloc, source),
+        Command::Report => prepare_report(alloc, reading, source),
+        Command::Make { pieces } => prepare_summary(alloc, reading, pieces),
+        Command::Replay => prepare_replay(alloc, reading, source),
     }
 }
 
@@ -103,7 +117,7 @@ fn run_command<S: Source, K: Sink>(
     out: &mut K,
 ) -> Result<Parse, RunError>
     ensures ends { spec.EndsWith (record {
-      command = command_of words.now;
+      request = request_of words.now;
       source_before = S.view source.old;
       source_after = S.view source.new;
       out_before = K.view out.old;
@@ -115,8 +129,8 @@ fn run_command<S: Source, K: Sink>(
     ensures taken { result ≢ Err (RunError.Front FrontError.TooLong)
         → TakesAtMost (S.view source.old) (S.view source.new) limit }
 {
-    let command = parse_command(words)?;
-    let (parse, output) = prepare(alloc, command, source)?;
+    let (reading, command) = parse_words(words)?;
+    let (parse, output) = prepare(alloc, reading, command, source)?;
     match write_whole(out, &output) {
         Ok(()) => Ok(parse),
         Err(_) => Err(RunError::WriteFault),
@@ -126,11 +140,16 @@ fn run_command<S: Source, K: Sink>(
 /// Runs the program: makes the tree of a text, writes the output of the command, and returns how
 /// that ended.
 ///
-/// `words` are those of the command line without the program's name. Without words the text is what
-/// `source` has left, and the output is the report of its tree. With `make` and a number from 1 to
-/// 100000 the text is made, the output is a summary, and the source is not read. With `replay` what
-/// `source` has left is a script of edits of a text that is empty at first, and the output is a
-/// line for each edit, and then the report of the last tree.
+/// `words` are those of the command line without the program's name: the options, and then the
+/// command. Without a command the text is what `source` has left, and the output is the report of
+/// its tree. With `make` and a number from 1 to 100000 the text is made, the output is a summary,
+/// and the source is not read. With `replay` what `source` has left is a script of edits of a text
+/// that is empty at first, and the output is a line for each edit, and then the report of the last
+/// tree.
+///
+/// With the option `--backslash` a backslash escapes the next character of a plain string. With
+/// `--grouped` a semicolon in parentheses ends no statement. Either may be left out; `--backslash`
+/// is the first of both.
 ///
 /// The whole output is made before its first byte is written to `out`, and writing allocates
 /// nothing. After an error its line is written to `err`, whose faults change nothing.
@@ -145,20 +164,20 @@ pub fn run<S: Source, K: Sink, E: Sink>(
 
     // With status 0 `out` took exactly the output of the command for its input and the tree.
     ensures written { IfOk result.outcome
-        (spec.Writes (command_of words.now) (S.view source.old) (K.view out.old) (K.view out.new)) }
-    ensures tree { IfOk result.outcome (spec.IsTreeOf (command_of words.now) (S.view source.old)) }
+        (spec.Writes (request_of words.now) (S.view source.old) (K.view out.old) (K.view out.new)) }
+    ensures tree { IfOk result.outcome (spec.IsTreeOf (request_of words.now) (S.view source.old)) }
     ensures balanced { IfOk result.outcome IsTree }
     ensures end { OnOk result.outcome (IsReadToEnd (command_of words.now) (S.view source.new)) }
     ensures quiet { result.status ≡ 0 → err.new ≡ err.old }
 
     // The leaves of that tree are the tokens of the text, and the root's children those into which
     // the tokens are divided.
-    ensures leaves { IfOk result.outcome (HasLeavesOf (command_of words.now) (S.view source.old)) }
-    ensures children { IfOk result.outcome (IsDivided (command_of words.now) (S.view source.old)) }
+    ensures leaves { IfOk result.outcome (HasLeavesOf (request_of words.now) (S.view source.old)) }
+    ensures children { IfOk result.outcome (IsDivided (request_of words.now) (S.view source.old)) }
 
     // When each error comes.
     ensures refusals { IfErr result.outcome (spec.IsRunRefusal (record {
-      command = command_of words.now;
+      request = request_of words.now;
       source_before = S.view source.old;
       source_after = S.view source.new;
       out_before = K.view out.old;

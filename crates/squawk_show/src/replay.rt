@@ -3,29 +3,33 @@ ghost use Rattle.std.specs.Prelude.{◌≡◌, ◌≢◌, ◌≤◌, length, IfO
 ghost use Rattle.squawk_cut.specs.PlainTells.{plain_tells};
 ghost use Rattle.squawk_events.specs.Limit.{limit};
 ghost use Rattle.squawk_events.specs.Refusals.{IsOutOfMemory};
-ghost use Rattle.squawk_lexer.specs.declared.token.Strings.TheVariants.{Standard};
 ghost use Rattle.squawk_replay.specs.Replay.{front_tells};
+ghost use Rattle.squawk_show.specs.Command.{asks};
 ghost use Rattle.squawk_show.specs.Edge.{TakesAtMost};
 ghost use Rattle.squawk_show.specs.Run as spec;
-ghost use Rattle.squawk_statements.specs.declared.division.Division.TheVariants.{Flat};
 ghost use Rattle.squawk_tree.specs.Tree.{IsTree};
 
-use crate::{Command, RunError, Source, append_report, read_all};
+use crate::{Command, Reading, RunError, Source, append_report, read_all};
 use squawk_cut::PlainFront;
 use squawk_cut::laws::plain_fronts_parse;
 use squawk_document::Document;
 use squawk_events::{FrontError, LIMIT};
-use squawk_replay::{Replayed, replay};
+use squawk_replay::{Replayed, replay_in};
 use squawk_script::Script;
 use squawk_tree::Parse;
 use squawk_tree::laws::parses_have_the_tokens;
 use std::alloc::Global;
 
-// Makes the tree of the text of a document.
-fn parse_document(alloc: Global, document: &Document<PlainFront>) -> Result<Parse, FrontError>
+// Makes the tree of the text of a document, whose front tells tokens and children by a reading.
+fn parse_document(
+    alloc: Global,
+    document: &Document<PlainFront>,
+    reading: Reading,
+) -> Result<Parse, FrontError>
     requires short { length document.now.text ≤ limit }
-    requires plain { front_tells document.now.front ≡ plain_tells Standard Flat }
-    ensures parsed { IfOk result (spec.IsParsed document.now.text) }
+    requires plain { front_tells document.now.front
+        ≡ plain_tells reading.strings reading.division }
+    ensures parsed { IfOk result (spec.IsParsed reading document.now.text) }
     ensures balanced { IfOk result IsTree }
     ensures refusals { IfErr result IsOutOfMemory }
 {
@@ -38,13 +42,18 @@ fn parse_document(alloc: Global, document: &Document<PlainFront>) -> Result<Pars
 
 // Applies a script to the empty text. Returns the tree of the last text, and the lines of the edits
 // with the report of that tree after them.
-fn replay_script(alloc: Global, script: &Script<'_>) -> Result<(Parse, Vec<u8>), RunError>
+fn replay_script(
+    alloc: Global,
+    reading: Reading,
+    script: &Script<'_>,
+) -> Result<(Parse, Vec<u8>), RunError>
     requires { spec.IsGoodScript script.now }
-    ensures replayed { IfOk result (λ r. spec.IsReplayed script.now r.0 r.1.items) }
+    ensures replayed { IfOk result (λ r. spec.IsReplayed reading script.now r.0 r.1.items) }
     ensures refusals { IfErr result (spec.IsReplayRefusal script.now) }
 {
-    let Replayed { document, lines } = replay(alloc, script)?;
-    let parse = parse_document(alloc, &document)?;
+    let Replayed { document, lines } =
+        replay_in(alloc, script, reading.strings, reading.division)?;
+    let parse = parse_document(alloc, &document, reading)?;
     // The tree does not borrow from the document: without it the report needs less memory.
     drop(document);
     let output = append_report(alloc, lines, &parse)?;
@@ -52,14 +61,18 @@ fn replay_script(alloc: Global, script: &Script<'_>) -> Result<(Parse, Vec<u8>),
 }
 
 // Checks that bytes are a script, and then applies it.
-fn replay_bytes(alloc: Global, bytes: &[u8]) -> Result<(Parse, Vec<u8>), RunError>
+fn replay_bytes(
+    alloc: Global,
+    reading: Reading,
+    bytes: &[u8],
+) -> Result<(Parse, Vec<u8>), RunError>
     requires { length bytes.now ≤ limit }
-    ensures replayed { IfOk result (λ r. spec.IsReplayed bytes.now r.0 r.1.items) }
+    ensures replayed { IfOk result (λ r. spec.IsReplayed reading bytes.now r.0 r.1.items) }
     ensures refusals { IfErr result (spec.IsReplayRefusal bytes.now) }
 {
     match std::str::from_utf8(bytes) {
         Ok(text) => match Script::new(text) {
-            Ok(script) => replay_script(alloc, &script),
+            Ok(script) => replay_script(alloc, reading, &script),
             Err(error) => Err(RunError::BadScript { at: error.at }),
         },
         Err(error) => Err(RunError::NotUtf8 {
@@ -71,15 +84,16 @@ fn replay_bytes(alloc: Global, bytes: &[u8]) -> Result<(Parse, Vec<u8>), RunErro
 // Reads a script to its end, and makes the tree of its last text and the output of `replay`.
 pub(crate) fn prepare_replay<S: Source>(
     alloc: Global,
+    reading: Reading,
     source: &mut S,
 ) -> Result<(Parse, Vec<u8>), RunError>
-    ensures prepared { IfOk result (λ r.
-        spec.IsPrepared Command.Replay (S.view source.old) (S.view source.new) r.0 r.1.items) }
+    ensures prepared { IfOk result (λ r. spec.IsPrepared (asks reading Command.Replay)
+        (S.view source.old) (S.view source.new) r.0 r.1.items) }
     ensures refusals { IfErr result
         (spec.IsPrepareRefusal Command.Replay (S.view source.old) (S.view source.new)) }
     ensures taken { result ≢ Err (RunError.Front FrontError.TooLong)
         → TakesAtMost (S.view source.old) (S.view source.new) limit }
 {
     let bytes = read_all(alloc, source, LIMIT)?;
-    replay_bytes(alloc, &bytes)
+    replay_bytes(alloc, reading, &bytes)
 }

@@ -2,6 +2,7 @@
 mod commands;
 mod errors;
 mod lines;
+mod readings;
 mod replay;
 mod streams;
 

@@ -114,6 +114,64 @@ const ROWS: &[Row<'static>] = &[
     },
 ];
 
+const OPTION_ROWS: &[Row<'static>] = &[
+    Row {
+        name: "make_with_backslash",
+        words: &["--backslash", "make", "4"],
+        out: Some("bytes 84 tokens 43 children 10 nodes 4 errors 0\n"),
+    },
+    Row {
+        name: "make_with_grouped",
+        words: &["--grouped", "make", "4"],
+        out: Some("bytes 84 tokens 43 children 10 nodes 4 errors 0\n"),
+    },
+    Row {
+        name: "make_with_both_options",
+        words: &["--backslash", "--grouped", "make", "4"],
+        out: Some("bytes 84 tokens 43 children 10 nodes 4 errors 0\n"),
+    },
+    Row {
+        name: "options_in_the_other_order",
+        words: &["--grouped", "--backslash"],
+        out: None,
+    },
+    Row {
+        name: "backslash_twice",
+        words: &["--backslash", "--backslash"],
+        out: None,
+    },
+    Row {
+        name: "grouped_twice",
+        words: &["--grouped", "--grouped"],
+        out: None,
+    },
+    Row {
+        name: "option_after_make",
+        words: &["make", "4", "--backslash"],
+        out: None,
+    },
+    Row {
+        name: "option_after_replay",
+        words: &["replay", "--grouped"],
+        out: None,
+    },
+    Row {
+        name: "option_before_other_words",
+        words: &["--backslash", "made"],
+        out: None,
+    },
+    Row {
+        name: "option_in_uppercase",
+        words: &["--Grouped"],
+        out: None,
+    },
+    Row {
+        name: "option_with_one_dash",
+        words: &["-backslash"],
+        out: None,
+    },
+];
+
 // Runs the program with the words of a row. It reads nothing.
 fn check_row(rt: &impl Abort, alloc: Global, row: &Row<'_>) -> Result<(), Fail> {
     let words = command_line(alloc, row.words)?;
@@ -135,6 +193,14 @@ fn check_row(rt: &impl Abort, alloc: Global, row: &Row<'_>) -> Result<(), Fail> 
 #[test]
 fn words_name_commands(rt: HostRuntime) -> Result<(), Fail> {
     for row in ROWS {
+        check_row(&rt, rt.alloc(), row)?;
+    }
+    Ok(())
+}
+
+#[test]
+fn options_come_first(rt: HostRuntime) -> Result<(), Fail> {
+    for row in OPTION_ROWS {
         check_row(&rt, rt.alloc(), row)?;
     }
     Ok(())

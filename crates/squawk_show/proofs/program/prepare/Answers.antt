@@ -1,6 +1,7 @@
 use Rattle.std.proofs.Common.{subst, sym}
 use Rattle.std.specs.Prelude.{IfOk}
 use Rattle.squawk_show.proofs.ParseLemmas.{if_ok, summary_prepared}
+use Rattle.squawk_show.specs.Command.{asks}
 use Rattle.squawk_show.specs.Run.{IsPrepared}
 use Rattle.squawk_show.proofs.program.prepare.Goals as goal
 
@@ -8,6 +9,6 @@ pub returns-in-Make-clause-prepared : goal.returns-in-Make-clause-prepared
 returns-in-Make-clause-prepared g c =
     let source = g.S.Source.view c.args.source.now in
     subst (λ command. IfOk c.prepare_summary.result
-    (λ r. IsPrepared command source source r.0 r.1.items)) (sym c.in-Make.is)
-    (if_ok _ _ (λ r h. summary_prepared c.in-Make.pieces source r.0 r.1.items h)
+    (λ r. IsPrepared (asks c.args.reading command) source source r.0 r.1.items)) (sym c.in-Make.is)
+    (if_ok _ _ (λ r h. summary_prepared c.args.reading c.in-Make.pieces source r.0 r.1.items h)
     c.prepare_summary.result c.prepare_summary.ensures.summarized)

@@ -8,13 +8,13 @@ pub returns-clause-summarized : goal.returns-clause-summarized
 returns-clause-summarized c =
     let same = c.as_str.ensures.value ∙ c.in_ok-text.ensures.text in
     record {
-      parsed = is_parsed _ _ _ _ same c.in_ok-parse.was
+      parsed = is_parsed c.args.reading _ _ _ _ same c.in_ok-parse.was
           (record {
             within = subst (λ bytes. length bytes ≤ limit) c.in_ok-text.ensures.text
                 c.in_ok-text.ensures.within;
             valid = subst IsUtf8 same c.as_str.utf8;
           })
-          c.parse_source.ensures;
+          c.parse_divided.ensures;
       balanced = c.in_ok-parse.ensures.lawful;
       summary = c.in_ok-summary.ensures;
     }

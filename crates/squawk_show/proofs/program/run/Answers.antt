@@ -1,37 +1,39 @@
 use Rattle.std.proofs.Common.{ap, ◌∙◌}
 use Rattle.squawk_show.proofs.RefusalLemmas.{accepted_status, invalid_status, over_status, bad_script_status, bad_range_status, invalid_no_tree, over_no_tree, bad_script_no_tree, bad_range_no_tree, on_parsed_text}
-use Rattle.squawk_show.specs.Command.{command_of}
+use Rattle.squawk_show.specs.Command.{command_of, request_of}
 use Rattle.squawk_show.specs.Run.{status_of, LeavesAreTokens, ChildrenAreStatements}
 use Rattle.squawk_show.proofs.program.run.Goals as goal
 
 pub returns-in-Ok-clause-leaves : goal.returns-in-Ok-clause-leaves
 returns-in-Ok-clause-leaves g c = let t = c.in-Ok.ensures.ends.tree in
-    on_parsed_text (λ text. LeavesAreTokens text c.in-Ok.parse) (command_of c.args.words.now)
+    on_parsed_text (λ text. LeavesAreTokens (request_of c.args.words.now).reading text c.in-Ok.parse)
+    (command_of c.args.words.now)
     (g.S.Source.view c.args.source.now) t.0 t.1 t.2.parsed.leaves
 
 pub returns-in-Ok-clause-children : goal.returns-in-Ok-clause-children
 returns-in-Ok-clause-children g c = let t = c.in-Ok.ensures.ends.tree in
-    on_parsed_text (λ text. ChildrenAreStatements text c.in-Ok.parse) (command_of c.args.words.now)
+    on_parsed_text (λ text. ChildrenAreStatements (request_of c.args.words.now).reading text c.in-Ok.parse)
+    (command_of c.args.words.now)
     (g.S.Source.view c.args.source.now) t.0 t.1 t.2.parsed.children
 
 pub returns-in-Ok-clause-invalid : goal.returns-in-Ok-clause-invalid
 returns-in-Ok-clause-invalid g c = λ input no_read_fault.
-    absurd (invalid_no_tree (command_of c.args.words.now)
+    absurd (invalid_no_tree (request_of c.args.words.now)
     (g.S.Source.view c.args.source.now) c.in-Ok.parse c.in-Ok.ensures.ends.tree input)
 
 pub returns-in-Ok-clause-over_limit : goal.returns-in-Ok-clause-over_limit
 returns-in-Ok-clause-over_limit g c = λ input no_read_fault.
-    absurd (over_no_tree (command_of c.args.words.now)
+    absurd (over_no_tree (request_of c.args.words.now)
     (g.S.Source.view c.args.source.now) c.in-Ok.parse c.in-Ok.ensures.ends.tree input)
 
 pub returns-in-Ok-clause-bad_script : goal.returns-in-Ok-clause-bad_script
 returns-in-Ok-clause-bad_script g c = λ is left no_read_fault.
-    absurd (bad_script_no_tree (command_of c.args.words.now)
+    absurd (bad_script_no_tree (request_of c.args.words.now)
     (g.S.Source.view c.args.source.now) c.in-Ok.parse c.in-Ok.ensures.ends.tree is left)
 
 pub returns-in-Ok-clause-bad_range : goal.returns-in-Ok-clause-bad_range
 returns-in-Ok-clause-bad_range g c = λ is left no_read_fault.
-    absurd (bad_range_no_tree (command_of c.args.words.now)
+    absurd (bad_range_no_tree (request_of c.args.words.now)
     (g.S.Source.view c.args.source.now) c.in-Ok.parse c.in-Ok.ensures.ends.tree is left)
 
 pub returns-in-Err-clause-taken : goal.returns-in-Err-clause-taken
