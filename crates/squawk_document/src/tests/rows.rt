@@ -2,8 +2,9 @@
 use super::{same_document, same_parse, sums};
 use crate::{Document, FrontError};
 use squawk_cut::{Child, Division, Front, PlainFront, StrStep, Strings};
-use squawk_tree::{parse_divided, parse_source};
+use squawk_tree::{parse_divided, parse_source_in};
 use std::alloc::{AllocError, Global};
+use std::process::Abort;
 use std::test::Fail;
 
 // A child of a text that begins at `at`: its node and whether it is closed, and each leaf with its
@@ -174,33 +175,52 @@ fn text_after(alloc: Global, row: &Row<'_>) -> Result<String, Fail> {
     Ok(format!(in alloc; "{before}{new}{after}")?)
 }
 
-// A parse of the document is that of the text after the edit.
+// Edits a document as a row says. A parse of it is that of the text after the edit.
+fn check_edit(
+    rt: &impl Abort,
+    alloc: Global,
+    row: &Row<'_>,
+    strings: Strings,
+) -> Result<(), Fail> {
+    let front = PlainFront::new_in(strings);
+    let mut document = Document::new(alloc, front, row.text).ok().ok_or(row.name)?;
+    let before = document.front().steps();
+    let edited = document
+        .edit(row.start, row.end, row.new)
+        .ok()
+        .ok_or(row.name)?;
+    assert_eq!(rt; sums(alloc, edited)?.as_str(), row.counts, "{}", row.name);
+    assert_eq!(rt;
+        render(alloc, &document)?.as_str(),
+        row.lines,
+        "{}",
+        row.name
+    );
+    let steps = document.front().steps().saturating_sub(before);
+    let most = edited.cut_tokens.saturating_add(edited.parsed_children);
+    assert!(rt; steps <= most as u64, "{}", row.name);
+    let parse = document.parse(alloc).ok().ok_or(row.name)?;
+    let text = text_after(alloc, row)?;
+    let whole = parse_source_in(alloc, text.as_str(), strings)
+        .ok()
+        .ok_or(row.name)?;
+    assert!(rt; same_parse(&parse, &whole), "{}", row.name);
+    Ok(())
+}
+
 #[test]
 fn edits_keep_what_they_can(rt: HostRuntime) -> Result<(), Fail> {
-    let alloc = rt.alloc();
     for row in ROWS {
-        let mut document = Document::new(alloc, PlainFront::new(), row.text)
-            .ok()
-            .ok_or(row.name)?;
-        let before = document.front().steps();
-        let edited = document
-            .edit(row.start, row.end, row.new)
-            .ok()
-            .ok_or(row.name)?;
-        assert_eq!(rt; sums(alloc, edited)?.as_str(), row.counts, "{}", row.name);
-        assert_eq!(rt;
-            render(alloc, &document)?.as_str(),
-            row.lines,
-            "{}",
-            row.name
-        );
-        let steps = document.front().steps().saturating_sub(before);
-        let most = edited.cut_tokens.saturating_add(edited.parsed_children);
-        assert!(rt; steps <= most as u64, "{}", row.name);
-        let parse = document.parse(alloc).ok().ok_or(row.name)?;
-        let text = text_after(alloc, row)?;
-        let whole = parse_source(alloc, text.as_str()).ok().ok_or(row.name)?;
-        assert!(rt; same_parse(&parse, &whole), "{}", row.name);
+        check_edit(&rt, rt.alloc(), row, Strings::Standard)?;
+    }
+    Ok(())
+}
+
+// No row has a backslash in a plain string, so the same is kept.
+#[test]
+fn edits_where_a_backslash_escapes(rt: HostRuntime) -> Result<(), Fail> {
+    for row in ROWS {
+        check_edit(&rt, rt.alloc(), row, Strings::Backslash)?;
     }
     Ok(())
 }
@@ -232,33 +252,78 @@ struct Reading<'a> {
     name: &'a str,
     strings: Strings,
     division: Division,
+    text: &'a str,
+    start: usize,
+    end: usize,
+    new: &'a str,
     counts: &'a str,
 }
+
+const GROUP: &str = "select (1, '\\'; c');";
+
+// The group before the second statement gets its `)`.
+const OPEN_GROUP: &str = "select (1; select 2;";
 
 const READINGS: &[Reading<'static>] = &[
     Reading {
         name: "standard, flat",
         strings: Strings::Standard,
         division: Division::Flat,
+        text: GROUP,
+        start: 8,
+        end: 9,
+        new: "22",
         counts: "tokens 1+3+7 children 0+1+2",
     },
     Reading {
         name: "standard, grouped",
         strings: Strings::Standard,
         division: Division::Grouped,
+        text: GROUP,
+        start: 8,
+        end: 9,
+        new: "22",
         counts: "tokens 1+3+7 children 0+1+0",
     },
     Reading {
         name: "backslash, flat",
         strings: Strings::Backslash,
         division: Division::Flat,
+        text: GROUP,
+        start: 8,
+        end: 9,
+        new: "22",
         counts: "tokens 1+3+5 children 0+1+0",
     },
     Reading {
         name: "backslash, grouped",
         strings: Strings::Backslash,
         division: Division::Grouped,
+        text: GROUP,
+        start: 8,
+        end: 9,
+        new: "22",
         counts: "tokens 1+3+5 children 0+1+0",
+    },
+    Reading {
+        name: "group_closes, flat",
+        strings: Strings::Standard,
+        division: Division::Flat,
+        text: OPEN_GROUP,
+        start: 9,
+        end: 9,
+        new: ")",
+        counts: "tokens 2+3+6 children 0+1+2",
+    },
+    Reading {
+        name: "group_closes, grouped",
+        strings: Strings::Standard,
+        division: Division::Grouped,
+        text: OPEN_GROUP,
+        start: 9,
+        end: 9,
+        new: ")",
+        counts: "tokens 2+3+6 children 0+3+0",
     },
 ];
 
@@ -268,9 +333,11 @@ fn readings_and_divisions(rt: HostRuntime) -> Result<(), Fail> {
     let alloc = rt.alloc();
     for row in READINGS {
         let front = PlainFront::new_divided(row.strings, row.division);
-        let text = "select (1, '\\'; c');";
-        let mut document = Document::new(alloc, front, text).ok().ok_or(row.name)?;
-        let edited = document.edit(8, 9, "22").ok().ok_or(row.name)?;
+        let mut document = Document::new(alloc, front, row.text).ok().ok_or(row.name)?;
+        let edited = document
+            .edit(row.start, row.end, row.new)
+            .ok()
+            .ok_or(row.name)?;
         assert_eq!(rt; sums(alloc, edited)?.as_str(), row.counts, "{}", row.name);
         let parse = document.parse(alloc).ok().ok_or(row.name)?;
         let whole = parse_divided(alloc, document.text(), row.strings, row.division);
