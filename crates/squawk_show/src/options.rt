@@ -2,8 +2,7 @@
 ghost use Rattle.std.specs.Prelude.{◌≡◌};
 ghost use Rattle.squawk_show.specs.Command.{has_option, without_option, reading_of, without_options};
 
-use squawk_lexer::Strings;
-use squawk_statements::Division;
+use squawk_tree::{Division, Strings};
 
 /// How the program reads texts. Public for contracts: `run` reads it from its words.
 #[derive(Clone, Copy, Debug, PartialEq, Eq)]

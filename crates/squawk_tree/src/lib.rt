@@ -21,4 +21,6 @@ pub use sink::TreeSink;
 pub use source::{
     parse_divided, parse_lexed, parse_source, parse_source_in, parse_with, parse_with_in,
 };
+pub use squawk_lexer::Strings;
+pub use squawk_statements::Division;
 pub use step_ranges::StepRanges;

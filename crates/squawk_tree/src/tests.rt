@@ -4,11 +4,10 @@ mod grammar;
 mod ranges;
 mod sink;
 
-use crate::{ChildSpan, Parse, parse_divided, parse_source, parse_with};
+use crate::{ChildSpan, Division, Parse, Strings, parse_divided, parse_source, parse_with};
 use squawk_events::{ParseError, StrStep};
 use squawk_kinds::SyntaxKind;
-use squawk_lexer::Strings;
-use squawk_statements::{Division, GroupedGrammar};
+use squawk_statements::GroupedGrammar;
 use std::alloc::{AllocError, Global};
 use std::test::Fail;
 
