@@ -52,9 +52,9 @@ module _ (leaves_are : (strings : Strings) (division : Division) (text : List �
     text = valid;
     parsed = is;
     leaves = ap (λ (t : Tree). leaves t.steps) is
-    ∙ leaves_are reading.strings reading.division text;
+        ∙ leaves_are reading.strings reading.division text;
     children = ap (λ (t : Tree). root_children t.steps) is
-    ∙ children_are reading.strings reading.division text;
+        ∙ children_are reading.strings reading.division text;
   }
 
 -- what follows from a fact of a result holds of it

@@ -1,14 +1,14 @@
 -- What the input of a command says of the status of a run, and of its tree.
-use Rattle.std.proofs.Common.{◌≡◌, ℕ, ◌+◌, ◌≤◌, ◌⊎◌, inl, inr, List, length, ap, refl, sym, subst, arith, Some, None, Ok, Err, Option, Result}
+use Rattle.std.proofs.Common.{◌≡◌, ℕ, ◌+◌, ◌≤◌, ◌⊎◌, inl, inr, List, ◌++◌, append-nil, length, ap, ◌∙◌, refl, sym, subst, arith, Some, None, Ok, Err, Option, Result}
 use Rattle.std.specs.Prelude.{IsErr, IsSomeAnd, IfSome}
 use Rattle.std.proofs.lemmas.List.{length-append}
-use Rattle.std.specs.Io.KnownBytes.{Consumes}
+use Rattle.std.specs.Io.KnownBytes.{Consumes, IsAtEnd}
 use Rattle.squawk_events.specs.Limit.{limit}
 use Rattle.squawk_events.specs.declared.error.FrontError.TheVariants.{TooLong, OutOfMemory, BadRange}
 use Rattle.squawk_show.specs.Command.{Request}
-use Rattle.squawk_show.specs.Edge.{SourceView, SourceFaultRose, SinkFaultRose}
+use Rattle.squawk_show.specs.Edge.{SourceView, Takes, SourceFaultRose, SinkFaultRose}
 use Rattle.squawk_show.specs.Outcome.{status_of_error}
-use Rattle.squawk_show.specs.Run.{Run, IsRunRefusal, IsText, IsInvalidText, IsOverLimit, IsBadScript, HasBadRange, IsAcceptedScript, IsAll, IsInput, Accepts, parsed_text, Reads, ReadsSource, HasAcceptedInput, OnParsedText, SourceFailed, IsTreeOf, IsMalformedAt, MeetsBadRange, IsCutOff, text_of_script}
+use Rattle.squawk_show.specs.Run.{Run, IsRunRefusal, IsParseRefusal, IsPrepareRefusal, IsText, IsInvalidText, IsOverLimit, IsBadScript, HasBadRange, IsAcceptedScript, IsAll, IsInput, Accepts, parsed_text, Reads, ReadsSource, HasAcceptedInput, OnParsedText, SourceFailed, IsTreeOf, IsMalformedAt, MeetsBadRange, IsCutOff, text_of_script}
 use Rattle.squawk_show.specs.declared.command.Command.{Command}
 use Rattle.squawk_show.specs.declared.command.Command.TheVariants.{Report, Make, Replay}
 use Rattle.squawk_show.specs.declared.error.RunError.{RunError}
@@ -283,6 +283,31 @@ bad_range_status run (BadScript at) h is left no_read_fault =
     (λ bs bad other. other.bad bad.good.script) h)
 bad_range_status run WriteFault h is left no_read_fault = let t = cut_off_tree run h in
     absurd (bad_range_no_tree run.request run.source_before t.0 t.1 is left)
+
+-- bytes that were taken up to the end are all that was left
+all_taken : (left after : Option (List ℕ)) (bytes : List ℕ) → Consumes left after bytes
+    → IsAtEnd after → IsAll left bytes
+all_taken None after bytes h end = tt
+all_taken (Some left) None bytes h end = absurd h
+all_taken (Some left) (Some rest) bytes h end =
+    h ∙ ap (λ xs. bytes ++ xs) end ∙ append-nil bytes
+
+-- why there is no report of bytes that were taken up to the end
+pub report_refused : (old new : SourceView) (bytes : List ℕ) (e : RunError)
+    → Takes old new bytes → IsAtEnd new.left → IsParseRefusal bytes e
+    → IsPrepareRefusal Report old new e
+report_refused old new bytes BadWords takes end h = absurd h
+report_refused old new bytes ReadFault takes end h = absurd h
+report_refused old new bytes (NotUtf8 at) takes end h = record {
+  reads = tt;
+  end = end;
+  input = (bytes, all_taken old.left new.left bytes takes.consumed end, h.0, h.1);
+}
+report_refused old new bytes (Front TooLong) takes end h = absurd h
+report_refused old new bytes (Front OutOfMemory) takes end h = tt
+report_refused old new bytes (Front BadRange) takes end h = absurd h
+report_refused old new bytes (BadScript at) takes end h = absurd h
+report_refused old new bytes WriteFault takes end h = absurd h
 
 -- what holds of an input holds of all bytes left
 on_left : (P : List ℕ → Type 0) (left : Option (List ℕ)) (input : List ℕ) → IsAll left input

@@ -1,5 +1,5 @@
 //! The commands of the program, and the words of its command line.
-ghost use Rattle.std.specs.Prelude.{◌≡◌, IfOk, IfErr, Err};
+ghost use Rattle.std.specs.Prelude.{◌≡◌, IfOk, IfErr, IsErr, IsOkUnless};
 ghost use Rattle.squawk_show.specs.Command.{asks, command_of, named_command, make_command, request_of, IsWithinPieces};
 
 use crate::made::MAX_PIECES;
@@ -22,6 +22,7 @@ pub enum Command {
 // The command `make` with this word after it.
 fn parse_make(count: &str) -> Result<Command, RunError>
     ensures command { result ≡ make_command count.now }
+    ensures bad_words { IsOkUnless result RunError.BadWords }
     ensures within { IfOk result IsWithinPieces }
 {
     // `parse` also takes a sign and leading zeros.
@@ -37,6 +38,7 @@ fn parse_make(count: &str) -> Result<Command, RunError>
 // Parses the words of the command line after its options.
 fn parse_command(words: &[String]) -> Result<Command, RunError>
     ensures command { result ≡ named_command words.now }
+    ensures bad_words { IsOkUnless result RunError.BadWords }
     ensures within { IfOk result IsWithinPieces }
 {
     match words.len() {
@@ -52,7 +54,8 @@ fn parse_command(words: &[String]) -> Result<Command, RunError>
 #[tactic(auto, unfolding(crate::specs::Command::request_of))]
 pub(crate) fn parse_words(words: &[String]) -> Result<(Reading, Command), RunError>
     ensures request { IfOk result (λ r. request_of words.now ≡ asks r.0 r.1) }
-    ensures bad_words { IfErr result (λ e. command_of words.now ≡ Err e) }
+    ensures no_command { IfErr result (λ _. IsErr (command_of words.now)) }
+    ensures bad_words { IsOkUnless result RunError.BadWords }
     ensures within { IfOk result (λ r. IsWithinPieces r.1) }
 {
     let (reading, rest) = parse_options(words);

@@ -35,12 +35,7 @@ fn parse_bytes(alloc: Global, bytes: &[u8], reading: Reading) -> Result<Parse, R
     ensures refusals { IfErr result (spec.IsParseRefusal bytes.now) }
 {
     match std::str::from_utf8(bytes) {
-        Ok(text) => Ok(parse_divided(
-            alloc,
-            text,
-            reading.strings,
-            reading.division,
-        )?),
+        Ok(text) => Ok(parse_divided(alloc, text, reading.strings, reading.division)?),
         Err(error) => Err(RunError::NotUtf8 {
             at: error.valid_up_to(),
         }),

@@ -51,8 +51,7 @@ fn replay_script(
     ensures replayed { IfOk result (λ r. spec.IsReplayed reading script.now r.0 r.1.items) }
     ensures refusals { IfErr result (spec.IsReplayRefusal script.now) }
 {
-    let Replayed { document, lines } =
-        replay_in(alloc, script, reading.strings, reading.division)?;
+    let Replayed { document, lines } = replay_in(alloc, script, reading.strings, reading.division)?;
     let parse = parse_document(alloc, &document, reading)?;
     // The tree does not borrow from the document: without it the report needs less memory.
     drop(document);
@@ -61,11 +60,7 @@ fn replay_script(
 }
 
 // Checks that bytes are a script, and then applies it.
-fn replay_bytes(
-    alloc: Global,
-    reading: Reading,
-    bytes: &[u8],
-) -> Result<(Parse, Vec<u8>), RunError>
+fn replay_bytes(alloc: Global, reading: Reading, bytes: &[u8]) -> Result<(Parse, Vec<u8>), RunError>
     requires { length bytes.now ≤ limit }
     ensures replayed { IfOk result (λ r. spec.IsReplayed reading bytes.now r.0 r.1.items) }
     ensures refusals { IfErr result (spec.IsReplayRefusal bytes.now) }

@@ -193,8 +193,15 @@ fn outcome(alloc: Global, words: &[&str], text: &str) -> Result<Result<Parse, Ru
 #[test]
 fn readings_divide_texts(rt: HostRuntime) -> Result<(), Fail> {
     for row in DIVISIONS {
-        let parse = outcome(rt.alloc(), row.words, row.text)?.ok().ok_or(row.name)?;
-        assert_eq!(rt; nodes(rt.alloc(), &parse)?.as_str(), row.nodes, "{}", row.name);
+        let parse = outcome(rt.alloc(), row.words, row.text)?
+            .ok()
+            .ok_or(row.name)?;
+        assert_eq!(rt;
+            nodes(rt.alloc(), &parse)?.as_str(),
+            row.nodes,
+            "{}",
+            row.name
+        );
     }
     Ok(())
 }
