@@ -176,12 +176,7 @@ fn text_after(alloc: Global, row: &Row<'_>) -> Result<String, Fail> {
 }
 
 // Edits a document as a row says. A parse of it is that of the text after the edit.
-fn check_edit(
-    rt: &impl Abort,
-    alloc: Global,
-    row: &Row<'_>,
-    strings: Strings,
-) -> Result<(), Fail> {
+fn check_edit(rt: &impl Abort, alloc: Global, row: &Row<'_>, strings: Strings) -> Result<(), Fail> {
     let front = PlainFront::new_in(strings);
     let mut document = Document::new(alloc, front, row.text).ok().ok_or(row.name)?;
     let before = document.front().steps();
