@@ -1,6 +1,7 @@
 //! What no clause says: worked examples with ample memory, and a fault at each call.
 mod commands;
 mod errors;
+mod hostile;
 mod lines;
 mod readings;
 mod replay;

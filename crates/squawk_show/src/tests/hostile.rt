@@ -1,0 +1,273 @@
+//! Texts of people who mean harm: each is parsed at once, and by an edit of an empty document, in
+//! both readings of plain strings and both divisions.
+mod nested;
+mod short;
+mod tokens;
+
+use squawk_cut::{Division, Front, Parse, PlainFront, StrStep, Strings};
+use squawk_document::Document;
+use squawk_events::message;
+use squawk_tree::{ChildSpan, parse_divided};
+use std::alloc::{AllocError, Global};
+use std::process::Abort;
+use std::test::Fail;
+
+// How plain strings are read, and whether a semicolon between parentheses ends a statement.
+struct Reading<'a> {
+    name: &'a str,
+    strings: Strings,
+    division: Division,
+}
+
+const READINGS: &[Reading<'static>] = &[
+    Reading {
+        name: "standard, flat",
+        strings: Strings::Standard,
+        division: Division::Flat,
+    },
+    Reading {
+        name: "standard, grouped",
+        strings: Strings::Standard,
+        division: Division::Grouped,
+    },
+    Reading {
+        name: "backslash, flat",
+        strings: Strings::Backslash,
+        division: Division::Flat,
+    },
+    Reading {
+        name: "backslash, grouped",
+        strings: Strings::Backslash,
+        division: Division::Grouped,
+    },
+];
+
+// Whether two parses have the same steps, errors and length.
+fn same_parse(a: &Parse, b: &Parse) -> bool {
+    a.steps() == b.steps() && a.errors() == b.errors() && a.len() == b.len()
+}
+
+// The parse of a text in a reading.
+fn whole_parse(alloc: Global, text: &str, reading: &Reading<'_>) -> Result<Parse, Fail> {
+    let parse = parse_divided(alloc, text, reading.strings, reading.division);
+    Ok(parse.ok().ok_or("no memory")?)
+}
+
+// A document in a reading, whose text is empty.
+fn empty_document(alloc: Global, reading: &Reading<'_>) -> Result<Document<PlainFront>, Fail> {
+    let front = PlainFront::new_divided(reading.strings, reading.division);
+    Ok(Document::new(alloc, front, "").ok().ok_or("no memory")?)
+}
+
+// The parse of a text that is put into an empty document by one edit.
+fn edited_parse(alloc: Global, text: &str, reading: &Reading<'_>) -> Result<Parse, Fail> {
+    let mut document = empty_document(alloc, reading)?;
+    document.edit(0, 0, text).ok().ok_or("refused")?;
+    Ok(document.parse(alloc).ok().ok_or("no memory")?)
+}
+
+// A text that is made of parts, each of which is repeated so many times.
+fn repeated(alloc: Global, parts: &[(&str, u32)]) -> Result<String, AllocError> {
+    let mut text = String::new(alloc);
+    for &(part, times) in parts {
+        push_times(&mut text, part, times)?;
+    }
+    Ok(text)
+}
+
+// Appends a part so many times.
+fn push_times(text: &mut String, part: &str, times: u32) -> Result<(), AllocError> {
+    for _ in 0..times {
+        text.push_str(part)?;
+    }
+    Ok(())
+}
+
+// Appends the line of a child of the root: its node, or its leaf, and its range.
+fn push_child(
+    alloc: Global,
+    lines: &mut String,
+    parse: &Parse,
+    child: ChildSpan,
+) -> Result<(), AllocError> {
+    let (start, end) = (child.start, child.end);
+    if let Some(kind) = child.node {
+        return lines.push_str(format!(in alloc; "N {kind} {start}..{end}\n")?.as_str());
+    }
+    match parse.steps().get(child.step) {
+        Some(&StrStep::Token { kind, .. }) => {
+            lines.push_str(format!(in alloc; "T {kind} {start}..{end}\n")?.as_str())
+        }
+        _ => lines.push_str("?\n"),
+    }
+}
+
+// The first children of a parse, at most this many, and all errors; each has a line.
+fn render(alloc: Global, parse: &Parse, most: usize) -> Result<String, AllocError> {
+    let mut lines = String::new(alloc);
+    for &child in &parse.children()[..parse.children().len().min(most)] {
+        push_child(alloc, &mut lines, parse, child)?;
+    }
+    for error in parse.errors() {
+        let (start, end) = (error.start, error.end);
+        let text = message(error.number);
+        lines.push_str(format!(in alloc; "E {start}..{end} {text}\n")?.as_str())?;
+    }
+    Ok(lines)
+}
+
+// A text, in parts; the steps of its parse, the children of its root, and lines for the first
+// children and the errors.
+struct Row<'a> {
+    name: &'a str,
+    parts: &'a [(&'a str, u32)],
+    steps: usize,
+    children: usize,
+    lines: &'a str,
+}
+
+const MOST_CHILDREN: usize = 3;
+
+// Checks the parse of a text in a reading, and that an edit of an empty document has the same.
+fn check_row(
+    rt: &impl Abort,
+    alloc: Global,
+    row: &Row<'_>,
+    text: &str,
+    reading: &Reading<'_>,
+) -> Result<(), Fail> {
+    let parse = whole_parse(alloc, text, reading)?;
+    let (name, read) = (row.name, reading.name);
+    assert_eq!(rt; parse.steps().len(), row.steps, "{name}, {read}");
+    assert_eq!(rt; parse.children().len(), row.children, "{name}, {read}");
+    let lines = render(alloc, &parse, MOST_CHILDREN)?;
+    assert_eq!(rt; lines.as_str(), row.lines, "{name}, {read}");
+    let edited = edited_parse(alloc, text, reading)?;
+    assert!(rt; same_parse(&parse, &edited), "{name}, {read}");
+    Ok(())
+}
+
+// Checks a text in each reading, which all parse it alike.
+fn check_in_readings(rt: &impl Abort, alloc: Global, row: &Row<'_>) -> Result<(), Fail> {
+    let text = repeated(alloc, row.parts)?;
+    for reading in READINGS {
+        check_row(rt, alloc, row, text.as_str(), reading)?;
+    }
+    Ok(())
+}
+
+const MANY: u32 = 100_000;
+
+const ROWS: &[Row<'static>] = &[
+    Row {
+        name: "comments_open",
+        parts: &[("/*", MANY)],
+        steps: 3,
+        children: 1,
+        lines: "T comment 0..200000\nE 0..200000 unterminated block comment\n",
+    },
+    Row {
+        name: "comments_open_and_close",
+        parts: &[("/*", MANY), ("*/", MANY)],
+        steps: 3,
+        children: 1,
+        lines: "T comment 0..400000\n",
+    },
+    Row {
+        name: "parentheses_open",
+        parts: &[("(", MANY)],
+        steps: 300_004,
+        children: 1,
+        lines: "N paren select 0..100000\n",
+    },
+    Row {
+        name: "parentheses_close",
+        parts: &[(")", MANY)],
+        steps: 100_004,
+        children: 1,
+        lines: "N error 0..100000\nE 0..1 unknown statement\n",
+    },
+    Row {
+        name: "semicolons",
+        parts: &[(";", MANY)],
+        steps: 300_002,
+        children: 100_000,
+        lines: "N empty stmt 0..1\nN empty stmt 1..2\nN empty stmt 2..3\n",
+    },
+    Row {
+        name: "nuls",
+        parts: &[("\0", 3)],
+        steps: 7,
+        children: 1,
+        lines: "N error 0..3\n\
+            E 0..1 unknown statement\n\
+            E 0..1 unknown character\n\
+            E 1..2 unknown character\n\
+            E 2..3 unknown character\n",
+    },
+    Row {
+        name: "mark",
+        parts: &[("\u{feff}", 1)],
+        steps: 3,
+        children: 1,
+        lines: "T whitespace 0..3\n",
+    },
+    Row {
+        name: "two_marks",
+        parts: &[("\u{feff}", 2)],
+        steps: 6,
+        children: 2,
+        lines: "T whitespace 0..3\nN error 3..6\nE 3..6 unknown statement\n",
+    },
+    Row {
+        name: "escape_string_ends_in_a_backslash",
+        parts: &[("E'\\", 1)],
+        steps: 5,
+        children: 1,
+        lines: "N error 0..3\nE 0..3 unknown statement\nE 0..3 unterminated string\n",
+    },
+    Row {
+        name: "unicode_identifier_opens",
+        parts: &[("U&\"", 1)],
+        steps: 5,
+        children: 1,
+        lines: "N error 0..3\nE 0..3 unknown statement\nE 0..3 unterminated quoted identifier\n",
+    },
+    Row {
+        name: "dollar_string_opens",
+        parts: &[("$a$", 1)],
+        steps: 5,
+        children: 1,
+        lines: "N error 0..3\nE 0..3 unknown statement\nE 0..3 unterminated string\n",
+    },
+    Row {
+        name: "options_of_a_command_open",
+        parts: &[("\\g (", 1)],
+        steps: 5,
+        children: 1,
+        lines: "N psql command 0..4\n",
+    },
+    Row {
+        name: "backslash",
+        parts: &[("\\", 1)],
+        steps: 5,
+        children: 1,
+        lines: "N psql command 0..1\n",
+    },
+    Row {
+        name: "comment_opens_after_a_word",
+        parts: &[("select /*", 1)],
+        steps: 7,
+        children: 3,
+        lines: "N select 0..6\nT whitespace 6..7\nT comment 7..9\n\
+            E 7..9 unterminated block comment\n",
+    },
+];
+
+#[test]
+fn hostile_texts_parse_alike(rt: HostRuntime) -> Result<(), Fail> {
+    for row in ROWS {
+        check_in_readings(&rt, rt.alloc(), row)?;
+    }
+    Ok(())
+}
