@@ -1,5 +1,6 @@
 //! Edits of documents, worked by hand or compared with new documents of the text after the edit.
 mod fronts;
+mod memory;
 mod rows;
 mod seeds;
 

@@ -1,6 +1,8 @@
 //! What no clause says: worked examples with ample memory, and a fault at each call.
+mod bad_scripts;
 mod commands;
 mod errors;
+mod faults;
 mod hostile;
 mod lines;
 mod readings;

@@ -6,6 +6,7 @@ use std::process::Abort;
 use std::test::Fail;
 
 // The end of a run: its status, and what it writes to `out` and to `err`.
+#[derive(Clone, Copy)]
 struct End<'a> {
     status: u8,
     out: &'a str,

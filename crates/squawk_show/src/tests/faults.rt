@@ -43,6 +43,7 @@ const REPLAY: Run<'static> = Run {
 
 // The calls that fail, and what is expected then: the status, the number of bytes in `out`, and the
 // line on `err`.
+#[derive(Clone, Copy)]
 struct Row<'a> {
     source: &'a [u64],
     out: &'a [u64],
@@ -60,13 +61,21 @@ fn check_run(rt: &impl Abort, alloc: Global, run_of: &Run<'_>, row: &Row<'_>) ->
     let mut err = MemorySink::new(alloc, 100, 1, &[])?;
     let result = run(alloc, &words, &mut source, &mut out, &mut err);
     let (name, reads, writes) = (run_of.name, row.source, row.out);
-    assert_eq!(rt; result.status, row.status, "{name}, read {reads:?}, write {writes:?}");
+    assert_eq!(rt;
+        result.status,
+        row.status,
+        "{name}, read {reads:?}, write {writes:?}"
+    );
     assert_eq!(rt;
         Some(out.taken()),
         run_of.out.get(..row.written),
         "{name}, read {reads:?}, write {writes:?}"
     );
-    assert_eq!(rt; err.taken(), row.line, "{name}, read {reads:?}, write {writes:?}");
+    assert_eq!(rt;
+        err.taken(),
+        row.line,
+        "{name}, read {reads:?}, write {writes:?}"
+    );
     Ok(())
 }
 
@@ -233,7 +242,11 @@ fn check_refusal(rt: &impl Abort, alloc: Global, row: &Refusal<'_>) -> Result<()
         let result = run(alloc, &words, &mut source, &mut out, &mut err);
         assert_eq!(rt; result.status, row.status, "{name}, write {before}");
         assert!(rt; out.taken().is_empty(), "{name}, write {before}");
-        assert_eq!(rt; Some(err.taken()), row.line.get(..before), "{name}, write {before}");
+        assert_eq!(rt;
+            Some(err.taken()),
+            row.line.get(..before),
+            "{name}, write {before}"
+        );
     }
     Ok(())
 }

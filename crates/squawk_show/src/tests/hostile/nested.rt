@@ -326,3 +326,125 @@ fn brackets_and_quotes_in_one_another(rt: HostRuntime) -> Result<(), Fail> {
     }
     Ok(())
 }
+
+const DEEP: &[Row<'static>] = &[
+    Row {
+        name: "groups",
+        parts: &[("(", MANY), (")", MANY)],
+        steps: 400_004,
+        children: 1,
+        lines: "N paren select 0..200000\n",
+    },
+    Row {
+        name: "brackets",
+        parts: &[("select ", 1), ("[", MANY), ("]", MANY)],
+        steps: 200_006,
+        children: 1,
+        lines: "N select 0..200007\n",
+    },
+    Row {
+        name: "braces",
+        parts: &[("select ", 1), ("{", MANY), ("}", MANY)],
+        steps: 200_006,
+        children: 1,
+        lines: "N select 0..200007\n",
+    },
+    Row {
+        name: "groups_in_brackets",
+        parts: &[("select ", 1), ("[(", MANY), (")]", MANY)],
+        steps: 600_006,
+        children: 1,
+        lines: "N select 0..400007\n",
+    },
+    Row {
+        name: "groups_with_strings",
+        parts: &[("('('", MANY), (")", MANY)],
+        steps: 500_004,
+        children: 1,
+        lines: "N paren select 0..500000\n",
+    },
+    Row {
+        name: "groups_closed_in_statements",
+        parts: &[("select ", 1), ("(1);", MANY)],
+        steps: 800_004,
+        children: 100_000,
+        lines: "N select 0..11\n\
+            N paren select 11..15\n\
+            N paren select 15..19\n",
+    },
+    Row {
+        name: "groups_that_do_not_close",
+        parts: &[("select ", 1), ("(')'", MANY)],
+        steps: 400_006,
+        children: 1,
+        lines: "N select 0..400007\n",
+    },
+    Row {
+        name: "doubled_quotes",
+        parts: &[("select ", 1), ("''", MANY)],
+        steps: 7,
+        children: 1,
+        lines: "N select 0..200007\n",
+    },
+    Row {
+        name: "doubled_quotes_of_an_identifier",
+        parts: &[("select ", 1), ("\"\"", MANY)],
+        steps: 7,
+        children: 1,
+        lines: "N select 0..200007\n",
+    },
+    Row {
+        name: "empty_dollar_strings",
+        parts: &[("select ", 1), ("$$", MANY)],
+        steps: 50_006,
+        children: 1,
+        lines: "N select 0..200007\n",
+    },
+    Row {
+        name: "identifier_after_a_dollar_string",
+        parts: &[("select ", 1), ("$a$b", MANY)],
+        steps: 8,
+        children: 1,
+        lines: "N select 0..400007\n",
+    },
+    Row {
+        name: "comments_side_by_side",
+        parts: &[("/**/", MANY)],
+        steps: 100_002,
+        children: 100_000,
+        lines: "T comment 0..4\n\
+            T comment 4..8\n\
+            T comment 8..12\n",
+    },
+    Row {
+        name: "comments_in_one_another",
+        parts: &[("/* ' ", MANY), ("*/ ", MANY)],
+        steps: 4,
+        children: 2,
+        lines: "T comment 0..799999\n\
+            T whitespace 799999..800000\n",
+    },
+    Row {
+        name: "strings_that_open_comments",
+        parts: &[("select ", 1), ("'/*' ", MANY)],
+        steps: 200_006,
+        children: 2,
+        lines: "N select 0..500006\n\
+            T whitespace 500006..500007\n",
+    },
+    Row {
+        name: "options_of_a_command",
+        parts: &[("\\g ", 1), ("(", MANY), (")", MANY)],
+        steps: 5,
+        children: 1,
+        lines: "N psql command 0..200003\n",
+    },
+];
+
+#[test]
+fn brackets_and_quotes_nest_deeply(rt: HostRuntime) -> Result<(), Fail> {
+    for row in DEEP {
+        check_in_readings(&rt, rt.alloc(), row)?;
+    }
+    Ok(())
+}

@@ -1,1 +1,116 @@
-//! short
+//! Short texts: each is parsed at once, and by a document that takes its characters one by one.
+use super::{READINGS, Reading, empty_document, same_parse, whole_parse};
+use std::alloc::Global;
+use std::process::Abort;
+use std::test::Fail;
+
+// Whether a document that takes the characters of a text one by one, at its end, has the parse of
+// the text; and whether one that takes them at its start has the parse of what it holds then.
+fn parses_by_characters(alloc: Global, text: &str, reading: &Reading<'_>) -> Result<bool, Fail> {
+    let mut forward = empty_document(alloc, reading)?;
+    let mut backward = empty_document(alloc, reading)?;
+    for character in text.chars() {
+        let mut piece = String::new(alloc);
+        piece.push(character)?;
+        let end = forward.text().len();
+        forward
+            .edit(end, end, piece.as_str())
+            .ok()
+            .ok_or("refused")?;
+        backward.edit(0, 0, piece.as_str()).ok().ok_or("refused")?;
+    }
+    let parse = forward.parse(alloc).ok().ok_or("no memory")?;
+    let whole = whole_parse(alloc, text, reading)?;
+    let reversed = backward.parse(alloc).ok().ok_or("no memory")?;
+    let whole_reversed = whole_parse(alloc, backward.text(), reading)?;
+    Ok(
+        forward.text() == text
+            && same_parse(&parse, &whole)
+            && same_parse(&reversed, &whole_reversed),
+    )
+}
+
+// Checks a text in each reading.
+fn check_text(rt: &impl Abort, alloc: Global, text: &str) -> Result<(), Fail> {
+    for reading in READINGS {
+        let same = parses_by_characters(alloc, text, reading)?;
+        assert!(rt; same, "{text:?}, {}", reading.name);
+    }
+    Ok(())
+}
+
+// Checks the texts of an ASCII character and any other.
+fn check_pairs(rt: &impl Abort, alloc: Global, first: char) -> Result<(), Fail> {
+    for code in 0..128u32 {
+        let mut text = String::new(alloc);
+        text.push(first)?;
+        text.push(char::from_u32(code).ok_or("no character")?)?;
+        check_text(rt, alloc, text.as_str())?;
+    }
+    Ok(())
+}
+
+#[test]
+fn pairs_of_ascii_characters(rt: HostRuntime) -> Result<(), Fail> {
+    for code in 0..128u32 {
+        let first = char::from_u32(code).ok_or("no character")?;
+        check_pairs(&rt, rt.alloc(), first)?;
+    }
+    Ok(())
+}
+
+// The characters from U+0080 to U+07FF have two bytes.
+#[test]
+fn characters_of_two_bytes(rt: HostRuntime) -> Result<(), Fail> {
+    let alloc = rt.alloc();
+    for code in 0x80..0x800u32 {
+        let mut text = String::new(alloc);
+        text.push(char::from_u32(code).ok_or("no character")?)?;
+        assert_eq!(rt; text.as_str().len(), 2);
+        check_text(&rt, alloc, text.as_str())?;
+    }
+    Ok(())
+}
+
+// Characters that begin, end or go on in tokens of each form, and some that do so in one place
+// alone.
+const ALPHABET: &[char] = &[
+    '\'', '"', '$', '/', '*', '-', '\\', '(', ')', ';', 'E', 'e', 'U', '&', 'x', 'b', 'N', '0',
+    '1', '.', '+', '_', 'a', 'g', '|', '`', ' ', '\n', '\r', '\0', '\u{feff}', 'é', '\u{2028}',
+];
+
+// The next number of a linear congruential generator.
+fn next(seed: u64) -> u64 {
+    seed.wrapping_mul(6364136223846793005)
+        .wrapping_add(1442695040888963407)
+}
+
+// A character of the alphabet.
+fn character_of(seed: u64) -> char {
+    let index = ((seed >> 33) % ALPHABET.len() as u64) as usize;
+    *ALPHABET.get(index).unwrap_or(&'a')
+}
+
+// The longest text from a seed, in characters.
+const LONGEST: u64 = 16;
+
+// Checks texts of 1 to 16 characters, so many of them.
+fn check_from_seed(rt: &impl Abort, alloc: Global, seed: u64, texts: u32) -> Result<(), Fail> {
+    let mut seed = seed;
+    let mut text = String::new(alloc);
+    for _ in 0..texts {
+        seed = next(seed);
+        text.push(character_of(seed))?;
+        if text.len() as u64 >= 1 + (seed >> 17) % LONGEST {
+            check_text(rt, alloc, text.as_str())?;
+            text.clear();
+        }
+    }
+    Ok(())
+}
+
+#[test]
+fn texts_of_hostile_characters(rt: HostRuntime) -> Result<(), Fail> {
+    check_from_seed(&rt, rt.alloc(), 1, 20_000)?;
+    check_from_seed(&rt, rt.alloc(), 2, 20_000)
+}
