@@ -43,7 +43,7 @@ TOP = pathlib.Path(__file__).resolve().parent.parent
 BUILT = TOP / "crates/squawk_show/out/squawk_show"
 
 # The words that stand before a command, one entry for each reading.
-READINGS = ([],)
+READINGS = [], ["--backslash"], ["--grouped"], ["--backslash", "--grouped"]
 COMMANDS = {"report": [], "replay": ["replay"]}
 
 # The bound of the processor time in seconds: of each run, and of each byte and edit. A longer run is killed.

@@ -12,6 +12,12 @@ of these, with commas between them; all of them if nothing is said:
   edit        `replay` of a document of three statements and an edit of it
   replay      `replay` of two edits of one statement
   document    `replay` of a document of 1000 tokens and edits at its start, in the middle and at its end
+  backslash, grouped, both
+              the report of a statement with the option `--backslash`, with `--grouped` and with both
+  backslash_replay, grouped_replay, both_replay
+              `replay` of an edit, with these options
+  both_make   `make 4` with both options
+  unchanged   a test of squawk_document: after an edit without memory a document is the same as before
 
 A growth is a call of malloc, calloc, realloc, posix_memalign, aligned_alloc or mmap. The script compiles a library
 with `cc` that is loaded before the C library and refuses such calls. It starts the program with the first call refused,
@@ -24,9 +30,10 @@ then the second, and so on, until a run meets no refusal. Each is refused twice:
   program can do without room that it reserves in advance.
 
 Each run has a line: its name, the number of growths, and how many of these are for the words and how many the program
-can do without. With --test, TESTS is the program `out/CRATE_tests` that `rt test` leaves in a crate, and NAME the full
-name of a test in it that must pass whichever of its growths are refused. The last line has the sums. The status is 0 if
-all is as it must be, else 1. It needs Linux with the GNU C library, and a C compiler `cc`.
+can do without. A test must pass whichever of its growths are refused. The one of `unchanged` is in the program that
+`rt test` leaves in crates/squawk_document; if it is not there, `rt test` runs first. With --test, TESTS is such a
+program, `out/CRATE_tests` of any crate, and NAME the full name of a test in it. The last line has the sums. The status
+is 0 if all is as it must be, else 1. It needs Linux with the GNU C library, and a C compiler `cc`.
 """
 import argparse
 import os
@@ -37,6 +44,7 @@ import tempfile
 
 TOP = pathlib.Path(__file__).resolve().parent.parent
 BUILT = TOP / "crates/squawk_show/out/squawk_show"
+TESTS = TOP / "crates/squawk_document/out/squawk_document_tests"
 
 # The status and the error line after a refused growth.
 STATUS = 6
@@ -107,6 +115,9 @@ create or replace function f() returns int language sql as $body$ select 1; sele
 COMMIT;
 """
 
+# Both options read this text in another way: a backslash escapes a quote, and a semicolon stands in parentheses.
+BOTH = r"select (1; '\'); select 2; '); select 3;"
+
 
 def record(start, end, new):
     """A record of a script of edits: the range from start to end is replaced by the text `new`."""
@@ -121,6 +132,11 @@ def document():
             + record(len(text), len(text), "'") + record(0, len(text) + 1, ""))
 
 
+def both_replay():
+    """A script that makes a text that both options read in another way, and edits it."""
+    return record(0, 0, BOTH) + record(BOTH.index("1"), BOTH.index("1") + 1, "22")
+
+
 # The runs: the words and the standard input of each.
 RUNS = {
     "select": ([], "select 1;"),
@@ -129,7 +145,17 @@ RUNS = {
     "edit": (["replay"], record(0, 0, "select 1; select 2; select 3;") + record(17, 18, "22")),
     "replay": (["replay"], record(0, 0, "select 1;") + record(7, 8, "2")),
     "document": (["replay"], document()),
+    "backslash": (["--backslash"], BOTH),
+    "grouped": (["--grouped"], BOTH),
+    "both": (["--backslash", "--grouped"], BOTH),
+    "backslash_replay": (["--backslash", "replay"], both_replay()),
+    "grouped_replay": (["--grouped", "replay"], both_replay()),
+    "both_replay": (["--backslash", "--grouped", "replay"], both_replay()),
+    "both_make": (["--backslash", "--grouped", "make", "4"], ""),
 }
+
+# The runs of a test, whose program is that of TESTS.
+TEST_RUNS = {"unchanged": "tests::memory::refused_edits_change_nothing"}
 
 # The last call that is refused, if all after the first are.
 ALL = 10**9
@@ -195,19 +221,20 @@ class Refusals:
                 self.wrong(name, growths, growths, alone)
         if ended != (False, *whole):
             self.wrong(name, 0, 0, ended)
-        print(f"{name:10} {growths:6} growths refused, {silent} for the words, {spared} that it can do without")
+        print(f"{name:16} {growths:6} growths refused, {silent} for the words, {spared} that it can do without")
         return growths
 
-    def refuse_test(self, name):
-        """Refuses each growth of a test, which must pass, and returns the number of growths."""
+    def refuse_test(self, name, test):
+        """Refuses each growth of a test, which must pass, prints its line, and returns the number of growths."""
         growths = 0
-        while (ended := self.end([name], b"", growths + 1, ALL))[0]:
+        while (ended := self.end([test], b"", growths + 1, ALL))[0]:
             growths += 1
-            for last, done in (ALL, ended), (growths, self.end([name], b"", growths, growths)):
+            for last, done in (ALL, ended), (growths, self.end([test], b"", growths, growths)):
                 if done[:2] != (True, 0):
                     self.wrong(name, growths, last, done)
         if ended[1] != 0:
             self.wrong(name, 0, 0, ended)
+        print(f"{name:16} {growths:6} growths refused, in a test")
         return growths
 
 
@@ -219,30 +246,47 @@ def compile_library(folder):
     return str(library)
 
 
+def refuse_runs(names, program, library):
+    """Refuses each growth of the runs with these names. Returns the numbers of growths and of wrong ends."""
+    refusals = Refusals(program, library)
+    total = sum(refusals.refuse(name, RUNS[name][0], RUNS[name][1].encode()) for name in names if name in RUNS)
+    tests = Refusals(str(TESTS), library)
+    total += sum(tests.refuse_test(name, TEST_RUNS[name]) for name in names if name in TEST_RUNS)
+    return total, refusals.failures + tests.failures
+
+
+def build(names, program):
+    """Builds what the runs need, if need be, and returns the path of the program."""
+    if program is None and any(name in RUNS for name in names):
+        subprocess.run([TOP / "run", "make", "1"], stdout=subprocess.DEVNULL, check=True)
+    if any(name in TEST_RUNS for name in names) and not TESTS.exists():
+        subprocess.run(["rt", "test"], cwd=TESTS.parent.parent, stdout=subprocess.DEVNULL, check=True)
+    return program or str(BUILT)
+
+
 def main():
+    runs = [*RUNS, *TEST_RUNS]
     parser = argparse.ArgumentParser(description=__doc__, formatter_class=argparse.RawDescriptionHelpFormatter)
     parser.add_argument("--program", metavar="PROGRAM")
-    parser.add_argument("--runs", metavar="NAMES", default=",".join(RUNS))
+    parser.add_argument("--runs", metavar="NAMES", default=",".join(runs))
     parser.add_argument("--test", metavar="NAME")
     options = parser.parse_args()
-    names = options.runs.split(",")
+    names = [options.test] if options.test else options.runs.split(",")
     for name in names:
-        if name not in RUNS:
+        if not options.test and name not in runs:
             parser.error(f"no run {name}")
     if options.test and not options.program:
         parser.error("--test needs --program")
-    if options.program is None:
-        subprocess.run([TOP / "run", "make", "1"], stdout=subprocess.DEVNULL, check=True)
     with tempfile.TemporaryDirectory() as folder:
-        refusals = Refusals(options.program or str(BUILT), compile_library(pathlib.Path(folder)))
+        library = compile_library(pathlib.Path(folder))
         if options.test:
-            names = [options.test]
-            total = refusals.refuse_test(options.test)
+            refusals = Refusals(options.program, library)
+            total, failures = refusals.refuse_test("test", options.test), refusals.failures
         else:
-            total = sum(refusals.refuse(name, RUNS[name][0], RUNS[name][1].encode()) for name in names)
+            total, failures = refuse_runs(names, build(names, options.program), library)
     print(f"refuse_memory: {len(names)} runs, {total} growths refused, each alone and with all after it,"
-          f" {refusals.failures} wrong ends")
-    sys.exit(1 if refusals.failures or not total else 0)
+          f" {failures} wrong ends")
+    sys.exit(1 if failures or not total else 0)
 
 
 if __name__ == "__main__":

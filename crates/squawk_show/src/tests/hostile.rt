@@ -1,10 +1,10 @@
-//! Texts of people who mean harm: each is parsed at once, and by an edit of an empty document, in
-//! both readings of plain strings and both divisions.
+//! Hostile texts: each is parsed at once, and by an edit of an empty document, in both readings of
+//! plain strings and both divisions.
 mod nested;
 mod short;
 mod tokens;
 
-use squawk_cut::{Division, Front, Parse, PlainFront, StrStep, Strings};
+use squawk_cut::{Division, Parse, PlainFront, StrStep, Strings};
 use squawk_document::Document;
 use squawk_events::message;
 use squawk_tree::{ChildSpan, parse_divided};
