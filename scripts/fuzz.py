@@ -8,7 +8,7 @@ whichever comes first; after 1000 cases if neither is given. Case K of a seed is
 at once, 1 if nothing is said. The program is the one that ./run builds, which is built first if need be; PROGRAM is any
 other. NAMES are the commands, with commas between them: `report` (no arguments) and `replay`; both if nothing is said.
 
-For each text, and each reading that the program's options choose:
+For each text, in one of the readings that the program's options choose:
   tree      the leaves tile the text, nodes nest and begin and end with a leaf that is no trivia, a leaf that prints as
             a word or punctuation is that word, each error lies in a leaf, and the errors are in the order of the leaves
   parts     the lines and errors of two parts of the text, cut at the end of a closed statement, are those of the text
@@ -42,7 +42,7 @@ from fuzz_texts import random_range, random_text, script
 TOP = pathlib.Path(__file__).resolve().parent.parent
 BUILT = TOP / "crates/squawk_show/out/squawk_show"
 
-# The words that stand before a command, one entry for each reading.
+# The options that stand before a command, one entry for each reading.
 READINGS = [], ["--backslash"], ["--grouped"], ["--backslash", "--grouped"]
 COMMANDS = {"report": [], "replay": ["replay"]}
 
@@ -163,20 +163,20 @@ def check_not_utf8(program, words, data, rng):
 
 
 def check_text(program, commands, text, rng):
-    """All checks of a text."""
+    """All checks of a text, in one of the readings."""
     data = text.encode()
-    for reading in READINGS:
-        lines = program.report([*reading, *COMMANDS["report"]], data)
-        report = Report(lines)
-        report.check_tree(data)
-        report.check_errors()
-        check_parts(program, reading, data, report, rng)
-        check_not_utf8(program, reading, data, rng)
-        if "replay" in commands:
-            words = [*reading, *COMMANDS["replay"]]
-            whole = check_replay(program, words, data, lines, rng)
-            check_script(program, words, whole, rng)
-            check_not_utf8(program, words, whole, rng)
+    reading = rng.choice(READINGS)
+    lines = program.report([*reading, *COMMANDS["report"]], data)
+    report = Report(lines)
+    report.check_tree(data)
+    report.check_errors()
+    check_parts(program, reading, data, report, rng)
+    check_not_utf8(program, reading, data, rng)
+    if "replay" in commands:
+        words = [*reading, *COMMANDS["replay"]]
+        whole = check_replay(program, words, data, lines, rng)
+        check_script(program, words, whole, rng)
+        check_not_utf8(program, words, whole, rng)
 
 
 def failure(program, commands, text, key):
