@@ -1,5 +1,5 @@
 //! Tokens of 16 MB, of each form.
-use super::{READINGS, Row, check_row, repeated};
+use super::{Row, check_in_readings};
 use std::alloc::Global;
 use std::process::Abort;
 use std::test::Fail;
@@ -308,11 +308,10 @@ const NUMBERS_AND_COMMANDS: &[Row<'static>] = &[
     },
 ];
 
-// Checks texts of one token in the first reading.
+// Checks texts of one token in each reading.
 fn check_tokens(rt: &impl Abort, alloc: Global, rows: &[Row<'_>]) -> Result<(), Fail> {
     for row in rows {
-        let text = repeated(alloc, row.parts)?;
-        check_row(rt, alloc, row, text.as_str(), &READINGS[0])?;
+        check_in_readings(rt, alloc, row)?;
     }
     Ok(())
 }
