@@ -1,2 +1,9 @@
 pub mod DataLaws
 pub mod FromStdinLaws
+pub mod KindLemmas
+pub mod TokenSteps
+pub mod StatementLemmas
+pub mod FitLemmas
+pub mod PieceLemmas
+pub mod ChildPieces
+pub mod StatementSteps

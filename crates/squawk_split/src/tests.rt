@@ -1,5 +1,10 @@
-//! Worked examples of COPY data.
-use crate::copy_data_len;
+//! Worked examples of COPY data and of scripts.
+use crate::PieceKind::{Command, CopyData, Gap, Statement};
+use crate::{PieceKind, copy_data_len, split};
+use squawk_lexer::Strings;
+use squawk_statements::Division;
+use std::alloc::Global;
+use std::process::Abort;
 use std::test::Fail;
 
 // Name, text, and the length of the data that begins it.
@@ -28,4 +33,196 @@ fn finds_the_end_of_data(rt: HostRuntime) -> Result<(), Fail> {
         assert_eq!(rt; copy_data_len(text), len, "{name}");
     }
     Ok(())
+}
+
+// Name, script, and its pieces: kind and text.
+const SCRIPTS: &[(&str, &str, &[(PieceKind, &str)])] = &[
+    ("empty script", "", &[]),
+    (
+        "COPY data with an apostrophe",
+        "copy t from stdin;\n1\nit's\n\\.\nselect 1;",
+        &[
+            (Statement, "copy t from stdin;"),
+            (CopyData, "\n1\nit's\n\\.\n"),
+            (Statement, "select 1;"),
+        ],
+    ),
+    (
+        "space, semicolon and command",
+        " ;\\dt",
+        &[(Gap, " "), (Statement, ";"), (Command, "\\dt")],
+    ),
+    (
+        "no data at the end of the script",
+        "copy t from stdin;",
+        &[(Statement, "copy t from stdin;")],
+    ),
+    (
+        "marker at the end of the script",
+        "copy t from stdin;\\.",
+        &[(Statement, "copy t from stdin;"), (CopyData, "\\.")],
+    ),
+    (
+        "STDIN inside parentheses",
+        "copy (select a from stdin) to stdout;x",
+        &[
+            (Statement, "copy (select a from stdin) to stdout;"),
+            (Statement, "x"),
+        ],
+    ),
+    (
+        "uppercase with options",
+        "COPY t (a, b) FROM STDIN WITH (FORMAT csv);\n1,2\n\\.\n;",
+        &[
+            (Statement, "COPY t (a, b) FROM STDIN WITH (FORMAT csv);"),
+            (CopyData, "\n1,2\n\\.\n"),
+            (Statement, ";"),
+        ],
+    ),
+    (
+        "comment between FROM and STDIN",
+        "copy t from /* a */ stdin;\nx\n\\.\n-- b\n",
+        &[
+            (Statement, "copy t from /* a */ stdin;"),
+            (CopyData, "\nx\n\\.\n"),
+            (Gap, "-- b"),
+            (Gap, "\n"),
+        ],
+    ),
+    (
+        "psql command instead of the semicolon",
+        "copy t from stdin \\g\nselect 1;",
+        &[
+            (Statement, "copy t from stdin \\g"),
+            (Gap, "\n"),
+            (Statement, "select 1;"),
+        ],
+    ),
+    (
+        "backslash and semicolon",
+        "copy t from stdin\\;\n\\.\nx;",
+        &[
+            (Statement, "copy t from stdin\\;"),
+            (CopyData, "\n\\.\n"),
+            (Statement, "x;"),
+        ],
+    ),
+    (
+        "FROM a file",
+        "copy t from 'stdin';\n\\.\n",
+        &[
+            (Statement, "copy t from 'stdin';"),
+            (Gap, "\n"),
+            (Command, "\\."),
+            (Gap, "\n"),
+        ],
+    ),
+    (
+        "data without a marker",
+        "copy t from stdin;\nit's\n",
+        &[(Statement, "copy t from stdin;"), (CopyData, "\nit's\n")],
+    ),
+    (
+        "two COPY statements",
+        "copy a from stdin;\n1\n\\.\ncopy b from stdin;\r\n2\r\n\\.\r\n",
+        &[
+            (Statement, "copy a from stdin;"),
+            (CopyData, "\n1\n\\.\n"),
+            (Statement, "copy b from stdin;"),
+            (CopyData, "\r\n2\r\n\\.\r\n"),
+        ],
+    ),
+    (
+        "byte order mark at the start",
+        "\u{feff} x",
+        &[(Gap, "\u{feff}"), (Gap, " "), (Statement, "x")],
+    ),
+    (
+        "byte order mark after data",
+        "copy t from stdin;\n\\.\n\u{feff} x",
+        &[
+            (Statement, "copy t from stdin;"),
+            (CopyData, "\n\\.\n"),
+            (Statement, "\u{feff} x"),
+        ],
+    ),
+    (
+        "statement without an end",
+        "select 1 -- a\n",
+        &[
+            (Statement, "select 1"),
+            (Gap, " "),
+            (Gap, "-- a"),
+            (Gap, "\n"),
+        ],
+    ),
+    (
+        "parenthesis that closes nothing",
+        "copy t ) from stdin;\n\\.\nx",
+        &[
+            (Statement, "copy t ) from stdin;"),
+            (CopyData, "\n\\.\n"),
+            (Statement, "x"),
+        ],
+    ),
+    (
+        "parenthesis that is not closed",
+        "copy ( t from stdin;\n\\.\nx",
+        &[
+            (Statement, "copy ( t from stdin;"),
+            (Gap, "\n"),
+            (Command, "\\."),
+            (Gap, "\n"),
+            (Statement, "x"),
+        ],
+    ),
+];
+
+// The same, where a semicolon between parentheses ends no statement.
+const GROUPED: &[(&str, &str, &[(PieceKind, &str)])] = &[
+    (
+        "semicolons inside parentheses",
+        "select (a;b);\ncopy (c;d) from stdin;\n\\.\n",
+        &[
+            (Statement, "select (a;b);"),
+            (Gap, "\n"),
+            (Statement, "copy (c;d) from stdin;"),
+            (CopyData, "\n\\.\n"),
+        ],
+    ),
+    (
+        "parenthesis that is not closed",
+        "copy ( t from stdin;\n\\.\nx",
+        &[(Statement, "copy ( t from stdin;\n\\.\nx")],
+    ),
+];
+
+fn check_scripts(
+    rt: &impl Abort,
+    alloc: Global,
+    division: Division,
+    rows: &[(&str, &str, &[(PieceKind, &str)])],
+) -> Result<(), Fail> {
+    for &(name, script, expected) in rows {
+        let pieces = split(alloc, script, Strings::Standard, division)?;
+        let mut found = Vec::new(alloc);
+        for piece in pieces.pieces() {
+            let (start, end) = (piece.start as usize, piece.end as usize);
+            assert!(rt; start <= end);
+            assert!(rt; script.is_char_boundary(start) && script.is_char_boundary(end));
+            found.push((piece.kind, &script[start..end]))?;
+        }
+        assert_eq!(rt; found.as_slice(), expected, "{name}");
+    }
+    Ok(())
+}
+
+#[test]
+fn splits_scripts(rt: HostRuntime) -> Result<(), Fail> {
+    check_scripts(&rt, rt.alloc(), Division::Flat, SCRIPTS)
+}
+
+#[test]
+fn splits_scripts_with_groups(rt: HostRuntime) -> Result<(), Fail> {
+    check_scripts(&rt, rt.alloc(), Division::Grouped, GROUPED)
 }
