@@ -1,5 +1,12 @@
 pub mod QuotedLaws
 pub mod DollarLaws
 pub mod TagLaws
+pub mod TagPass
+pub mod FormLaws
+pub mod TextForms
+pub mod DollarForms
+pub mod UnescapeLaws
+pub mod ValueBytes
 pub mod QuoteBytes
 pub mod SpellingLaws
+pub mod FormBytes

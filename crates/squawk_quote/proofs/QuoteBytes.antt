@@ -1,12 +1,13 @@
 -- Quoted texts in bytes: what the writers append.
-use Rattle.std.proofs.Common.{◌≡◌, ℕ, Bool, true, false, List, [], ◌∷◌, ◌++◌, length, append_assoc, append-nil, refl, sym, ap, subst, ◌∙◌, eqb, cond, arith}
-use Rattle.std.proofs.lemmas.Str.{encodes-append, chars-nil, chars_from_encodes, IsUtf8-string_bytes}
+use Rattle.std.proofs.Common.{◌≡◌, ℕ, zero, suc, Bool, true, false, List, [], ◌∷◌, ◌++◌, length, append_assoc, append-nil, refl, sym, ap, subst, ◌∙◌, eqb, cond, arith, IsUtf8}
+use Rattle.std.proofs.lemmas.Str.{encodes-append, encode_ascii, encodes-chars, chars-nil, chars_from_encodes, IsUtf8-string_bytes}
 use Rattle.std.proofs.Common.{Result, Ok, Err, IfOk, Some, String, Global}
 use Rattle.std.specs.String.{string_bytes}
 use Rattle.squawk_events.specs.declared.error.FrontError.{FrontError}
 use Rattle.std.specs.Char.{encode_utf8}
 use Rattle.std.specs.Str.{chars, encode_utf8_all}
-use Rattle.squawk_quote.specs.Values.{escape_quotes, quoted_text, value_of, IsOneToken}
+use Rattle.squawk_quote.specs.Values.{escape_quotes, quoted_text, value_of, IsOneToken, letter_q, tag_then, delimiter_of, shortest_tag, dollar_quoted, dollar_constant}
+use Rattle.squawk_lexer.specs.Classes.{dollar_sign}
 use Rattle.squawk_lexer.specs.declared.token.TokenKind.{TokenKind}
 
 pub chars_none : (bs : List ℕ) → length bs ≡ 0 → chars bs ≡ []
@@ -76,3 +77,31 @@ pub on_token : (kind : TokenKind) (cs : List ℕ) (r : Result (String Global) Fr
 on_token kind cs r t h = on_ok r (λ out is.
     subst (IsOneToken kind) (chars_from_encodes cs (string_bytes out) (IsUtf8-string_bytes out)
     (sym is)) t) h
+
+-- ---- dollar-quoted strings
+
+tag_bytes : (n : ℕ) → encode_utf8_all (tag_then n (dollar_sign ∷ [])) ≡ tag_then n (dollar_sign ∷ [])
+tag_bytes zero = append-nil (encode_utf8 dollar_sign) ∙ encode_ascii dollar_sign (omega arith)
+tag_bytes (suc n) = ap (λ w. w ++ encode_utf8_all (tag_then n (dollar_sign ∷ [])))
+    (encode_ascii letter_q (omega arith)) ∙ ap (λ w. letter_q ∷ w) (tag_bytes n)
+
+-- a delimiter has the same bytes as characters
+delimiter_of_bytes : (n : ℕ) → encode_utf8_all (delimiter_of n) ≡ delimiter_of n
+delimiter_of_bytes n = ap (λ w. w ++ encode_utf8_all (tag_then n (dollar_sign ∷ [])))
+    (encode_ascii dollar_sign (omega arith)) ∙ ap (λ w. dollar_sign ∷ w) (tag_bytes n)
+
+-- a delimiter, the value and the delimiter are the dollar-quoted string
+pub put_dollar : (value none first mid new : List ℕ) (n : ℕ) → IsUtf8 value
+    → n ≡ shortest_tag (chars value) → none ≡ [] → first ≡ none ++ delimiter_of n
+    → mid ≡ first ++ value → new ≡ mid ++ delimiter_of n
+    → new ≡ encode_utf8_all (dollar_constant (chars value))
+put_dollar value none first mid new n utf8 tag f1 f2 f3 f4 =
+    let d = delimiter_of n in
+    let v = chars value in
+    f4 ∙ ap (λ w. w ++ d) (f3 ∙ ap (λ w. w ++ value) (f2 ∙ ap (λ w. w ++ d) f1))
+    ∙ append_assoc d value d
+    ∙ ap (λ w. w ++ (value ++ w)) (sym (delimiter_of_bytes n))
+    ∙ ap (λ w. encode_utf8_all d ++ (w ++ encode_utf8_all d)) (sym (encodes-chars value utf8))
+    ∙ ap (λ w. encode_utf8_all d ++ w) (sym (encodes-append v d))
+    ∙ sym (encodes-append d (v ++ d))
+    ∙ ap (λ m. encode_utf8_all (dollar_quoted m v)) tag

@@ -1,6 +1,6 @@
 -- The values of string constants, dollar-quoted strings and quoted identifiers, and the texts that
 -- spell a value. Texts and values are lists of characters.
-use Rattle.std.specs.Prelude.{◌≡◌, ℕ, zero, suc, ◌+◌, ◌-◌, Bool, true, false, ◌&&◌, ◌||◌, ◌==◌, List, [], ◌∷◌, ◌++◌, take, drop, length, Option, Some, None, if◌then◌else◌}
+use Rattle.std.specs.Prelude.{⊤, ◌≡◌, ℕ, zero, suc, ◌+◌, ◌-◌, Bool, true, false, ◌&&◌, ◌||◌, ◌==◌, List, [], ◌∷◌, ◌++◌, take, drop, length, Option, Some, None, option_map, if◌then◌else◌}
 use Rattle.std.specs.Str.{chars, encode_utf8_all}
 use Rattle.squawk_lexer.specs.declared.token.Token.{Token}
 use Rattle.squawk_lexer.specs.declared.token.TokenKind.{TokenKind}
@@ -47,6 +47,10 @@ value_of text = value_of_tokens (tokens Standard text) text
 abbrev pub IsOneToken : TokenKind → List ℕ → Type 0
 IsOneToken kind text = tokens Standard text ≡ record { kind = kind; len = utf8_len text } ∷ []
 
+-- the value of a text of these bytes, in bytes
+abbrev pub value_bytes : List ℕ → Option (List ℕ)
+value_bytes text = option_map encode_utf8_all (value_of (chars text))
+
 -- ---- string constants and quoted identifiers
 
 -- the text with each quote q doubled
@@ -85,6 +89,16 @@ IsQuotedIdentifier out = IsOneToken (QuotedIdent true false) (chars out)
 -- `out` has the value
 abbrev pub HasValue : List ℕ → List ℕ → Type 0
 HasValue value out = value_of (chars out) ≡ Some (chars value)
+
+-- a text that is a string constant, or a quoted identifier, is the one that has its value
+pub record IsOnlySpelling (text value : List ℕ) : Type 0 where
+  pub string : IsStringConstant text → text ≡ string_constant_bytes value
+  pub identifier : IsQuotedIdentifier text → text ≡ quoted_identifier_bytes value
+
+-- the same, if the text has a value
+abbrev pub IsSpelledOnce : List ℕ → Option (List ℕ) → Type 0
+IsSpelledOnce text None = ⊤
+IsSpelledOnce text (Some value) = IsOnlySpelling text value
 
 -- ---- dollar-quoted strings
 
@@ -128,6 +142,15 @@ dollar_quoted n value = delimiter_of n ++ (value ++ delimiter_of n)
 -- the dollar-quoted string that has the value
 abbrev pub dollar_constant : List ℕ → List ℕ
 dollar_constant value = dollar_quoted (shortest_tag value) value
+
+-- ---- what `quote_dollar` returns, in bytes
+
+abbrev pub dollar_constant_bytes : List ℕ → List ℕ
+dollar_constant_bytes value = encode_utf8_all (dollar_constant (chars value))
+
+-- `out` is one terminated dollar-quoted string
+abbrev pub IsDollarConstant : List ℕ → Type 0
+IsDollarConstant out = IsOneToken (Literal (DollarQuotedString true)) (chars out)
 
 -- ---- which delimiters fit, found in one pass over the value
 
