@@ -18,11 +18,11 @@ use Rattle.squawk_statements.specs.declared.division.Division.TheVariants.{Flat,
 -- open, so steps that follow them close the same number of nodes with them as without them
 
 -- n + m, by recursion on n
-abbrev raised : ℕ → ℕ → ℕ
+abbrev pub raised : ℕ → ℕ → ℕ
 raised zero m = m
 raised (suc n) m = suc (raised n m)
 
-closes_exits : (n m : ℕ) (xs : List Step) → closes (raised n (suc m)) (exits n ++ xs)
+pub closes_exits : (n m : ℕ) (xs : List Step) → closes (raised n (suc m)) (exits n ++ xs)
     ≡ closes (suc m) xs
 closes_exits zero m xs = refl
 closes_exits (suc n) m xs = closes_exits n m xs
@@ -39,11 +39,11 @@ closes_end n m kind xs =
     ∙ closes_exits n m (Token kind ∷ xs)
 
 -- the steps of a kind of this role
-abbrev steps_by : Division → ℕ → ℕ → Role → List Step
+abbrev pub steps_by : Division → ℕ → ℕ → Role → List Step
 steps_by d n kind f = if ends_statement d n f then exits n ++ Token kind ∷ []
     else enters_before f ++ Token kind ∷ exits_after n f
 
-closes_kind : (d : Division) (n m kind : ℕ) (f : Role) (xs : List Step)
+pub closes_kind : (d : Division) (n m kind : ℕ) (f : Role) (xs : List Step)
     → closes (raised n (suc m)) (steps_by d n kind f ++ xs)
     ≡ closes (raised (groups_open_after d n f) (suc m)) xs
 closes_kind d n m kind Trivia xs = closes_token n m kind xs
@@ -73,7 +73,7 @@ closes_unknown : (b : Bool) (m : ℕ) (xs : List Step)
 closes_unknown true m xs = refl
 closes_unknown false m xs = refl
 
-closes_child : (d : Division) (m : ℕ) (kinds : List ℕ) (xs : List Step)
+pub closes_child : (d : Division) (m : ℕ) (kinds : List ℕ) (xs : List Step)
     → closes (suc m) (child_steps d kinds ++ xs) ≡ closes (suc m) xs
 closes_child d m kinds xs =
     let inner = unknown_statement_error (node_of kinds) in

@@ -25,9 +25,9 @@ pub(crate) fn is_single_token(kind: SyntaxKind) -> bool
     )
 }
 
-// Whether the kind ends a statement in which `groups` groups are open.
+/// Returns whether a token of this kind ends a statement in which `groups` groups are open.
 #[tactic(auto, unfolding(squawk_kinds::specs::Role::role))]
-pub(crate) fn ends_statement(division: Division, groups: usize, kind: SyntaxKind) -> bool
+pub fn ends_statement(division: Division, groups: usize, kind: SyntaxKind) -> bool
     ensures { result ≡ ends_statement division groups (role kind) }
 {
     match kind {

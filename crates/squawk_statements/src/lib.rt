@@ -11,7 +11,7 @@ mod rows;
 #[cfg(test)]
 mod tests;
 
-pub use division::Division;
+pub use division::{Division, ends_statement};
 pub use first::{ChildShape, first_child, first_child_in};
 pub use node::opening;
-pub use plain::{GroupedGrammar, PlainGrammar};
+pub use plain::{GroupedGrammar, PlainGrammar, emit_child, emit_exits, emit_token};

@@ -12,8 +12,8 @@ use crate::node::statement_node;
 use squawk_events::{FrontError, Grammar, Input, Output};
 use squawk_kinds::SyntaxKind;
 
-// Emits an `Exit` for each of `groups` open groups.
-fn emit_exits(output: &mut Output, groups: usize) -> Result<(), FrontError>
+/// Appends an `Exit` for each of `groups` open groups. Fails only if memory runs out.
+pub fn emit_exits(output: &mut Output, groups: usize) -> Result<(), FrontError>
     requires { groups ≤ depth_of output.old }
     ensures ok { OnOk result (output.new ≡ output.old ++ exits groups) }
     ensures depth { OnOk result (depth_of output.new + groups ≡ depth_of output.old) }
@@ -27,9 +27,10 @@ fn emit_exits(output: &mut Output, groups: usize) -> Result<(), FrontError>
     Ok(())
 }
 
-// Emits the steps of a token of a child. Returns the number of open groups after it.
+/// Appends the steps of a token of a child in which `groups` groups are open. Returns the number of
+/// open groups after it. Fails only if memory runs out.
 #[tactic(auto, unfolding(squawk_kinds::specs::Role::role))]
-fn emit_token(
+pub fn emit_token(
     output: &mut Output,
     division: Division,
     groups: usize,
@@ -111,8 +112,9 @@ fn node_of(kinds: &[SyntaxKind]) -> SyntaxKind
     }
 }
 
-// Emits the steps of a child.
-fn emit_child(
+/// Appends the steps of a child of these kinds, none of which is trivia. There must be at least one
+/// kind. Fails only if memory runs out.
+pub fn emit_child(
     output: &mut Output,
     division: Division,
     kinds: &[SyntaxKind],

@@ -1,0 +1,9 @@
+-- What public contracts cite.
+pub mod Clauses
+pub mod Without
+pub mod ClauseNodes
+pub mod PlainWithoutClauses
+pub mod ClausesAreLawful
+pub mod Laws
+-- What private functions need besides.
+pub mod Depth

@@ -1,0 +1,9 @@
+//! Laws of the definitions, for proofs: functions that do nothing, each with a law as its contract.
+ghost use Rattle.squawk_clauses.specs.Laws as law;
+
+/// The steps of the clause grammar are a tree of the kinds, and without the nodes of clauses they
+/// are the steps of the plain grammar.
+pub fn clauses_add_only_nodes()
+    ensures lawful { law.ClausesAreLawful }
+    ensures plain { law.PlainWithoutClauses }
+{}

@@ -1,0 +1,9 @@
+//! Clauses: a grammar whose trees have a node for each clause of a `SELECT` statement.
+#![tactic(auto)]
+
+mod grammar;
+pub mod laws;
+#[cfg(test)]
+mod tests;
+
+pub use grammar::ClauseGrammar;
