@@ -73,10 +73,14 @@ select_steps d in_clause n [] = exits n ++ clause_end in_clause
 select_steps d in_clause n (k ∷ ks) = select_kind_steps d in_clause n k
     ++ select_steps d (in_clause_after d in_clause n k) (groups_open_after d n (role k)) ks
 
+-- the steps of a `SELECT` statement of these kinds
+abbrev pub select_child_steps : Division → List ℕ → List Step
+select_child_steps d kinds = Enter kind.SELECT ∷ select_steps d false 0 kinds ++ Exit ∷ []
+
 -- the steps of a child of these kinds
 abbrev pub clause_child_steps : Division → List ℕ → List Step
-clause_child_steps d kinds = if node_of kinds == kind.SELECT
-    then Enter kind.SELECT ∷ select_steps d false 0 kinds ++ Exit ∷ [] else child_steps d kinds
+clause_child_steps d kinds = if node_of kinds == kind.SELECT then select_child_steps d kinds
+    else child_steps d kinds
 
 -- the steps of the children, which have these kinds
 abbrev pub clause_children_steps : Division → List (List ℕ) → List Step

@@ -12,7 +12,7 @@ use Rattle.squawk_statements.specs.Plain.{node_of, exits, groups_open_after, chi
 use Rattle.squawk_statements.specs.PlainIsLawful.{raised, steps_by, closes_exits, closes_kind, closes_child, plain_lawful}
 use Rattle.squawk_statements.specs.declared.division.Division.{Division}
 use Rattle.squawk_statements.specs.declared.division.Division.TheVariants.{Flat, Grouped}
-use Rattle.squawk_clauses.specs.Clauses.{clauses, clause_begun, clause_child_steps, clause_children_steps, clause_end, clause_start, in_clause_after, is_clause_node, select_kind_steps, select_steps}
+use Rattle.squawk_clauses.specs.Clauses.{clauses, clause_begun, clause_child_steps, clause_children_steps, clause_end, clause_start, in_clause_after, is_clause_node, select_child_steps, select_kind_steps, select_steps}
 use Rattle.squawk_clauses.specs.PlainWithoutClauses.{select_steps_by, in_clause_by, plain_without_clauses}
 use Rattle.squawk_clauses.specs.Without.{without_clauses_from, without_clause_nodes}
 
@@ -103,8 +103,8 @@ closes_clause_child : (d : Division) (m : ℕ) (kinds : List ℕ) (xs : List Ste
     → closes (suc m) (clause_child_steps d kinds ++ xs) ≡ closes (suc m) xs
 closes_clause_child d m kinds xs = by (node_of kinds == kind.SELECT)
   where
-    by : (b : Bool) → closes (suc m) ((if b then Enter kind.SELECT ∷ select_steps d false 0 kinds
-        ++ Exit ∷ [] else child_steps d kinds) ++ xs) ≡ closes (suc m) xs
+    by : (b : Bool) → closes (suc m) ((if b then select_child_steps d kinds
+        else child_steps d kinds) ++ xs) ≡ closes (suc m) xs
     by true = ap (closes (suc (suc m))) (append_assoc (select_steps d false 0 kinds) (Exit ∷ []) xs)
         ∙ closes_select d false 0 (suc m) kinds (Exit ∷ xs)
     by false = closes_child d m kinds xs

@@ -11,7 +11,7 @@ use Rattle.squawk_statements.specs.Plain.{plain, node_of, body_steps, exits, kin
 use Rattle.squawk_statements.specs.PlainIsLawful.{steps_by}
 use Rattle.squawk_statements.specs.declared.division.Division.{Division}
 use Rattle.squawk_statements.specs.declared.division.Division.TheVariants.{Flat, Grouped}
-use Rattle.squawk_clauses.specs.Clauses.{clauses, clause_begun, clause_child_steps, clause_children_steps, clause_end, clause_start, clause_rows, is_clause_node, in_clause_after, select_kind_steps, select_steps}
+use Rattle.squawk_clauses.specs.Clauses.{clauses, clause_begun, clause_child_steps, clause_children_steps, clause_end, clause_start, clause_rows, is_clause_node, in_clause_after, select_child_steps, select_kind_steps, select_steps}
 use Rattle.squawk_clauses.specs.ClauseNodes.{begun_clause, is_clause_or_none, node_is_no_clause}
 use Rattle.squawk_clauses.specs.Without.{without_clauses_from, without_clause_nodes}
 
@@ -211,8 +211,7 @@ unfolding is_clause_node clause_rows
 select_is_no_clause = refl
 
 without_select_child : (d : Division) (kinds : List ℕ) (nodes : List Bool) (xs : List Step)
-    → without_clauses_from nodes ((Enter kind.SELECT ∷ select_steps d false 0 kinds
-    ++ Exit ∷ []) ++ xs)
+    → without_clauses_from nodes (select_child_steps d kinds ++ xs)
     ≡ plain_child d kind.SELECT kinds ++ without_clauses_from nodes xs
 without_select_child d kinds nodes xs =
     rw select_is_no_clause
@@ -229,8 +228,8 @@ without_child d kinds nodes xs =
     by (node_of kinds) (node_is_no_clause kinds) (node_of kinds == kind.SELECT) refl
   where
     by : (node : ℕ) → is_clause_node node ≡ false → (b : Bool) → (node == kind.SELECT) ≡ b
-        → without_clauses_from nodes ((if b then Enter kind.SELECT ∷ select_steps d false 0 kinds
-        ++ Exit ∷ [] else plain_child d node kinds) ++ xs)
+        → without_clauses_from nodes ((if b then select_child_steps d kinds
+        else plain_child d node kinds) ++ xs)
         ≡ plain_child d node kinds ++ without_clauses_from nodes xs
     by node no_clause true is = rw (eqb-true node kind.SELECT is)
         (without_select_child d kinds nodes xs)

@@ -1,10 +1,11 @@
 //! The clause grammar: the plain grammar with clauses inside `SELECT` statements.
-ghost use Rattle.std.specs.Prelude.{◌≡◌, ◌≤◌, ◌<◌, ◌+◌, ◌^◌, [], ◌∷◌, ◌++◌, length, OnOk, IfOk, IfErr, IsTrue};
-ghost use Rattle.squawk_clauses.specs.Clauses.{clauses, clause_begun, clause_child_steps, clause_end, clause_start, in_clause_after, select_kind_steps, select_steps};
+ghost use Rattle.std.specs.Prelude.{◌≡◌, ◌==◌, unwrap_or, ◌≤◌, ◌<◌, ◌+◌, ◌^◌, [], ◌∷◌, ◌++◌, ◌||◌, false, length, is_some, OnOk, IfOk, IfErr, IsTrue};
+ghost use Rattle.squawk_clauses.specs.Clauses.{clauses, clause_begun, clause_child_steps, clause_end, clause_start, in_clause_after, select_child_steps, select_kind_steps, select_steps};
 ghost use Rattle.squawk_events.specs.Depth.{depth_of};
 ghost use Rattle.squawk_events.specs.Kinds.{has_no_trivia};
 ghost use Rattle.squawk_events.specs.Refusals.{IsOutOfMemory};
 ghost use Rattle.squawk_kinds.specs.Role.{role};
+ghost use Rattle.squawk_kinds.specs.declared.numbers.TheConstants.Number.{ERROR, SELECT};
 ghost use Rattle.squawk_statements.specs.First.{child_node};
 ghost use Rattle.squawk_statements.specs.Plain.{groups_open_after};
 ghost use Rattle.squawk_clauses.specs.Depth.{open_nodes};
@@ -139,7 +140,30 @@ fn emit_select_body(
     emit_clause_end(output, nodes.in_clause)
 }
 
+// Emits the steps of a `SELECT` statement.
+fn emit_select(
+    output: &mut Output,
+    division: Division,
+    kinds: &[SyntaxKind],
+) -> Result<(), FrontError>
+    ensures ok { OnOk result (output.new ≡ output.old ++ select_child_steps division kinds.now) }
+    ensures depth { OnOk result (depth_of output.new ≡ depth_of output.old) }
+    ensures refusals { IfErr result IsOutOfMemory }
+{
+    output.enter(SyntaxKind::SELECT)?;
+    emit_select_body(output, division, kinds)?;
+    output.exit()
+}
+
+// Whether a child with this node is divided into clauses.
+fn has_clauses(node: Option<SyntaxKind>) -> bool
+    ensures { result ≡ (unwrap_or node ERROR == SELECT) }
+{
+    matches!(node, Some(SyntaxKind::SELECT))
+}
+
 // Emits the steps of a child with this node.
+#[tactic(auto, using(crate::proofs::NodeLemmas::child_of_select, crate::proofs::NodeLemmas::child_of_other))]
 fn emit_clause_child(
     output: &mut Output,
     division: Division,
@@ -153,13 +177,10 @@ fn emit_clause_child(
     ensures depth { OnOk result (depth_of output.new ≡ depth_of output.old) }
     ensures refusals { IfErr result IsOutOfMemory }
 {
-    match node {
-        Some(SyntaxKind::SELECT) => {
-            output.enter(SyntaxKind::SELECT)?;
-            emit_select_body(output, division, kinds)?;
-            output.exit()
-        }
-        _ => emit_child(output, division, kinds),
+    if has_clauses(node) {
+        emit_select(output, division, kinds)
+    } else {
+        emit_child(output, division, kinds)
     }
 }
 
