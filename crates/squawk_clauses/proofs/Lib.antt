@@ -1,2 +1,5 @@
 mod PartsLemmas
 mod NodeLemmas
+mod Stays
+mod WeaveWithout
+mod TreeWithout

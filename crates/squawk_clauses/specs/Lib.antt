@@ -1,6 +1,7 @@
 -- What public contracts cite.
 pub mod Clauses
 pub mod Without
+pub mod TreeWithout
 pub mod ClauseNodes
 pub mod PlainWithoutClauses
 pub mod ClausesAreLawful

@@ -5,5 +5,12 @@ ghost use Rattle.squawk_clauses.specs.Laws as law;
 /// are the steps of the plain grammar.
 pub fn clauses_add_only_nodes()
     ensures lawful { law.ClausesAreLawful }
-    ensures plain { law.PlainWithoutClauses }
+    ensures plain { law.StepsWithoutClauses }
+{}
+
+/// Without the nodes of clauses the parse of tokens by the clause grammar has the steps of the
+/// parse into statements; the errors of both are equal.
+pub fn clause_parses_are_plain()
+    ensures steps { law.TreeWithoutClauses }
+    ensures errors { law.ErrorsStay }
 {}
