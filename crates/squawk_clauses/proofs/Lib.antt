@@ -3,3 +3,4 @@ mod NodeLemmas
 mod Stays
 mod WeaveWithout
 mod TreeWithout
+mod RootsWithout

@@ -9,8 +9,9 @@ pub fn clauses_add_only_nodes()
 {}
 
 /// Without the nodes of clauses the parse of tokens by the clause grammar has the steps of the
-/// parse into statements; the errors of both are equal.
+/// parse into statements. Both have the same errors, and the same children of the root.
 pub fn clause_parses_are_plain()
     ensures steps { law.TreeWithoutClauses }
     ensures errors { law.ErrorsStay }
+    ensures children { law.RootChildrenStay }
 {}
