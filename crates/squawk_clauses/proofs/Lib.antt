@@ -4,3 +4,4 @@ mod Stays
 mod WeaveWithout
 mod TreeWithout
 mod RootsWithout
+mod Divided

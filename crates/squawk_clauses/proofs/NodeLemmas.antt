@@ -1,11 +1,10 @@
 -- Kinds without trivia, and the node of a child of such kinds.
-use Rattle.std.proofs.Common.{◌≡◌, ℕ, zero, suc, ◌==◌, ◌++◌, IsTrue, Option, ◌&&◌, not, Bool, true, false, List, [], ◌∷◌, take, drop, ap, refl, ◌∙◌, sym, unwrap_or, if◌then◌else◌}
+use Rattle.std.proofs.Common.{◌≡◌, ℕ, zero, suc, ◌==◌, IsTrue, Option, not, Bool, true, false, List, [], ◌∷◌, take, drop, ap, refl, ◌∙◌, sym, unwrap_or, if◌then◌else◌}
 use Rattle.std.proofs.lemmas.Bool.{and_parts}
 use Rattle.squawk_events.specs.Kinds.{has_no_trivia, is_trivia_kind, without_trivia}
 use Rattle.squawk_kinds.specs.Role.{role}
 use Rattle.squawk_kinds.specs.declared.numbers.TheConstants.Number.{ERROR, SELECT}
 use Rattle.squawk_statements.specs.First.{child_node, node_by}
-use Rattle.squawk_events.specs.declared.steps.Step.TheVariants.{Enter, Exit}
 use Rattle.squawk_statements.specs.Plain.{node_of, child_steps}
 use Rattle.squawk_statements.specs.declared.division.Division.{Division}
 use Rattle.squawk_clauses.specs.Clauses.{clause_child_steps, select_child_steps}

@@ -1,7 +1,7 @@
 -- The parts of a list are its first child and the parts of the rest.
 use Rattle.std.proofs.Common.{◌≡◌, ℕ, zero, suc, ◌+◌, ◌-◌, append_assoc, ◌≤◌, ◌<◌, List, [], ◌∷◌, ◌++◌, length, take, drop, map, ap, refl, sym, ◌∙◌, arith}
 use Rattle.std.proofs.lemmas.List.{length-drop, take_rest, drop-drop}
-use Rattle.squawk_kinds.specs.Role.{Role, role}
+use Rattle.squawk_kinds.specs.Role.{role}
 use Rattle.squawk_events.specs.declared.steps.Step.{Step}
 use Rattle.squawk_statements.specs.Children.{parts_from, parts, first_child, first_child_len}
 use Rattle.squawk_statements.specs.PlainIsLawful.{first_child_some, suc_minus_one}

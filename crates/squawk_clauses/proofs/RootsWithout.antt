@@ -1,6 +1,6 @@
 -- The children of the root are the same with the nodes of clauses as without them, since each
 -- clause is inside a child.
-use Rattle.std.proofs.Common.{◌≡◌, ℕ, zero, suc, ◌+◌, ◌&&◌, Bool, true, false, List, [], ◌∷◌, ◌++◌, refl, ap, sym, ◌∙◌, append_assoc, if◌then◌else◌}
+use Rattle.std.proofs.Common.{◌≡◌, ℕ, suc, ◌+◌, ◌&&◌, Bool, true, false, List, [], ◌∷◌, ◌++◌, refl, ap, sym, ◌∙◌, append_assoc, if◌then◌else◌}
 use Rattle.std.proofs.lemmas.Bool.{and_parts}
 use Rattle.squawk_events.specs.Kinds.{is_trivia_kind}
 use Rattle.squawk_events.specs.declared.steps.Step.{Step}
@@ -10,15 +10,12 @@ use Rattle.squawk_events.specs.declared.steps.StrStep.TheVariants.{Enter, Token,
 use Rattle.squawk_kinds.specs.Role.{role}
 use Rattle.squawk_kinds.specs.declared.numbers.TheConstants.Number as kind
 use Rattle.squawk_lexed.specs.LexedToken.{LexedToken}
-use Rattle.squawk_lexed.specs.Weave.{after_leading_trivia, is_empty, kinds_without_trivia, leading_trivia, leading_trivia_end, next_len, offset_after_step, tokens_after_step, weave, weave_from, weave_step}
+use Rattle.squawk_lexed.specs.Weave.{after_leading_trivia, is_empty, kinds_without_trivia, leading_trivia, leading_trivia_end, next_len, offset_after_step, tokens_after_step, weave_from, weave_step}
 use Rattle.squawk_statements.specs.Children.{parts}
-use Rattle.squawk_statements.specs.declared.division.Division.{Division}
-use Rattle.squawk_tree.specs.ParseOf.{parse_of_tokens}
 use Rattle.squawk_tree.specs.Steps.{Leaf, Node, root_children, root_children_from, without_errors}
-use Rattle.squawk_clauses.specs.Clauses.{clauses, clause_children_steps, clause_rows, is_clause_node}
-use Rattle.squawk_clauses.specs.Laws.{RootChildrenStay, clause_parse}
+use Rattle.squawk_clauses.specs.Clauses.{clause_children_steps, clause_rows, is_clause_node}
+use Rattle.squawk_clauses.specs.Laws.{RootChildrenStay}
 use Rattle.squawk_clauses.specs.TreeWithout.{tree_without_from, tree_without_clauses}
-use Rattle.squawk_clauses.specs.Without.{without_clauses_from}
 use Rattle.squawk_clauses.proofs.Stays.{begins_with_token, children_stay, is_in_child, stays}
 use Rattle.squawk_clauses.proofs.TreeWithout.{tree_is_plain}
 

@@ -1,6 +1,6 @@
 -- Where clauses stand among the steps of the clause grammar: each begins directly before a token,
 -- inside a statement, and ends before a step that is no clause's.
-use Rattle.std.proofs.Common.{◌≡◌, ℕ, zero, suc, ◌==◌, ◌||◌, ◌&&◌, not, Bool, true, false, List, [], ◌∷◌, ◌++◌, Option, Some, None, is_some, is_none, refl, ap, sym, ◌∙◌, append_assoc, if◌then◌else◌}
+use Rattle.std.proofs.Common.{◌≡◌, ℕ, zero, suc, ◌==◌, ◌||◌, ◌&&◌, not, Bool, true, false, List, [], ◌∷◌, ◌++◌, Option, Some, None, is_some, refl, ap, ◌∙◌, append_assoc, if◌then◌else◌}
 use Rattle.std.proofs.lemmas.Bool.{and_parts, eqb-true}
 use Rattle.squawk_kinds.specs.Role.{Role, role, is_other, Trivia, Semicolon, Terminator, Command, Open, Close, Other}
 use Rattle.squawk_kinds.specs.declared.numbers.TheConstants.Number as kind
@@ -12,7 +12,7 @@ use Rattle.squawk_statements.specs.Plain.{node_of, body_steps, exits, kind_steps
 use Rattle.squawk_statements.specs.PlainIsLawful.{steps_by}
 use Rattle.squawk_statements.specs.declared.division.Division.{Division}
 use Rattle.squawk_statements.specs.declared.division.Division.TheVariants.{Flat, Grouped}
-use Rattle.squawk_clauses.specs.Clauses.{ClauseRow, clauses, clause_in, clause_begun, clause_child_steps, clause_children_steps, clause_end, clause_start, clause_rows, is_clause_node, in_clause_after, select_child_steps, select_kind_steps, select_steps}
+use Rattle.squawk_clauses.specs.Clauses.{ClauseRow, clause_in, clause_begun, clause_child_steps, clause_children_steps, clause_end, clause_start, clause_rows, is_clause_node, in_clause_after, select_child_steps, select_kind_steps, select_steps}
 use Rattle.squawk_clauses.specs.ClauseNodes.{begun_clause, is_clause_or_none, node_is_no_clause}
 use Rattle.squawk_clauses.specs.PlainWithoutClauses.{with_groups, with_clause, select_steps_by, in_clause_by}
 use Rattle.squawk_clauses.specs.Without.{without_clauses_from}
@@ -88,7 +88,7 @@ stays_body d n (kind ∷ kinds) nodes xs =
 -- ---- the first token of a clause
 
 -- whether no clause begins, or the role is that of a kind that may begin one
-abbrev is_other_or_none : Role → Option ℕ → Bool
+abbrev pub is_other_or_none : Role → Option ℕ → Bool
 is_other_or_none f None = true
 is_other_or_none f (Some node) = is_other f
 
@@ -114,7 +114,7 @@ found_other (row ∷ rows) k h =
     by true same here later = rw (eqb-true k row.0 same) here
     by false same here later = later
 
-begun_is_other : (n k : ℕ) → is_other_or_none (role k) (clause_begun n k) ≡ true
+pub begun_is_other : (n k : ℕ) → is_other_or_none (role k) (clause_begun n k) ≡ true
 begun_is_other zero k = found_other clause_rows k rows_have_other_kinds
 begun_is_other (suc n) k = refl
 

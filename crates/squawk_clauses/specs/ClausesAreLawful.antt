@@ -14,63 +14,63 @@ use Rattle.squawk_statements.specs.declared.division.Division.{Division}
 use Rattle.squawk_statements.specs.declared.division.Division.TheVariants.{Flat, Grouped}
 use Rattle.squawk_clauses.specs.Clauses.{clauses, clause_begun, clause_child_steps, clause_children_steps, clause_end, clause_start, in_clause_after, is_clause_node, select_child_steps, select_kind_steps, select_steps}
 use Rattle.squawk_clauses.specs.PlainWithoutClauses.{select_steps_by, in_clause_by, plain_without_clauses}
-use Rattle.squawk_clauses.specs.Without.{without_clauses_from, without_clause_nodes}
+use Rattle.squawk_clauses.specs.Without.{without_clauses_from}
 
 -- ---- balance: each clause that is opened is closed
 
 -- one more open node if a clause is open
-abbrev with_clause : Bool → ℕ → ℕ
-with_clause true m = suc m
-with_clause false m = m
+abbrev depth_with_clause : Bool → ℕ → ℕ
+depth_with_clause true m = suc m
+depth_with_clause false m = m
 
 closes_end : (in_clause : Bool) (m : ℕ) (xs : List Step)
-    → closes (suc (with_clause in_clause m)) (clause_end in_clause ++ xs) ≡ closes (suc m) xs
+    → closes (suc (depth_with_clause in_clause m)) (clause_end in_clause ++ xs) ≡ closes (suc m) xs
 closes_end true m xs = refl
 closes_end false m xs = refl
 
 closes_start : (n m : ℕ) (in_clause : Bool) (begun : Option ℕ) (xs : List Step)
-    → closes (suc (with_clause in_clause m)) (clause_start in_clause begun ++ xs)
-    ≡ closes (suc (with_clause (in_clause || is_some begun) m)) xs
+    → closes (suc (depth_with_clause in_clause m)) (clause_start in_clause begun ++ xs)
+    ≡ closes (suc (depth_with_clause (in_clause || is_some begun) m)) xs
 closes_start n m true None xs = refl
 closes_start n m false None xs = refl
 closes_start n m true (Some node) xs = refl
 closes_start n m false (Some node) xs = refl
 
 closes_start_in : (n m kind : ℕ) (in_clause : Bool) (xs : List Step)
-    → closes (raised n (suc (with_clause in_clause m)))
+    → closes (raised n (suc (depth_with_clause in_clause m)))
     (clause_start in_clause (clause_begun n kind) ++ xs)
-    ≡ closes (raised n (suc (with_clause (in_clause || is_some (clause_begun n kind)) m))) xs
+    ≡ closes (raised n (suc (depth_with_clause (in_clause || is_some (clause_begun n kind)) m))) xs
 closes_start_in zero m kind in_clause xs =
     closes_start 0 m in_clause (clause_begun 0 kind) xs
 closes_start_in (suc n) m kind true xs = refl
 closes_start_in (suc n) m kind false xs = refl
 
 closes_ending : (n m kind : ℕ) (in_clause : Bool) (xs : List Step)
-    → closes (raised n (suc (with_clause in_clause m)))
+    → closes (raised n (suc (depth_with_clause in_clause m)))
     ((exits n ++ clause_end in_clause ++ Token kind ∷ []) ++ xs) ≡ closes (suc m) xs
 closes_ending n m kind in_clause xs =
-    ap (closes (raised n (suc (with_clause in_clause m))))
+    ap (closes (raised n (suc (depth_with_clause in_clause m))))
     (append_assoc (exits n ++ clause_end in_clause) (Token kind ∷ []) xs
     ∙ append_assoc (exits n) (clause_end in_clause) (Token kind ∷ xs))
-    ∙ closes_exits n (with_clause in_clause m) (clause_end in_clause ++ Token kind ∷ xs)
+    ∙ closes_exits n (depth_with_clause in_clause m) (clause_end in_clause ++ Token kind ∷ xs)
     ∙ closes_end in_clause m (Token kind ∷ xs)
 
 closes_other : (d : Division) (n m kind : ℕ) (f : Role) (in_clause : Bool) (xs : List Step)
-    → closes (raised n (suc (with_clause in_clause m)))
+    → closes (raised n (suc (depth_with_clause in_clause m)))
     ((clause_start in_clause (clause_begun n kind) ++ steps_by d n kind f) ++ xs)
-    ≡ closes (raised (groups_open_after d n f) (suc (with_clause (in_clause
+    ≡ closes (raised (groups_open_after d n f) (suc (depth_with_clause (in_clause
     || is_some (clause_begun n kind)) m))) xs
 closes_other d n m kind f in_clause xs =
-    ap (closes (raised n (suc (with_clause in_clause m))))
+    ap (closes (raised n (suc (depth_with_clause in_clause m))))
     (append_assoc (clause_start in_clause (clause_begun n kind)) (steps_by d n kind f) xs)
     ∙ closes_start_in n m kind in_clause (steps_by d n kind f ++ xs)
-    ∙ closes_kind d n (with_clause (in_clause || is_some (clause_begun n kind)) m) kind f xs
+    ∙ closes_kind d n (depth_with_clause (in_clause || is_some (clause_begun n kind)) m) kind f xs
 
 closes_select_kind : (d : Division) (n m kind : ℕ) (f : Role) (in_clause : Bool) (xs : List Step)
-    → closes (raised n (suc (with_clause in_clause m)))
+    → closes (raised n (suc (depth_with_clause in_clause m)))
     (select_steps_by d in_clause n kind f ++ xs)
     ≡ closes (raised (groups_open_after d n f)
-    (suc (with_clause (in_clause_by d in_clause n kind f) m))) xs
+    (suc (depth_with_clause (in_clause_by d in_clause n kind f) m))) xs
 closes_select_kind d n m kind Trivia b xs = closes_other d n m kind Trivia b xs
 closes_select_kind Flat n m kind Semicolon b xs = closes_ending n m kind b xs
 closes_select_kind Grouped zero m kind Semicolon b xs = closes_ending 0 m kind b xs
@@ -83,17 +83,17 @@ closes_select_kind d n m kind Close b xs = closes_other d n m kind Close b xs
 closes_select_kind d n m kind Other b xs = closes_other d n m kind Other b xs
 
 closes_select : (d : Division) (in_clause : Bool) (n m : ℕ) (kinds : List ℕ) (xs : List Step)
-    → closes (raised n (suc (with_clause in_clause m))) (select_steps d in_clause n kinds ++ xs)
+    → closes (raised n (suc (depth_with_clause in_clause m))) (select_steps d in_clause n kinds ++ xs)
     ≡ closes (suc m) xs
 closes_select d in_clause n m [] xs =
-    ap (closes (raised n (suc (with_clause in_clause m))))
+    ap (closes (raised n (suc (depth_with_clause in_clause m))))
     (append_assoc (exits n) (clause_end in_clause) xs)
-    ∙ closes_exits n (with_clause in_clause m) (clause_end in_clause ++ xs)
+    ∙ closes_exits n (depth_with_clause in_clause m) (clause_end in_clause ++ xs)
     ∙ closes_end in_clause m xs
 closes_select d in_clause n m (kind ∷ kinds) xs =
     let after = groups_open_after d n (role kind) in
     let in_after = in_clause_after d in_clause n kind in
-    ap (closes (raised n (suc (with_clause in_clause m))))
+    ap (closes (raised n (suc (depth_with_clause in_clause m))))
     (append_assoc (select_kind_steps d in_clause n kind) (select_steps d in_after after kinds) xs)
     ∙ closes_select_kind d n m kind (role kind) in_clause
     (select_steps d in_after after kinds ++ xs)
@@ -157,9 +157,9 @@ pub clauses_lawful : (d : Division) (kinds : List ℕ) → IsTrue (has_no_trivia
     → IsLawful kinds (clauses d kinds)
 clauses_lawful d kinds none =
     let law = plain_lawful d kinds none in record {
-  balanced = closes_clause_children d 0 (parts role d kinds) (Exit ∷ []);
-  tokens = sym (tokens_without [] (clauses d kinds))
-      ∙ ap token_kinds (plain_without_clauses d kinds) ∙ law.tokens;
-  numbers = sym (numbers_without [] (clauses d kinds))
-      ∙ ap has_lawful_numbers (plain_without_clauses d kinds) ∙ law.numbers;
-}
+      balanced = closes_clause_children d 0 (parts role d kinds) (Exit ∷ []);
+      tokens = sym (tokens_without [] (clauses d kinds))
+          ∙ ap token_kinds (plain_without_clauses d kinds) ∙ law.tokens;
+      numbers = sym (numbers_without [] (clauses d kinds))
+          ∙ ap has_lawful_numbers (plain_without_clauses d kinds) ∙ law.numbers;
+    }

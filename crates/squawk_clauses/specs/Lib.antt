@@ -6,5 +6,6 @@ pub mod ClauseNodes
 pub mod PlainWithoutClauses
 pub mod ClausesAreLawful
 pub mod Laws
+pub mod Divided
 -- What private functions need besides.
 pub mod Depth

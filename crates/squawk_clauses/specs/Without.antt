@@ -1,5 +1,5 @@
 -- Steps without the nodes of clauses.
-use Rattle.std.specs.Prelude.{ℕ, Bool, true, false, List, [], ◌∷◌, if◌then◌else◌}
+use Rattle.std.specs.Prelude.{Bool, true, false, List, [], ◌∷◌, if◌then◌else◌}
 use Rattle.squawk_events.specs.declared.steps.Step.{Step}
 use Rattle.squawk_events.specs.declared.steps.Step.TheVariants.{Enter, Token, Exit, Error}
 use Rattle.squawk_clauses.specs.Clauses.{is_clause_node}

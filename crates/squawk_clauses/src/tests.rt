@@ -323,11 +323,15 @@ fn lines_of(alloc: Global, text: &str, division: Division) -> Result<String, Fro
 #[test]
 fn texts_have_clauses(rt: HostRuntime) -> Result<(), Fail> {
     for row in ROWS {
-        let lines = lines_of(rt.alloc(), row.text, Division::Flat).ok().ok_or(row.name)?;
+        let lines = lines_of(rt.alloc(), row.text, Division::Flat)
+            .ok()
+            .ok_or(row.name)?;
         assert_eq!(rt; lines.as_str(), row.lines);
     }
     for row in OTHER_ROWS {
-        let lines = lines_of(rt.alloc(), row.text, Division::Flat).ok().ok_or(row.name)?;
+        let lines = lines_of(rt.alloc(), row.text, Division::Flat)
+            .ok()
+            .ok_or(row.name)?;
         assert_eq!(rt; lines.as_str(), row.lines);
     }
     Ok(())
@@ -380,14 +384,28 @@ fn steps_of_kinds(rt: HostRuntime) -> Result<(), Fail> {
     let grammar = ClauseGrammar::new(Division::Flat);
     let output = EntryPoint::SourceFile.parse(rt.alloc(), &input, &grammar)?;
     let wanted = [
-        Step::Enter { kind: SyntaxKind::SOURCE_FILE },
-        Step::Enter { kind: SyntaxKind::SELECT },
-        Step::Enter { kind: SyntaxKind::SELECT_CLAUSE },
-        Step::Token { kind: SyntaxKind::SELECT_KW },
-        Step::Token { kind: SyntaxKind::IDENT },
+        Step::Enter {
+            kind: SyntaxKind::SOURCE_FILE,
+        },
+        Step::Enter {
+            kind: SyntaxKind::SELECT,
+        },
+        Step::Enter {
+            kind: SyntaxKind::SELECT_CLAUSE,
+        },
+        Step::Token {
+            kind: SyntaxKind::SELECT_KW,
+        },
+        Step::Token {
+            kind: SyntaxKind::IDENT,
+        },
         Step::Exit,
-        Step::Enter { kind: SyntaxKind::FROM_CLAUSE },
-        Step::Token { kind: SyntaxKind::FROM_KW },
+        Step::Enter {
+            kind: SyntaxKind::FROM_CLAUSE,
+        },
+        Step::Token {
+            kind: SyntaxKind::FROM_KW,
+        },
         Step::Exit,
         Step::Exit,
         Step::Exit,
