@@ -147,8 +147,8 @@ divided_clause d b k node ks goes begins stays rest = record {
       (λ more. ap (λ n. groups_left_open n (map role rest.before)) stays ∙ rest.outside more)
       rest.clauses;
   same = select_other d b 0 k ks goes
-      ∙ rw (begins, or_true b, stays) (begun_steps b node (kind_steps d 0 k) (body_steps d 0 rest.before)
-      (select_steps d true 0 ks) rest.steps rest.same)
+      ∙ rw (begins, or_true b, stays) (begun_steps b node (kind_steps d 0 k)
+      (body_steps d 0 rest.before) (select_steps d true 0 ks) rest.steps rest.same)
       ∙ ap (λ xs. clause_end b ++ (Enter node ∷ xs ++ Exit ∷ rest.steps))
       (ap (λ n. kind_steps d 0 k ++ body_steps d n rest.before) (sym stays)
       ∙ body_other d 0 k rest.before goes);

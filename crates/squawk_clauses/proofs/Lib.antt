@@ -1,5 +1,5 @@
 mod PartsLemmas
-mod NodeLemmas
+mod Nodes
 mod Stays
 mod WeaveWithout
 mod TreeWithout

@@ -83,8 +83,8 @@ closes_select_kind d n m kind Close b xs = closes_other d n m kind Close b xs
 closes_select_kind d n m kind Other b xs = closes_other d n m kind Other b xs
 
 closes_select : (d : Division) (in_clause : Bool) (n m : ℕ) (kinds : List ℕ) (xs : List Step)
-    → closes (raised n (suc (depth_with_clause in_clause m))) (select_steps d in_clause n kinds ++ xs)
-    ≡ closes (suc m) xs
+    → closes (raised n (suc (depth_with_clause in_clause m)))
+    (select_steps d in_clause n kinds ++ xs) ≡ closes (suc m) xs
 closes_select d in_clause n m [] xs =
     ap (closes (raised n (suc (depth_with_clause in_clause m))))
     (append_assoc (exits n) (clause_end in_clause) xs)

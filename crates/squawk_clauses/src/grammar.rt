@@ -163,7 +163,7 @@ fn has_clauses(node: Option<SyntaxKind>) -> bool
 }
 
 // Emits the steps of a child with this node.
-#[tactic(auto, using(crate::proofs::NodeLemmas::child_of_select, crate::proofs::NodeLemmas::child_of_other))]
+#[tactic(auto, using(crate::proofs::Nodes::select_child, crate::proofs::Nodes::other_child))]
 fn emit_clause_child(
     output: &mut Output,
     division: Division,

@@ -1,5 +1,5 @@
 use Rattle.std.proofs.Common.{arith, refl}
-use Rattle.squawk_clauses.proofs.NodeLemmas.{no_trivia_part}
+use Rattle.squawk_clauses.proofs.Nodes.{no_trivia_part}
 use Rattle.squawk_clauses.proofs.PartsLemmas.{node_of_part, steps_more}
 use Rattle.squawk_clauses.proofs.grammar.emit_clauses.Goals as goal
 

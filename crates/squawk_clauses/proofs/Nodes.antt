@@ -21,7 +21,7 @@ without_none (k ∷ ks) h =
     by true h rest = absurd (cc h)
     by false h rest = ap (λ all. k ∷ all) rest
 
--- the first of such kinds
+-- the first of such kinds are such kinds
 pub no_trivia_take : (n : ℕ) (kinds : List ℕ) → has_no_trivia kinds ≡ true
     → has_no_trivia (take n kinds) ≡ true
 no_trivia_take zero kinds h = refl
@@ -30,7 +30,7 @@ no_trivia_take (suc n) (k ∷ ks) h =
     let parts = and_parts (not (is_trivia_kind k)) (has_no_trivia ks) h in
     rw parts.0 (no_trivia_take n ks parts.1)
 
--- and the others
+-- and so are the others
 pub no_trivia_drop : (n : ℕ) (kinds : List ℕ) → has_no_trivia kinds ≡ true
     → has_no_trivia (drop n kinds) ≡ true
 no_trivia_drop zero kinds h = h
@@ -45,26 +45,27 @@ node_without_trivia [] h = refl
 node_without_trivia (k ∷ ks) h =
     ap (λ all. unwrap_or (node_by (role k) all) ERROR) (sym (without_none (k ∷ ks) h))
 
--- the steps of a `SELECT` statement with such kinds
-pub child_of_select : (d : Division) (node : Option ℕ) (kinds : List ℕ)
+-- the steps of a child of such kinds, by its node
+child_by_node : (d : Division) (node : Option ℕ) (kinds : List ℕ)
+    → IsTrue (has_no_trivia kinds) → node ≡ child_node kinds
+    → clause_child_steps d kinds ≡ (if unwrap_or node ERROR == SELECT
+    then select_child_steps d kinds else child_steps d kinds)
+child_by_node d own kinds h is =
+    ap (λ n. if n == SELECT then select_child_steps d kinds else child_steps d kinds)
+    (node_without_trivia kinds h ∙ ap (λ o. unwrap_or o ERROR) (sym is))
+
+pub select_child : (d : Division) (node : Option ℕ) (kinds : List ℕ)
     → IsTrue (has_no_trivia kinds) → node ≡ child_node kinds
     → (unwrap_or node ERROR == SELECT) ≡ true
     → clause_child_steps d kinds ≡ select_child_steps d kinds
-child_of_select d own kinds h is select =
-    ap (λ n. if n == SELECT then select_child_steps d kinds else child_steps d kinds)
-    (node_without_trivia kinds h ∙ ap (λ o. unwrap_or o ERROR) (sym is))
-    ∙ rw select refl
+select_child d own kinds h is select = child_by_node d own kinds h is ∙ rw select refl
 
--- the steps of another child
-pub child_of_other : (d : Division) (node : Option ℕ) (kinds : List ℕ)
+pub other_child : (d : Division) (node : Option ℕ) (kinds : List ℕ)
     → IsTrue (has_no_trivia kinds) → node ≡ child_node kinds
     → (unwrap_or node ERROR == SELECT) ≡ false → clause_child_steps d kinds ≡ child_steps d kinds
-child_of_other d own kinds h is other =
-    ap (λ n. if n == SELECT then select_child_steps d kinds else child_steps d kinds)
-    (node_without_trivia kinds h ∙ ap (λ o. unwrap_or o ERROR) (sym is))
-    ∙ rw other refl
+other_child d own kinds h is other = child_by_node d own kinds h is ∙ rw other refl
 
--- the kinds from one index on, fewer than the list has, are such kinds
+-- a part of such kinds
 pub no_trivia_part : (at n : ℕ) (kinds : List ℕ) → IsTrue (has_no_trivia kinds)
     → IsTrue (has_no_trivia (take n (drop at kinds)))
 no_trivia_part at n kinds h = no_trivia_take n (drop at kinds) (no_trivia_drop at kinds h)
