@@ -1,6 +1,7 @@
 //! The clause grammar: the plain grammar with clauses inside `SELECT` statements.
 ghost use Rattle.std.specs.Prelude.{◌≡◌, ◌==◌, unwrap_or, ◌≤◌, ◌<◌, ◌+◌, ◌^◌, [], ◌∷◌, ◌++◌, ◌||◌, false, length, is_some, OnOk, IfOk, IfErr, IsTrue};
 ghost use Rattle.squawk_clauses.specs.Clauses.{clauses, clause_begun, clause_child_steps, clause_end, clause_start, in_clause_after, select_child_steps, select_kind_steps, select_steps};
+ghost use Rattle.squawk_clauses.specs.Depth.{open_nodes};
 ghost use Rattle.squawk_events.specs.Depth.{depth_of};
 ghost use Rattle.squawk_events.specs.Kinds.{has_no_trivia};
 ghost use Rattle.squawk_events.specs.Refusals.{IsOutOfMemory};
@@ -8,7 +9,6 @@ ghost use Rattle.squawk_kinds.specs.Role.{role};
 ghost use Rattle.squawk_kinds.specs.declared.numbers.TheConstants.Number.{ERROR, SELECT};
 ghost use Rattle.squawk_statements.specs.First.{child_node};
 ghost use Rattle.squawk_statements.specs.Plain.{groups_open_after};
-ghost use Rattle.squawk_clauses.specs.Depth.{open_nodes};
 
 use squawk_events::{FrontError, Grammar, Input, Output};
 use squawk_kinds::SyntaxKind;
