@@ -2,6 +2,7 @@ pub mod CommandLemmas
 pub mod DigitLemmas
 pub mod LineLemmas
 pub mod MadeLemmas
+pub mod OutputLemmas
 pub mod ParseLemmas
 pub mod RefusalLemmas
 pub mod ReplayLemmas

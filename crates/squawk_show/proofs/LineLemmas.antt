@@ -2,7 +2,9 @@
 use Rattle.std.proofs.Common.{◌≡◌, ℕ, ◌+◌, ◌-◌, ◌<◌, ◌≤◌, List, [], ◌∷◌, ◌++◌, length, take, drop, ap, sym, ◌∙◌, append_assoc, arith}
 use Rattle.std.specs.Prelude.{decimal}
 use Rattle.std.proofs.Math.Seq.{take-add}
-use Rattle.std.proofs.lemmas.List.{take_at, drop_at, take-take, take-append-le, take_rest}
+use Rattle.std.proofs.lemmas.List.{length-append, length-take-le, take_at, drop_at, take-append-le}
+use Rattle.std.proofs.lemmas.Slice.{take-put_mid_below}
+use borrow.Rule.Slice.PartMut.{post_of, put_mid}
 use Rattle.squawk_show.proofs.DigitLemmas.{decimal_one}
 use Rattle.squawk_lexer.specs.Classes.{line_feed, space}
 use Rattle.squawk_show.specs.Report.{line_with_text, range_text}
@@ -31,35 +33,33 @@ join_pieces start a b c d e f from to is_a is_b is_c is_d is_e is_f =
     ∙ append_assoc a (from ++ 46 ∷ 46 ∷ []) to in
     is_f ∙ ap (λ xs. xs ++ 10 ∷ []) (both ∙ ap (λ xs. xs ++ (from ++ (46 ∷ 46 ∷ []) ++ to)) is_a)
 
--- A window of `size` bytes was appended to `out`, overwritten by `text`, and cut off after `count`
--- bytes of it. These bytes are `shape` of the window as it was.
-pub window_overwritten : (shape : List ℕ → List ℕ)
-    (out window seen text post rest now : List ℕ) (old count total size : ℕ)
-    → now ≡ take (old + count) (take total ((take old seen ++ (text ++ post)) ++ rest))
-    → seen ≡ out ++ window → old ≡ length out → total ≡ old + size → length window ≡ size
-    → length text ≡ length (take (length seen - old) (drop old seen)) → count ≤ size
-    → take count text ≡ shape (take (length seen - old) (drop old seen))
-    → now ≡ out ++ shape window
-window_overwritten shape out window seen text post rest now old count total size is_now is_seen
-    is_old is_total window_size text_size short written =
-    let before : take old seen ≡ out =
-    ap (take old) is_seen ∙ take_at out window old (sym is_old) in
-    let rest_is : take (length seen - old) (drop old seen) ≡ window = take_rest seen old
-    ∙ ap (drop old) is_seen ∙ drop_at out window old (sym is_old) in
-    let same_size : length text ≡ size = text_size ∙ ap length rest_is ∙ window_size in
-    let line : take count text ≡ shape window = written ∙ ap shape rest_is in
-    let all : (take old seen ++ (text ++ post)) ++ rest ≡ out ++ (text ++ (post ++ rest)) =
-    ap (λ xs. (xs ++ (text ++ post)) ++ rest) before ∙ append_assoc out (text ++ post) rest
-    ∙ ap (λ xs. out ++ xs) (append_assoc text post rest) in
-    is_now
-    ∙ take-take (old + count) total ((take old seen ++ (text ++ post)) ++ rest)
-    (omega (arith, is_total, short)) ∙ ap (take (old + count)) all
-    ∙ take-add old count (out ++ (text ++ (post ++ rest)))
-    ∙ ap (λ xs. xs ++ take count (drop old (out ++ (text ++ (post ++ rest)))))
-    (take_at out (text ++ (post ++ rest)) old (sym is_old))
-    ∙ ap (λ xs. out ++ take count xs) (drop_at out (text ++ (post ++ rest)) old (sym is_old))
-    ∙ ap (λ xs. out ++ xs)
-    (take-append-le count text (post ++ rest) (omega (arith, same_size, short)) ∙ line)
+-- A window was copied into a text at an offset, and `new` over it, the first n bytes of which are
+-- `shape` of the window.
+pub shape_over_window : (shape : List ℕ → List ℕ) (text window copy new : List ℕ) (at k n : ℕ)
+    → at + k ≤ length text → copy ≡ window → length window ≡ k → length new ≡ k → n ≤ k
+    → take n new ≡ shape (take k (drop at (put_mid at k text copy)))
+    → take (at + n) (put_mid at k (put_mid at k text copy) new) ≡ take at text ++ shape window
+shape_over_window shape text window copy new at k n room is_copy window_len new_len few written =
+    let both = put_mid at k text copy in
+    let rest = copy ++ post_of at k text in
+    let all = put_mid at k both new in
+    let front : length (take at text) ≡ at = length-take-le at text (omega (arith, room)) in
+    let len_both = length-append (take at text) rest in
+    let within : at ≤ length both = omega (arith, front, len_both) in
+    let copy_len : length copy ≡ k = ap length is_copy ∙ window_len in
+    let mid : take k (drop at both) ≡ window = ap (take k) (drop_at (take at text) rest at front)
+    ∙ take_at copy (post_of at k text) k copy_len ∙ is_copy in
+    let before : take at all ≡ take at text =
+    take-put_mid_below at k both new at (omega arith) within
+    ∙ take-put_mid_below at k text copy at (omega arith) (omega (arith, room)) in
+    let front_both : length (take at both) ≡ at = length-take-le at both within in
+    let after : drop at all ≡ new ++ post_of at k both =
+    drop_at (take at both) (new ++ post_of at k both) at front_both in
+    take-add at n all ∙ ap (λ xs. xs ++ take n (drop at all)) before
+    ∙ ap (λ xs. take at text ++ take n xs) after
+    ∙ ap (λ xs. take at text ++ xs)
+    (take-append-le n new (post_of at k both) (omega (arith, new_len, few)) ∙ written
+    ∙ ap shape mid)
 
 -- a line is the digits of its depth, and what does not depend on the depth
 line_after_depth : (depth letter : ℕ) (text : List ℕ) (range : ℕ × ℕ)

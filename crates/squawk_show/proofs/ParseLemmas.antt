@@ -8,9 +8,10 @@ use Rattle.squawk_lexer.specs.declared.token.Strings.{Strings}
 use Rattle.squawk_show.specs.Command.{asks}
 use Rattle.squawk_show.specs.Edge.{SourceView}
 use Rattle.squawk_show.specs.Made.{made}
-use Rattle.squawk_show.specs.Run.{IsText, IsParsed, IsPrepared, IsSummarized, tree_of, LeavesAreTokens, ChildrenAreStatements}
+use Rattle.squawk_show.specs.Run.{IsText, IsParsed, IsPrepared, IsSummarized, prepared_output, tree_of, LeavesAreTokens, ChildrenAreStatements}
 use Rattle.squawk_show.specs.declared.command.Command.TheVariants.{Make}
 use Rattle.squawk_show.specs.declared.options.Reading.{Reading}
+use Rattle.squawk_show.specs.declared.program.Prepared.{Prepared}
 use Rattle.squawk_statements.specs.Children.{children}
 use Rattle.squawk_statements.specs.declared.division.Division.{Division}
 use Rattle.squawk_tree.specs.ParseOf.{parse_of, roles_of}
@@ -64,15 +65,14 @@ if_ok P Q next (Ok t) h = next t h
 if_ok P Q next (Err e) h = tt
 
 -- the summary of a made text is what `make` prepares, whatever the source
-pub summary_prepared : (reading : Reading) (pieces : ℕ) (source : SourceView) (tree : Tree)
-    (output : List ℕ) → IsSummarized reading pieces tree output
-    → IsPrepared (asks reading (Make pieces)) source source tree output
-summary_prepared reading pieces source tree output h = record {
+pub summary_prepared : (reading : Reading) (pieces : ℕ) (source : SourceView) (p : Prepared)
+    → IsSummarized reading pieces p → IsPrepared (asks reading (Make pieces)) source source p
+summary_prepared reading pieces source p h = record {
   output_of = (
     made pieces,
     refl,
     record { accepted = tt; parsed = h.parsed },
-    h.summary,
+    ap (λ memory. prepared_output p.text.items memory p.parse) h.no_report ∙ h.summary,
   );
   balanced = h.balanced;
   end = tt;

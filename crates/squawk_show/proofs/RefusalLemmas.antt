@@ -8,7 +8,7 @@ use Rattle.squawk_events.specs.declared.error.FrontError.TheVariants.{TooLong, O
 use Rattle.squawk_show.specs.Command.{Request}
 use Rattle.squawk_show.specs.Edge.{SourceView, Takes, SourceFaultRose, SinkFaultRose}
 use Rattle.squawk_show.specs.Outcome.{status_of_error}
-use Rattle.squawk_show.specs.Run.{Run, IsRunRefusal, IsParseRefusal, IsPrepareRefusal, IsText, IsInvalidText, IsOverLimit, IsBadScript, HasBadRange, IsAcceptedScript, IsAll, IsInput, Accepts, parsed_text, Reads, ReadsSource, HasAcceptedInput, OnParsedText, SourceFailed, IsTreeOf, IsMalformedAt, MeetsBadRange, IsCutOff, text_of_script}
+use Rattle.squawk_show.specs.Run.{Run, IsRunRefusal, IsParseRefusal, IsReplayRefusal, IsPrepareRefusal, IsText, IsInvalidText, IsOverLimit, IsBadScript, HasBadRange, IsAcceptedScript, IsAll, IsInput, Accepts, parsed_text, Reads, ReadsSource, HasAcceptedInput, OnParsedText, SourceFailed, IsTreeOf, IsMalformedAt, MeetsBadRange, IsCutOff, text_of_script}
 use Rattle.squawk_show.specs.declared.command.Command.{Command}
 use Rattle.squawk_show.specs.declared.command.Command.TheVariants.{Report, Make, Replay}
 use Rattle.squawk_show.specs.declared.error.RunError.{RunError}
@@ -308,6 +308,31 @@ report_refused old new bytes (Front OutOfMemory) takes end h = tt
 report_refused old new bytes (Front BadRange) takes end h = absurd h
 report_refused old new bytes (BadScript at) takes end h = absurd h
 report_refused old new bytes WriteFault takes end h = absurd h
+
+-- why a script was not applied whose bytes were taken up to the end
+pub replay_refused : (old new : SourceView) (bytes : List ℕ) (e : RunError)
+    → Takes old new bytes → IsAtEnd new.left → IsReplayRefusal bytes e
+    → IsPrepareRefusal Replay old new e
+replay_refused old new bytes BadWords takes end h = absurd h
+replay_refused old new bytes ReadFault takes end h = absurd h
+replay_refused old new bytes (NotUtf8 at) takes end h = record {
+  reads = tt;
+  end = end;
+  input = (bytes, all_taken old.left new.left bytes takes.consumed end, h.0, h.1);
+}
+replay_refused old new bytes (Front TooLong) takes end h = absurd h
+replay_refused old new bytes (Front OutOfMemory) takes end h = tt
+replay_refused old new bytes (Front BadRange) takes end h = record {
+  replay = refl;
+  end = end;
+  input = (bytes, all_taken old.left new.left bytes takes.consumed end, h);
+}
+replay_refused old new bytes (BadScript at) takes end h = record {
+  replay = refl;
+  end = end;
+  input = (bytes, all_taken old.left new.left bytes takes.consumed end, h.0, h.1);
+}
+replay_refused old new bytes WriteFault takes end h = absurd h
 
 -- what holds of an input holds of all bytes left
 on_left : (P : List ℕ → Type 0) (left : Option (List ℕ)) (input : List ℕ) → IsAll left input

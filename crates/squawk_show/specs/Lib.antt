@@ -11,3 +11,4 @@ pub mod Summary
 pub mod Run
 -- What the contracts of private functions cite.
 pub mod Digits
+pub mod Output

@@ -59,7 +59,10 @@ abbrev pub parse_error_line : ParseError → List ℕ
 parse_error_line e = codes "E " ++ range_text (e.start, e.end) ++ (space ∷ [])
     ++ message_of e.number ++ (line_feed ∷ [])
 
+-- the lines of the steps of a tree
+abbrev pub tree_lines : List StrStep → List ℕ
+tree_lines steps = step_lines 0 (zip steps (ranges steps))
+
 -- the report of a tree: the lines of its steps, and then those of its errors
 abbrev pub report_of : Tree → List ℕ
-report_of tree = step_lines 0 (zip tree.steps (ranges tree.steps))
-    ++ flat_map parse_error_line tree.errors
+report_of tree = tree_lines tree.steps ++ flat_map parse_error_line tree.errors

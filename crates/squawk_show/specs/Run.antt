@@ -19,6 +19,7 @@ use Rattle.squawk_show.specs.declared.command.Command.TheVariants.{Report, Make,
 use Rattle.squawk_show.specs.declared.error.RunError.{RunError}
 use Rattle.squawk_show.specs.declared.error.RunError.TheVariants.{BadWords, ReadFault, NotUtf8, Front, BadScript, WriteFault}
 use Rattle.squawk_show.specs.declared.options.Reading.{Reading}
+use Rattle.squawk_show.specs.declared.program.Prepared.{Prepared}
 use Rattle.squawk_statements.specs.Children.{children}
 use Rattle.squawk_tree.specs.ParseOf.{parse_of, roles_of}
 use Rattle.squawk_tree.specs.Steps.{leaves, ranges_through, root_children, root_child}
@@ -316,24 +317,30 @@ IsPrepareRefusal command old new (Front BadRange) = MeetsBadRange (Ok command) o
 IsPrepareRefusal command old new (BadScript at) = IsMalformedAt at (Ok command) old new
 IsPrepareRefusal command old new WriteFault = ⊥
 
--- a command read what it reads of a source, and this is its tree, and its whole output
-pub record IsPrepared (request : Request) (old new : SourceView) (tree : Tree) (output : List ℕ)
-    : Type 0 where
-  pub output_of : IsOutputOf request old tree output
-  pub balanced : IsTree tree
+-- what is written of what a command made: a text, and then the report of the tree, if the memory for
+-- a report was made
+abbrev pub prepared_output : {A : Type 0} → List ℕ → Option A → Tree → List ℕ
+prepared_output text None tree = text
+prepared_output text (Some memory) tree = text ++ report_of tree
+
+-- a command read what it reads of a source, and made this before it writes
+pub record IsPrepared (request : Request) (old new : SourceView) (p : Prepared) : Type 0 where
+  pub output_of : IsOutputOf request old p.parse
+      (prepared_output p.text.items p.memory p.parse)
+  pub balanced : IsTree p.parse
   pub end : IsReadToEnd request.command new
 
 -- the tree of a made text, and its summary
-pub record IsSummarized (reading : Reading) (pieces : ℕ) (tree : Tree) (output : List ℕ)
-    : Type 0 where
-  pub parsed : IsParsed reading (made pieces) tree
-  pub balanced : IsTree tree
-  pub summary : output ≡ summary_line tree
+pub record IsSummarized (reading : Reading) (pieces : ℕ) (p : Prepared) : Type 0 where
+  pub parsed : IsParsed reading (made pieces) p.parse
+  pub balanced : IsTree p.parse
+  pub summary : p.text.items ≡ summary_line p.parse
+  pub no_report : p.memory ≡ None
 
--- the tree of the last text of a script, and the lines of its edits with the report of that tree
-pub record IsReplayed (reading : Reading) (script : List ℕ) (tree : Tree) (output : List ℕ)
+-- the tree of the last text of a script, and the lines of its edits
+pub record IsReplayed (reading : Reading) (script : List ℕ) (tree : Tree) (lines : List ℕ)
     : Type 0 where
   pub accepted : IsAcceptedScript script
   pub parsed : IsParsed reading (text_of_script script) tree
   pub balanced : IsTree tree
-  pub lines : output ≡ lines_of_script reading script ++ report_of tree
+  pub lines_are : lines ≡ lines_of_script reading script

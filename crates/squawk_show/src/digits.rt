@@ -7,9 +7,6 @@ use std::alloc::{AllocError, Global};
 // The numbers of at most four digits, one group, are those below.
 const GROUP: u32 = 10_000;
 
-// The bytes that `put_number` writes at most. A number has no more digits.
-pub(crate) const NUMBER_ROOM: usize = 10;
-
 // The ASCII code of a digit.
 fn digit(n: u32) -> u8
     requires { n < 10 }
@@ -259,8 +256,8 @@ impl DigitTables {
     }
 }
 
-// Writes the digits of a number at an offset, and returns the offset after them. It writes bytes
-// after them too: copies of a fixed size are faster than one of any size.
+// Writes the digits of a number at an offset, and returns the offset after them: at most ten. It
+// writes bytes after them too: copies of a fixed size are faster than one of any size.
 #[inline(always)]
 pub(crate) fn put_number(text: &mut [u8], at: usize, number: Number) -> usize
     requires { at + 10 ≤ length text.old }

@@ -1,17 +1,21 @@
 //! The lines of a report.
 //!
-//! Most lines of nodes and leaves have a short text. They are written in place at the end of the
-//! report, by copies of fixed sizes. The others are built in a `LineBuffer`.
-ghost use Rattle.std.specs.Prelude.{◌≡◌, ◌≤◌, ◌+◌, ◌%◌, ◌++◌, ◌∷◌, [], ◌<◌, length, take, drop, decimal, IfOk, OnOk};
+//! Most lines of nodes and leaves have a short text. They are written in place in the block, by
+//! copies of fixed sizes. The others are built in a `LineBuffer`.
+ghost use Rattle.std.specs.Prelude.{◌≡◌, ◌≤◌, ◌+◌, ◌%◌, ◌++◌, ◌∷◌, [], ◌<◌, length, take, drop, decimal};
 ghost use Rattle.squawk_lexer.specs.Classes.{space};
+ghost use Rattle.squawk_show.specs.Output.{block_len, line_room};
 ghost use Rattle.squawk_show.specs.Report as spec;
 
-use crate::digits::{DigitTables, NUMBER_ROOM, Number, put_number};
+use crate::block::Block;
+use crate::digits::{DigitTables, Number, put_number};
 use crate::line_buffer::LineBuffer;
 use squawk_events::{ParseError, message};
 use squawk_kinds::SyntaxKind;
 use squawk_names::name_window;
-use std::alloc::AllocError;
+
+// The size of a window: of a printed text with room around it for the rest of its line.
+const WINDOW: usize = 64;
 
 // The most bytes of a printed text whose line fits into its window with any range.
 const MAX_SHORT_TEXT: usize = 35;
@@ -20,15 +24,9 @@ const MAX_SHORT_TEXT: usize = 35;
 const SHORT_DEPTH_LIMIT: usize = 10_000_000_000;
 
 // Appends the line of a node or a leaf, whatever its depth and its range.
-fn push_any_line(
-    out: &mut Vec<u8>,
-    depth: usize,
-    letter: u8,
-    kind: SyntaxKind,
-    range: (u32, u32),
-) -> Result<(), AllocError>
-    ensures { OnOk result (out.new.items
-        ≡ out.old.items ++ spec.report_line depth letter kind range) }
+fn push_any_line(block: &mut Block, depth: usize, letter: u8, kind: SyntaxKind, range: (u32, u32))
+    requires { length block.old + line_room ≤ block_len }
+    ensures { block.new ≡ block.old ++ spec.report_line depth letter kind range }
 {
     let mut line = LineBuffer::new();
     line.prepend(b"\n");
@@ -39,8 +37,7 @@ fn push_any_line(
     line.prepend(kind.name().as_bytes());
     line.prepend(&[b' ', letter, b' ']);
     line.prepend_number(depth);
-    out.extend_from_slice(line.as_bytes())?;
-    Ok(())
+    block.push_text(line.as_bytes());
 }
 
 // Writes a byte at an offset, and returns the offset after it.
@@ -92,65 +89,44 @@ fn put_line(
     put_byte(text, at, b'\n')
 }
 
-// Appends a window of 64 bytes, in which the printed text starts at offset 4, and turns it into a
-// line.
+// Writes a line at an offset, and returns the offset after it. The printed text stands in a window
+// from offset 4 on. The rest of the window is overwritten too.
 #[inline(always)]
-fn push_short_line(
-    out: &mut Vec<u8>,
+pub(crate) fn put_short_line(
+    text: &mut [u8],
+    at: usize,
     window: &[u8],
     depth: usize,
     letter: u8,
     len: usize,
     start: Number,
     end: Number,
-) -> Result<(), AllocError>
-    requires { (length window.now ≡ 64) × ((len ≤ 35) × (depth < 10)) }
-    ensures { OnOk result (out.new.items ≡ out.old.items ++ spec.line_with_text depth letter
-        (take len (drop 4 window.now)) (start.value, end.value)) }
+) -> usize
+    requires room { at + 64 ≤ length text.old }
+    requires window { (length window.now ≡ 64) × ((len ≤ 35) × (depth < 10)) }
+    ensures near { (at ≤ result) × (result ≤ at + 64) }
+    ensures written { take result text.new ≡ take at text.old ++ spec.line_with_text depth letter
+        (take len (drop 4 window.now)) (start.value, end.value) }
+    ensures same_length { length text.new ≡ length text.old }
 {
-    let old = out.len();
-    out.extend_from_slice(window)?;
-    let count = put_line(
-        &mut out.as_mut_slice()[old..],
-        depth,
-        letter,
-        len,
-        start,
-        end,
-    );
-    out.truncate(old + count);
-    Ok(())
-}
-
-// Appends the digits of a number.
-#[inline(always)]
-fn push_number(out: &mut Vec<u8>, number: Number) -> Result<(), AllocError>
-    ensures { OnOk result (out.new.items ≡ out.old.items ++ decimal number.value) }
-{
-    let old = out.len();
-    out.extend_from_slice(&[b'0'; NUMBER_ROOM])?;
-    let count = put_number(&mut out.as_mut_slice()[old..], 0, number);
-    out.truncate(old + count);
-    Ok(())
+    text[at..at + WINDOW].copy_from_slice(window);
+    at + put_line(&mut text[at..at + WINDOW], depth, letter, len, start, end)
 }
 
 // Appends all digits of a depth but the last. Returns the last.
 #[inline(always)]
-fn push_upper_digits(
-    out: &mut Vec<u8>,
-    tables: &DigitTables,
-    depth: usize,
-) -> Result<usize, AllocError>
-    requires { depth < 10000000000 }
-    ensures digits { IfOk result (λ last. out.new.items ++ decimal last
-        ≡ out.old.items ++ decimal depth) }
-    ensures last { IfOk result (λ last. last < 10) }
+fn push_upper_digits(block: &mut Block, tables: &DigitTables, depth: usize) -> usize
+    requires depth { depth < 10000000000 }
+    requires room { length block.old + line_room ≤ block_len }
+    ensures digits { block.new ++ decimal result ≡ block.old ++ decimal depth }
+    ensures last { result < 10 }
+    ensures len { length block.new ≤ length block.old + 10 }
 {
     if depth < 10 {
-        return Ok(depth);
+        return depth;
     }
-    push_number(out, tables.number((depth / 10) as u32))?;
-    Ok(depth % 10)
+    block.push_number(tables.number((depth / 10) as u32));
+    depth % 10
 }
 
 // Appends a line as `push_line` does, whatever its depth and its range. Most reports have few lines
@@ -158,27 +134,27 @@ fn push_upper_digits(
 #[cold]
 #[inline(never)]
 fn push_rare_line(
-    out: &mut Vec<u8>,
+    block: &mut Block,
     tables: &Option<DigitTables>,
     depth: usize,
     letter: u8,
     kind: SyntaxKind,
     range: (u32, u32),
-) -> Result<Number, AllocError>
-    ensures { OnOk result (out.new.items
-        ≡ out.old.items ++ spec.report_line depth letter kind range) }
+) -> Number
+    requires { length block.old + line_room ≤ block_len }
+    ensures { block.new ≡ block.old ++ spec.report_line depth letter kind range }
 {
     if let (Some(tables), Some((window, len))) = (tables, name_window(kind.to_raw())) {
         if len <= MAX_SHORT_TEXT && depth < SHORT_DEPTH_LIMIT {
             let start = tables.number(range.0);
             let end = tables.number(range.1);
-            let digit = push_upper_digits(out, tables, depth)?;
-            push_short_line(out, window, digit, letter, len, start, end)?;
-            return Ok(end);
+            let digit = push_upper_digits(block, tables, depth);
+            block.push_short_line(window, digit, letter, len, start, end);
+            return end;
         }
     }
-    push_any_line(out, depth, letter, kind, range)?;
-    Ok(Number::zero())
+    push_any_line(block, depth, letter, kind, range);
+    Number::zero()
 }
 
 // Appends the line of a node or a leaf. Returns a number for the next line, which most often starts
@@ -188,32 +164,33 @@ fn push_rare_line(
 // one of which all digits but the last four are the same: they are written here.
 #[inline(always)]
 pub(crate) fn push_line(
-    out: &mut Vec<u8>,
+    block: &mut Block,
     tables: &Option<DigitTables>,
     last: Number,
     depth: usize,
     letter: u8,
     kind: SyntaxKind,
     range: (u32, u32),
-) -> Result<Number, AllocError>
-    ensures { OnOk result (out.new.items
-        ≡ out.old.items ++ spec.report_line depth letter kind range) }
+) -> Number
+    requires { length block.old + line_room ≤ block_len }
+    ensures { block.new ≡ block.old ++ spec.report_line depth letter kind range }
 {
     if let (Some(digits), Some((window, len))) = (tables, name_window(kind.to_raw())) {
         if len <= MAX_SHORT_TEXT && depth < 10 && last.value == range.0 {
             if let Some(end) = digits.number_sharing(last, range.1) {
-                push_short_line(out, window, depth, letter, len, last, end)?;
-                return Ok(end);
+                block.push_short_line(window, depth, letter, len, last, end);
+                return end;
             }
         }
     }
-    push_rare_line(out, tables, depth, letter, kind, range)
+    push_rare_line(block, tables, depth, letter, kind, range)
 }
 
 // Appends the line of an error in the text.
-pub(crate) fn push_error(out: &mut Vec<u8>, error: ParseError) -> Result<(), AllocError>
-    requires { (1 ≤ error.number) × (error.number ≤ 10) }
-    ensures { OnOk result (out.new.items ≡ out.old.items ++ spec.parse_error_line error) }
+pub(crate) fn push_error(block: &mut Block, error: ParseError)
+    requires number { (1 ≤ error.number) × (error.number ≤ 10) }
+    requires room { length block.old + line_room ≤ block_len }
+    ensures { block.new ≡ block.old ++ spec.parse_error_line error }
 {
     let mut line = LineBuffer::new();
     line.prepend(b"\n");
@@ -223,6 +200,5 @@ pub(crate) fn push_error(out: &mut Vec<u8>, error: ParseError) -> Result<(), All
     line.prepend(b"..");
     line.prepend_number(error.start as usize);
     line.prepend(b"E ");
-    out.extend_from_slice(line.as_bytes())?;
-    Ok(())
+    block.push_text(line.as_bytes());
 }

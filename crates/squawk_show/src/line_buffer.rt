@@ -5,7 +5,7 @@ use itoa::write_digits;
 use std::marker::Model;
 
 // The most bytes of a line. The longest line of a report has fewer than 110.
-const CAPACITY: usize = 128;
+pub(crate) const CAPACITY: usize = 128;
 
 // A line of at most 128 bytes, built from its end to its start, so that digits need no second copy.
 // It allocates nothing.
@@ -37,7 +37,8 @@ impl LineBuffer {
     }
 
     pub(crate) fn as_bytes(&self) -> &[u8]
-        ensures { result.now ≡ self.now }
+        ensures bytes { result.now ≡ self.now }
+        ensures len { length result.now ≤ 128 }
     {
         &self.bytes[self.start..]
     }

@@ -2,6 +2,7 @@
 //! what the edits of a script do.
 #![tactic(auto)]
 
+mod block;
 mod command;
 mod digits;
 mod edge;
@@ -27,7 +28,7 @@ pub use error::RunError;
 pub use options::Reading;
 pub use program::{Shown, run};
 pub use reading::read_all;
-pub use report::append_report;
+pub use report::{ReportMemory, write_report};
 use std::alloc::Global;
 use std::env;
 use std::io::{ErrorKind, Read, Write};

@@ -2,7 +2,7 @@
 ghost use Rattle.std.specs.Prelude.{◌⊎◌, ◌≡◌, ◌≢◌, ◌≤◌, ◌↔◌, ℕ, length, IfOk, IfErr, OnOk, IsErr, IsErrOf, IsOkUnless, IsSomeAnd, Ok, Err};
 ghost use Rattle.squawk_events.specs.Limit.{limit};
 ghost use Rattle.squawk_show.specs.Command.{asks, command_of, request_of, IsWithinPieces};
-ghost use Rattle.squawk_show.specs.Edge.{TakesAtMost, SinkFaultRose, SourceFaultRose};
+ghost use Rattle.squawk_show.specs.Edge.{AppendsAll, AppendsPrefix, HasCause, TakesAtMost, SinkFaultRose, SourceFaultRose};
 ghost use Rattle.squawk_show.specs.Made.{most_pieces};
 ghost use Rattle.squawk_show.specs.Run as spec;
 ghost use Rattle.squawk_show.specs.Run.{HasLeavesOf, IsDivided, IsReadToEnd, WritesErrorLine};
@@ -13,7 +13,10 @@ use crate::made::make_text;
 use crate::refusal::write_error_line;
 use crate::replay::prepare_replay;
 use crate::summary::make_summary;
-use crate::{Command, Reading, RunError, Sink, Source, append_report, read_all, write_whole};
+use crate::{
+    Command, Failed, Reading, ReportMemory, RunError, Sink, Source, read_all, write_report,
+    write_whole,
+};
 use squawk_events::{FrontError, LIMIT};
 use squawk_tree::{Parse, parse_divided};
 use std::alloc::Global;
@@ -42,55 +45,65 @@ fn parse_bytes(alloc: Global, bytes: &[u8], reading: Reading) -> Result<Parse, R
     }
 }
 
-// Reads the source to its end, and makes the tree of its text and the report.
+// What a command makes before it writes: its tree, the text that it writes first, and the memory
+// for the report of the tree, if the report follows.
+#[derive(Drop)]
+pub(crate) struct Prepared {
+    pub(crate) parse: Parse,
+    pub(crate) text: Vec<u8>,
+    pub(crate) memory: Option<ReportMemory>,
+}
+
+// Reads the source to its end, and makes the tree of its text.
 fn prepare_report<S: Source>(
     alloc: Global,
     reading: Reading,
     source: &mut S,
-) -> Result<(Parse, Vec<u8>), RunError>
-    ensures prepared { IfOk result (λ r. spec.IsPrepared (asks reading Command.Report)
-        (S.view source.old) (S.view source.new) r.0 r.1.items) }
+) -> Result<Prepared, RunError>
+    ensures prepared { IfOk result (spec.IsPrepared (asks reading Command.Report)
+        (S.view source.old) (S.view source.new)) }
     ensures refusals { IfErr result
         (spec.IsPrepareRefusal Command.Report (S.view source.old) (S.view source.new)) }
     ensures taken { result ≢ Err (RunError.Front FrontError.TooLong)
         → TakesAtMost (S.view source.old) (S.view source.new) limit }
 {
-    let mut bytes = read_all(alloc, source, LIMIT)?;
+    let bytes = read_all(alloc, source, LIMIT)?;
     let parse = parse_bytes(alloc, &bytes, reading)?;
-
-    // The tree does not borrow from the bytes: the report is made in their memory.
-    bytes.clear();
-    let report = append_report(alloc, bytes, &parse)?;
-    Ok((parse, report))
+    let memory = ReportMemory::new(alloc, parse.steps().len())?;
+    Ok(Prepared {
+        parse,
+        text: Vec::new(alloc),
+        memory: Some(memory),
+    })
 }
 
 // Makes a text, its tree and its summary.
-fn prepare_summary(
-    alloc: Global,
-    reading: Reading,
-    pieces: u32,
-) -> Result<(Parse, Vec<u8>), RunError>
+fn prepare_summary(alloc: Global, reading: Reading, pieces: u32) -> Result<Prepared, RunError>
     requires { pieces ≤ most_pieces }
-    ensures summarized { IfOk result (λ r. spec.IsSummarized reading pieces r.0 r.1.items) }
+    ensures summarized { IfOk result (spec.IsSummarized reading pieces) }
     ensures refusals { IsOkUnless result (RunError.Front FrontError.OutOfMemory) }
 {
     let text = make_text(alloc, pieces)?;
     let parse = parse_divided(alloc, text.as_str(), reading.strings, reading.division)?;
     drop(text);
-    let summary = make_summary(alloc, &parse)?;
-    Ok((parse, summary))
+    let text = make_summary(alloc, &parse)?;
+    Ok(Prepared {
+        parse,
+        text,
+        memory: None,
+    })
 }
 
-// Does all that a command does before it writes: returns its tree and its whole output.
+// Does all that a command does before it writes.
 fn prepare<S: Source>(
     alloc: Global,
     reading: Reading,
     command: Command,
     source: &mut S,
-) -> Result<(Parse, Vec<u8>), RunError>
+) -> Result<Prepared, RunError>
     requires { IsWithinPieces command }
-    ensures prepared { IfOk result (λ r. spec.IsPrepared (asks reading command)
-        (S.view source.old) (S.view source.new) r.0 r.1.items) }
+    ensures prepared { IfOk result (spec.IsPrepared (asks reading command)
+        (S.view source.old) (S.view source.new)) }
     ensures refusals { IfErr result
         (spec.IsPrepareRefusal command (S.view source.old) (S.view source.new)) }
     ensures unread { ¬ (spec.ReadsSource (Ok command)) → source.new ≡ source.old }
@@ -101,6 +114,25 @@ fn prepare<S: Source>(
         Command::Report => prepare_report(alloc, reading, source),
         Command::Make { pieces } => prepare_summary(alloc, reading, pieces),
         Command::Replay => prepare_replay(alloc, reading, source),
+    }
+}
+
+// Writes a text, and then the report of a tree, if a `ReportMemory` is given. Allocates nothing.
+fn write_output<K: Sink>(
+    out: &mut K,
+    text: &[u8],
+    parse: &Parse,
+    memory: Option<ReportMemory>,
+) -> Result<(), Failed>
+    ensures ok { OnOk result (AppendsAll (K.view out.old) (K.view out.new)
+        (spec.prepared_output text.now memory parse.now)) }
+    ensures prefix { AppendsPrefix (K.view out.old) (K.view out.new)
+        (spec.prepared_output text.now memory parse.now) }
+    ensures cause { HasCause (K.view out.old).faults (K.view out.new).faults result }
+{
+    match memory {
+        Some(memory) => write_report(out, text, parse, memory),
+        None => write_whole(out, text),
     }
 }
 
@@ -125,8 +157,12 @@ fn run_command<S: Source, K: Sink>(
         → TakesAtMost (S.view source.old) (S.view source.new) limit }
 {
     let (reading, command) = parse_words(words)?;
-    let (parse, output) = prepare(alloc, reading, command, source)?;
-    match write_whole(out, &output) {
+    let Prepared {
+        parse,
+        text,
+        memory,
+    } = prepare(alloc, reading, command, source)?;
+    match write_output(out, &text, &parse, memory) {
         Ok(()) => Ok(parse),
         Err(_) => Err(RunError::WriteFault),
     }
@@ -146,8 +182,9 @@ fn run_command<S: Source, K: Sink>(
 /// `--grouped` a semicolon in parentheses ends no statement. Either may be left out; `--backslash`
 /// is the first of both.
 ///
-/// The whole output is made before its first byte is written to `out`, and writing allocates
-/// nothing. After an error its line is written to `err`, whose faults change nothing.
+/// All that the output is made from is there before its first byte is written to `out`, and writing
+/// allocates nothing: no error but a fault of `out` comes after that. After an error its line is
+/// written to `err`, whose faults change nothing.
 pub fn run<S: Source, K: Sink, E: Sink>(
     alloc: Global,
     words: &[String],

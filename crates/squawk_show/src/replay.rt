@@ -9,7 +9,8 @@ ghost use Rattle.squawk_show.specs.Edge.{TakesAtMost};
 ghost use Rattle.squawk_show.specs.Run as spec;
 ghost use Rattle.squawk_tree.specs.Tree.{IsTree};
 
-use crate::{Command, Reading, RunError, Source, append_report, read_all};
+use crate::program::Prepared;
+use crate::{Command, Reading, ReportMemory, RunError, Source, read_all};
 use squawk_cut::PlainFront;
 use squawk_cut::laws::plain_fronts_parse;
 use squawk_document::Document;
@@ -40,8 +41,7 @@ fn parse_document(
     document.parse(alloc)
 }
 
-// Applies a script to the empty text. Returns the tree of the last text, and the lines of the edits
-// with the report of that tree after them.
+// Applies a script to the empty text. Returns the tree of the last text and the lines of the edits.
 fn replay_script(
     alloc: Global,
     reading: Reading,
@@ -53,10 +53,7 @@ fn replay_script(
 {
     let Replayed { document, lines } = replay_in(alloc, script, reading.strings, reading.division)?;
     let parse = parse_document(alloc, &document, reading)?;
-    // The tree does not borrow from the document: without it the report needs less memory.
-    drop(document);
-    let output = append_report(alloc, lines, &parse)?;
-    Ok((parse, output))
+    Ok((parse, lines))
 }
 
 // Checks that bytes are a script, and then applies it.
@@ -76,19 +73,25 @@ fn replay_bytes(alloc: Global, reading: Reading, bytes: &[u8]) -> Result<(Parse,
     }
 }
 
-// Reads a script to its end, and makes the tree of its last text and the output of `replay`.
+// Reads a script to its end, and makes the tree of its last text and the lines of its edits.
 pub(crate) fn prepare_replay<S: Source>(
     alloc: Global,
     reading: Reading,
     source: &mut S,
-) -> Result<(Parse, Vec<u8>), RunError>
-    ensures prepared { IfOk result (λ r. spec.IsPrepared (asks reading Command.Replay)
-        (S.view source.old) (S.view source.new) r.0 r.1.items) }
+) -> Result<Prepared, RunError>
+    ensures prepared { IfOk result (spec.IsPrepared (asks reading Command.Replay)
+        (S.view source.old) (S.view source.new)) }
     ensures refusals { IfErr result
         (spec.IsPrepareRefusal Command.Replay (S.view source.old) (S.view source.new)) }
     ensures taken { result ≢ Err (RunError.Front FrontError.TooLong)
         → TakesAtMost (S.view source.old) (S.view source.new) limit }
 {
     let bytes = read_all(alloc, source, LIMIT)?;
-    replay_bytes(alloc, reading, &bytes)
+    let (parse, text) = replay_bytes(alloc, reading, &bytes)?;
+    let memory = ReportMemory::new(alloc, parse.steps().len())?;
+    Ok(Prepared {
+        parse,
+        text,
+        memory: Some(memory),
+    })
 }

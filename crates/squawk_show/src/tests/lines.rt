@@ -1,7 +1,8 @@
 //! The lines of a report, at depths and with numbers of each length.
-use crate::append_report;
+use crate::block::Block;
 use crate::digits::{DigitTables, Number};
 use crate::line::push_line;
+use crate::{MemorySink, ReportMemory, write_report};
 use squawk_kinds::SyntaxKind;
 use squawk_tree::parse_source;
 use std::alloc::Global;
@@ -126,12 +127,12 @@ fn check_row(
     row: &Row<'_>,
 ) -> Result<(), Fail> {
     let zero = Number::zero();
-    let mut line = Vec::new(alloc);
+    let mut line = Block::new(alloc)?;
     let last = push_line(
         &mut line, tables, zero, row.depth, b'T', row.kind, row.range,
-    )?;
-    assert_eq!(rt; line.as_slice(), row.line.as_bytes(), "{}", row.name);
-    let mut next_line = Vec::new(alloc);
+    );
+    assert_eq!(rt; line.as_bytes(), row.line.as_bytes(), "{}", row.name);
+    let mut next_line = Block::new(alloc)?;
     let range = (row.range.1, row.range.1);
     push_line(
         &mut next_line,
@@ -141,9 +142,9 @@ fn check_row(
         b'T',
         row.kind,
         range,
-    )?;
+    );
     assert_eq!(rt;
-        next_line.as_slice(),
+        next_line.as_bytes(),
         row.next_line.as_bytes(),
         "{} next",
         row.name
@@ -178,7 +179,9 @@ fn reports_a_deep_tree(rt: HostRuntime) -> Result<(), Fail> {
         )?)?;
     }
     let parse = parse_source(rt.alloc(), &text)?;
-    let report = append_report(rt.alloc(), Vec::new(rt.alloc()), &parse)?;
-    assert_eq!(rt; report.as_slice(), expected.as_bytes());
+    let memory = ReportMemory::new(rt.alloc(), parse.steps().len())?;
+    let mut sink = MemorySink::new(rt.alloc(), 1_000_000, 1_000_000, &[])?;
+    assert!(rt; write_report(&mut sink, b"", &parse, memory).is_ok());
+    assert_eq!(rt; sink.taken(), expected.as_bytes());
     Ok(())
 }

@@ -5,6 +5,6 @@ use Rattle.squawk_show.proofs.line.push_upper_digits.Goals as goal
 
 pub returns-clause-digits : goal.returns-clause-digits
 returns-clause-digits c =
-    last_digit c.args.depth c.args.out.now.items _ c.if-depth-lt10.false
-    (omega (arith, c.requires)) (c.in_ok-push_number.ensures
-    ∙ ap (λ n. c.args.out.now.items ++ decimal n) c.number.ensures)
+    last_digit c.args.depth c.args.block.now _ c.if-depth-lt10.false
+    (omega (arith, c.requires.depth)) (c.push_number.ensures.text
+    ∙ ap (λ n. c.args.block.now ++ decimal n) c.number.ensures)

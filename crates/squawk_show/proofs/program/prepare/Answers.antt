@@ -9,6 +9,6 @@ pub returns-in-Make-clause-prepared : goal.returns-in-Make-clause-prepared
 returns-in-Make-clause-prepared g c =
     let source = g.S.Source.view c.args.source.now in
     subst (λ command. IfOk c.prepare_summary.result
-    (λ r. IsPrepared (asks c.args.reading command) source source r.0 r.1.items)) (sym c.in-Make.is)
-    (if_ok _ _ (λ r h. summary_prepared c.args.reading c.in-Make.pieces source r.0 r.1.items h)
+    (IsPrepared (asks c.args.reading command) source source)) (sym c.in-Make.is)
+    (if_ok _ _ (λ p h. summary_prepared c.args.reading c.in-Make.pieces source p h)
     c.prepare_summary.result c.prepare_summary.ensures.summarized)

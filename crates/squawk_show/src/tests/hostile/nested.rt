@@ -1,6 +1,6 @@
 //! Brackets and quotes in one another, and as deep as a text can have them.
 use super::{MANY, READINGS, Row, check_in_readings, edited_parse, same_parse, whole_parse};
-use crate::append_report;
+use crate::{MemorySink, ReportMemory, write_report};
 use std::alloc::Global;
 use std::process::Abort;
 use std::test::Fail;
@@ -310,9 +310,12 @@ const NESTED: &[Nested<'static>] = &[
 fn check_nested(rt: &impl Abort, alloc: Global, row: &Nested<'_>) -> Result<(), Fail> {
     for reading in READINGS {
         let parse = whole_parse(alloc, row.text, reading)?;
-        let report = append_report(alloc, Vec::new(alloc), &parse)?;
+        let memory = ReportMemory::new(alloc, parse.steps().len())?;
+        let mut sink = MemorySink::new(alloc, 10_000, 10_000, &[])?;
         let (name, read) = (row.name, reading.name);
-        assert_eq!(rt; report.as_slice(), row.report.as_bytes(), "{name}, {read}");
+        let result = write_report(&mut sink, b"", &parse, memory);
+        assert!(rt; result.is_ok(), "{name}, {read}");
+        assert_eq!(rt; sink.taken(), row.report.as_bytes(), "{name}, {read}");
         let edited = edited_parse(alloc, row.text, reading)?;
         assert!(rt; same_parse(&parse, &edited), "{name}, {read}");
     }
