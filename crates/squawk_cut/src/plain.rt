@@ -118,7 +118,8 @@ fn next_count(steps: u64) -> u64
     steps.saturating_add(1)
 }
 
-/// A front of the tokens of the lexer and the children of the division into statements.
+/// The front whose tokens are those of the lexer, and whose children are those of the division into
+/// statements.
 #[derive(Drop)]
 pub struct PlainFront {
     strings: Strings,

@@ -10,5 +10,5 @@ pub mod FrontPart
 pub mod Recut
 pub mod TokenEdit
 pub mod ChildEdit
--- what a front of the tests tells
+-- what the tests' own front tells
 pub mod TokenFront

@@ -1,4 +1,4 @@
--- What a front of the tests tells: the tokens of the lexer, each of which is a closed child. A law
+-- What the tests' own front tells: the tokens of the lexer, each of which is a closed child. A law
 -- of the trait `Front` may cite definitions alone, so its proof stands here.
 use Rattle.std.proofs.Common.{◌≡◌, true, List, [], ◌∷◌, ◌++◌, length, map, take, refl, sym, arith}
 use Rattle.std.specs.Str.{chars}

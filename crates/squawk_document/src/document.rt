@@ -186,8 +186,8 @@ impl<F: Front> Document<F> {
     }
 }
 
-// The tree of the children of a text's root. `front` and `text` stand in the contract alone: it says
-// here what a document always holds.
+// The tree of the children of a text's root. `front` and `text` stand in the contract alone: it
+// says here what a document always holds.
 fn join_within<F: Front>(
     alloc: Global,
     front: &F,

@@ -18,8 +18,8 @@ use std::alloc::{AllocError, Global};
 // for so many tokens.
 const TOKENS_PER_NODE_STEP: usize = 4;
 
-// A tree while it is built. Counts may be missing for the steps after the last `Enter` or `Exit`: up
-// to the next one they are all the same, and it appends them.
+// A tree while it is built. Counts may be missing for the steps after the last `Enter` or `Exit`:
+// up to the next one they are all the same, and it appends them.
 #[derive(Drop)]
 pub(crate) struct TreeBuilder {
     pub(crate) steps: Vec<StrStep>,
