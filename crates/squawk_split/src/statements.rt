@@ -4,13 +4,13 @@ ghost use Rattle.std.specs.Str.{IsCharBoundary};
 ghost use Rattle.squawk_kinds.specs.Role.{role};
 ghost use Rattle.squawk_split.specs.Pieces.{tokens_of};
 ghost use Rattle.squawk_split.specs.StatementEnds.{start_state, state_after, end_from};
-ghost use Rattle.squawk_statements.specs.Children.{ends_statement, open_groups_after};
+ghost use Rattle.squawk_statements.specs.Children.{open_groups_after};
 
 use squawk_events::is_trivia;
 use squawk_kinds::SyntaxKind;
 use squawk_lexed::kind_of;
 use squawk_lexer::{Strings, cut_at_in};
-use squawk_statements::Division;
+use squawk_statements::{Division, ends_statement};
 
 // What was read of a statement: how many groups are open, whether its last kind is a FROM outside
 // of all groups, and whether a STDIN followed such a FROM.
@@ -56,21 +56,6 @@ fn open_groups_after(groups: usize, kind: SyntaxKind) -> usize
         SyntaxKind::L_PAREN => groups + 1,
         SyntaxKind::R_PAREN => groups.saturating_sub(1),
         _ => groups,
-    }
-}
-
-// Whether the kind ends a statement in which `groups` groups are open.
-#[tactic(auto, unfolding(squawk_kinds::specs::Role::role))]
-fn ends_statement(division: Division, groups: usize, kind: SyntaxKind) -> bool
-    ensures { result ≡ ends_statement division groups (role kind) }
-{
-    match kind {
-        SyntaxKind::PSQL_TERMINATOR_TEXT => true,
-        SyntaxKind::SEMICOLON => match division {
-            Division::Flat => true,
-            Division::Grouped => groups == 0,
-        },
-        _ => false,
     }
 }
 
