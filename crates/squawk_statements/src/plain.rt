@@ -12,7 +12,8 @@ use crate::node::statement_node;
 use squawk_events::{FrontError, Grammar, Input, Output};
 use squawk_kinds::SyntaxKind;
 
-/// Appends an `Exit` for each of `groups` open groups. Fails only if memory runs out.
+/// Appends an `Exit` for each of `groups` open groups. `output` must have at least that many open
+/// nodes. Fails only if memory runs out.
 pub fn emit_exits(output: &mut Output, groups: usize) -> Result<(), FrontError>
     requires { groups ≤ depth_of output.old }
     ensures ok { OnOk result (output.new ≡ output.old ++ exits groups) }
@@ -28,7 +29,8 @@ pub fn emit_exits(output: &mut Output, groups: usize) -> Result<(), FrontError>
 }
 
 /// Appends the steps of a token of a child in which `groups` groups are open. Returns the number of
-/// open groups after it. Fails only if memory runs out.
+/// open groups after it. `output` must have at least `groups` open nodes, and `groups` must be
+/// below 2^63. Fails only if memory runs out.
 #[tactic(auto, unfolding(squawk_kinds::specs::Role::role))]
 pub fn emit_token(
     output: &mut Output,
@@ -112,8 +114,8 @@ fn node_of(kinds: &[SyntaxKind]) -> SyntaxKind
     }
 }
 
-/// Appends the steps of a child of these kinds, none of which is trivia. There must be at least one
-/// kind. Fails only if memory runs out.
+/// Appends the steps of a child of these kinds. There must be at least one kind. Fails only if
+/// memory runs out.
 pub fn emit_child(
     output: &mut Output,
     division: Division,
