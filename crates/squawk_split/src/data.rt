@@ -22,13 +22,13 @@ fn end_marker_len(text: &[u8]) -> usize
     0
 }
 
-/// Returns the length in bytes of the COPY data that begins `text`, the text directly after the `;`
-/// of a `COPY .. FROM STDIN`.
+/// Returns the length in bytes of the COPY data that begins `text`, the text directly after the
+/// semicolon of a `COPY .. FROM STDIN`.
 ///
 /// The data ends with the first end-of-data marker, which is part of it: a line that is exactly
 /// `\.` (PostgreSQL's manual, COPY, "Text Format"). The line ends with LF, with CR and LF, or with
-/// the text. A marker begins directly after an LF, so the rest of the line of the `;` is never one.
-/// Without a marker, the data is the whole text.
+/// the text. A marker begins directly after an LF, so the rest of the semicolon's line is never
+/// one. Without a marker, the data is the whole text.
 pub fn copy_data_len(text: &[u8]) -> usize
     ensures len { result ≡ copy_data_len text.now }
     ensures within { result ≤ length text.now }

@@ -28,7 +28,7 @@ pub enum PieceKind {
     Statement,
     /// A psql command by itself.
     Command,
-    /// The data after a `COPY .. FROM STDIN;`, up to its end-of-data marker.
+    /// The data after a `COPY .. FROM STDIN` that a semicolon ends, up to its end-of-data marker.
     CopyData,
 }
 
@@ -142,7 +142,7 @@ fn data_or_child(
     next_child(text, at, strings, division)
 }
 
-// The same. A piece has at least one byte and ends at a character boundary.
+// The piece that begins at `at`. It has at least one byte and ends at a character boundary.
 fn next_piece(
     text: &str,
     at: usize,
@@ -168,9 +168,12 @@ fn next_piece(
 /// statement.
 ///
 /// A piece is a child of the root, as of `parse_divided`, or the data of a COPY. Data follows a
-/// statement that begins with `COPY`, ends with `;` and has `FROM STDIN` outside all parentheses.
-/// It extends as far as [`copy_data_len`] says, and the children after it are those of the
-/// remaining script by itself. At the end of the script there is no piece of data.
+/// statement that begins with `COPY`, ends with `;` or `\;` and has `FROM STDIN` outside all
+/// parentheses. It extends as far as [`copy_data_len`] says, and the children after it are those of
+/// the remaining script by itself. At the end of the script there is no piece of data.
+///
+/// It is not promised that psql reads the data there: at `\;` psql does not send the statement, and
+/// reads the lines after it as SQL.
 ///
 /// # Errors
 ///

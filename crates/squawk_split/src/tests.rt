@@ -58,7 +58,7 @@ const SCRIPTS: &[(&str, &str, &[(PieceKind, &str)])] = &[
         &[(Statement, "copy t from stdin;")],
     ),
     (
-        "marker at the end of the script",
+        "no marker on the line of the semicolon",
         "copy t from stdin;\\.",
         &[(Statement, "copy t from stdin;"), (CopyData, "\\.")],
     ),
@@ -147,6 +147,11 @@ const SCRIPTS: &[(&str, &str, &[(PieceKind, &str)])] = &[
         ],
     ),
     (
+        "quote after a backslash",
+        "select 'a\\';'",
+        &[(Statement, "select 'a\\';"), (Statement, "'")],
+    ),
+    (
         "statement without an end",
         "select 1 -- a\n",
         &[
@@ -197,14 +202,22 @@ const GROUPED: &[(&str, &str, &[(PieceKind, &str)])] = &[
     ),
 ];
 
+// Scripts and their pieces where a backslash escapes the next character of a plain string.
+const BACKSLASH: &[(&str, &str, &[(PieceKind, &str)])] = &[(
+    "quote after a backslash",
+    "select 'a\\';'",
+    &[(Statement, "select 'a\\';'")],
+)];
+
 fn check_scripts(
     rt: &impl Abort,
     alloc: Global,
+    strings: Strings,
     division: Division,
     rows: &[(&str, &str, &[(PieceKind, &str)])],
 ) -> Result<(), Fail> {
     for &(name, script, expected) in rows {
-        let pieces = split(alloc, script, Strings::Standard, division)?;
+        let pieces = split(alloc, script, strings, division)?;
         let mut found = Vec::new(alloc);
         for piece in pieces.pieces() {
             let (start, end) = (piece.start as usize, piece.end as usize);
@@ -219,10 +232,27 @@ fn check_scripts(
 
 #[test]
 fn splits_scripts(rt: HostRuntime) -> Result<(), Fail> {
-    check_scripts(&rt, rt.alloc(), Division::Flat, SCRIPTS)
+    check_scripts(&rt, rt.alloc(), Strings::Standard, Division::Flat, SCRIPTS)
+}
+
+#[test]
+fn splits_scripts_by_the_setting_of_strings(rt: HostRuntime) -> Result<(), Fail> {
+    check_scripts(
+        &rt,
+        rt.alloc(),
+        Strings::Backslash,
+        Division::Flat,
+        BACKSLASH,
+    )
 }
 
 #[test]
 fn splits_scripts_with_groups(rt: HostRuntime) -> Result<(), Fail> {
-    check_scripts(&rt, rt.alloc(), Division::Grouped, GROUPED)
+    check_scripts(
+        &rt,
+        rt.alloc(),
+        Strings::Standard,
+        Division::Grouped,
+        GROUPED,
+    )
 }
