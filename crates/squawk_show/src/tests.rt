@@ -1,4 +1,4 @@
-//! What no clause says: worked examples with ample memory, and a fault at each call.
+//! What no clause says: worked examples with ample memory.
 mod bad_scripts;
 mod commands;
 mod errors;
@@ -62,35 +62,27 @@ const COMMENT_HALF: &[u8] = b"0 N source file 0..3\n\
     1 T comment 0..3\n\
     E 0..3 unterminated block comment\n";
 
-const READ_LINE: &[u8] = b"cannot read the input\n";
-
-const WRITE_LINE: &[u8] = b"cannot write the output\n";
-
-// A run: the bytes of the source; of each stream the most bytes of a call, and the calls that fail;
-// the room of the output; and the expected status, output and line on `err`.
+// A run: the bytes of the source; the most bytes that a read and a write move; and the expected
+// status, output and line on `err`.
 #[derive(Clone, Copy)]
 struct Row<'a> {
     name: &'a str,
     input: &'a [u8],
-    read: (usize, &'a [u64]),
-    write: (usize, &'a [u64]),
-    room: usize,
-    write_err: (usize, &'a [u64]),
+    read: usize,
+    write: usize,
     status: u8,
     out: &'a [u8],
     err: &'a [u8],
 }
 
 impl<'a> Row<'a> {
-    // A run that reads and writes all at once, and never fails.
+    // A run that reads and writes all at once.
     fn new(name: &'a str, input: &'a [u8], status: u8, out: &'a [u8], err: &'a [u8]) -> Row<'a> {
         Row {
             name,
             input,
-            read: (1000, &[]),
-            write: (1000, &[]),
-            room: 1000,
-            write_err: (1000, &[]),
+            read: 1000,
+            write: 1000,
             status,
             out,
             err,
@@ -100,12 +92,10 @@ impl<'a> Row<'a> {
 
 // Runs the program without words as a row says.
 fn check_row(rt: &impl Abort, alloc: Global, row: &Row<'_>) -> Result<(), Fail> {
-    let write_err_most = row.write_err.0;
-    assert!(rt; row.read.0 > 0 && row.write.0 > 0);
-    assert!(rt; write_err_most > 0);
-    let mut source = MemorySource::new(alloc, row.input, row.read.0, row.read.1)?;
-    let mut out = MemorySink::new(alloc, row.room, row.write.0, row.write.1)?;
-    let mut err = MemorySink::new(alloc, 1000, write_err_most, row.write_err.1)?;
+    assert!(rt; row.read > 0 && row.write > 0);
+    let mut source = MemorySource::new(alloc, row.input, row.read, &[])?;
+    let mut out = MemorySink::new(alloc, 1000, row.write, &[])?;
+    let mut err = MemorySink::new(alloc, 1000, 1000, &[])?;
     let result = run(alloc, &[], &mut source, &mut out, &mut err);
     assert_eq!(rt; result.status, row.status, "{}", row.name);
     assert_eq!(rt; out.taken(), row.out, "{}", row.name);
@@ -143,64 +133,13 @@ fn runs_without_words(rt: HostRuntime) -> Result<(), Fail> {
         Row::new("comment_half", b"/*/", 0, COMMENT_HALF, b""),
         Row::new("not_utf8", b"\x73\xff", 4, b"", b"not UTF-8 at 1\n"),
         Row {
-            read: (4, &[2]),
-            ..Row::new("second_read_fails", b"select 1;", 3, b"", READ_LINE)
-        },
-        Row {
-            write: (1000, &[1]),
-            ..Row::new("first_write_fails", b"select 1;", 7, b"", WRITE_LINE)
-        },
-        Row {
-            room: 20,
-            ..Row::new(
-                "little_room",
-                b"select 1;",
-                7,
-                b"0 N source file 0..9",
-                WRITE_LINE,
-            )
-        },
-        Row {
-            read: (1, &[]),
-            write: (1, &[]),
+            read: 1,
+            write: 1,
             ..Row::new("a_byte_at_a_time", b"select 1;", 0, SELECT_ONE, b"")
-        },
-        Row {
-            write_err: (1, &[3]),
-            ..Row::new("error_line_cut_off", b"\xff", 4, b"", b"no")
         },
     ];
     for row in &rows {
         check_row(&rt, rt.alloc(), row)?;
-    }
-    Ok(())
-}
-
-// Four calls read the input, and three write the report. A fault at one of them ends the run; one
-// that is set for a later call never comes.
-#[test]
-fn a_fault_at_each_call(rt: HostRuntime) -> Result<(), Fail> {
-    for (failing, read_status, write_status, written) in [
-        (1, 3, 7, 0),
-        (2, 3, 7, 50),
-        (3, 3, 7, 100),
-        (4, 3, 0, 113),
-        (5, 0, 0, 113),
-    ] {
-        let calls = [failing];
-        let mut err = MemorySink::new(rt.alloc(), 1000, 1000, &[])?;
-        let mut source = MemorySource::new(rt.alloc(), b"select 1;", 4, &calls)?;
-        let mut out = MemorySink::new(rt.alloc(), 1000, 1000, &[])?;
-        let result = run(rt.alloc(), &[], &mut source, &mut out, &mut err);
-        assert_eq!(rt; result.status, read_status, "call {failing}");
-        assert_eq!(rt; out.taken().is_empty(), read_status != 0, "call {failing}");
-        assert_eq!(rt; source.faults() == 1, read_status != 0, "call {failing}");
-        let mut source = MemorySource::new(rt.alloc(), b"select 1;", 1000, &[])?;
-        let mut out = MemorySink::new(rt.alloc(), 1000, 50, &calls)?;
-        let result = run(rt.alloc(), &[], &mut source, &mut out, &mut err);
-        assert_eq!(rt; result.status, write_status, "call {failing}");
-        assert_eq!(rt; out.taken().len(), written, "call {failing}");
-        assert_eq!(rt; out.faults() == 1, write_status != 0, "call {failing}");
     }
     Ok(())
 }

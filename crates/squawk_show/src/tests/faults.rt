@@ -1,10 +1,15 @@
 //! Runs over sources and sinks that fail: at each call, one byte at a time, and with little room.
+use crate::tests::SELECT_ONE;
 use crate::tests::commands::command_line;
-use crate::tests::{READ_LINE, SELECT_ONE, WRITE_LINE};
+use crate::tests::hostile::push_times;
 use crate::{MemorySink, MemorySource, run};
 use std::alloc::Global;
 use std::process::Abort;
 use std::test::Fail;
+
+const READ_LINE: &[u8] = b"cannot read the input\n";
+
+const WRITE_LINE: &[u8] = b"cannot write the output\n";
 
 const BAD_WORDS_LINE: &[u8] = b"bad words\n";
 
@@ -75,6 +80,16 @@ fn check_run(rt: &impl Abort, alloc: Global, run_of: &Run<'_>, row: &Row<'_>) ->
         err.taken(),
         row.line,
         "{name}, read {reads:?}, write {writes:?}"
+    );
+    assert_eq!(rt;
+        source.faults() == 1,
+        row.status == 3,
+        "{name}, read {reads:?}"
+    );
+    assert_eq!(rt;
+        out.faults() == 1,
+        row.status == 7,
+        "{name}, write {writes:?}"
     );
     Ok(())
 }
@@ -255,6 +270,86 @@ fn check_refusal(rt: &impl Abort, alloc: Global, row: &Refusal<'_>) -> Result<()
 fn each_write_of_the_error_line_fails(rt: HostRuntime) -> Result<(), Fail> {
     for row in REFUSALS {
         check_refusal(&rt, rt.alloc(), row)?;
+    }
+    Ok(())
+}
+
+// A command whose input is a part that is repeated so many times, and whose output has this length.
+// Each write takes all that it gets. Before each of them `out` has taken so many bytes.
+struct Long<'a> {
+    name: &'a str,
+    words: &'a [&'a str],
+    part: &'a str,
+    times: u32,
+    len: usize,
+    taken: &'a [usize],
+}
+
+// A block is written when it has no room for 128 bytes more, so after at least 65409 bytes. The
+// lines of edits are longer than a block, and are written as a whole.
+const LONG: &[Long<'static>] = &[
+    Long {
+        name: "report",
+        words: &[],
+        part: ";",
+        times: 2000,
+        len: 85_590,
+        taken: &[0, 65_411],
+    },
+    Long {
+        name: "replay",
+        words: &["replay"],
+        part: "@0 0 1\n;\n",
+        times: 2000,
+        len: 172_257,
+        taken: &[0, 86_667, 152_078],
+    },
+];
+
+// What a long run writes to a sink that fails at these calls. Checks the status.
+fn written(
+    rt: &impl Abort,
+    alloc: Global,
+    row: &Long<'_>,
+    failing: &[u64],
+    status: u8,
+) -> Result<Vec<u8>, Fail> {
+    let words = command_line(alloc, row.words)?;
+    let mut input = String::new(alloc);
+    push_times(&mut input, row.part, row.times)?;
+    let mut source = MemorySource::new(alloc, input.as_bytes(), 100_000, &[])?;
+    let mut out = MemorySink::new(alloc, 200_000, 200_000, failing)?;
+    let mut err = MemorySink::new(alloc, 100, 100, &[])?;
+    let result = run(alloc, &words, &mut source, &mut out, &mut err);
+    assert_eq!(rt; result.status, status, "{}, write {failing:?}", row.name);
+    Ok(Vec::from_slice(alloc, out.taken())?)
+}
+
+// Each write of a long output fails in turn. What the sink has taken then begins the whole output.
+fn check_long(rt: &impl Abort, alloc: Global, row: &Long<'_>) -> Result<(), Fail> {
+    let whole = written(rt, alloc, row, &[], 0)?;
+    assert_eq!(rt; whole.len(), row.len, "{}", row.name);
+    let mut failing = 0u64;
+    for &taken in row.taken {
+        failing = failing.saturating_add(1);
+        let begun = written(rt, alloc, row, &[failing], 7)?;
+        assert_eq!(rt; begun.len(), taken, "{}, write {failing}", row.name);
+        assert!(rt;
+            whole.as_slice().starts_with(begun.as_slice()),
+            "{}, write {failing}",
+            row.name
+        );
+    }
+    // There is no further write.
+    let later = written(rt, alloc, row, &[failing.saturating_add(1)], 0)?;
+    assert_eq!(rt; later.as_slice(), whole.as_slice(), "{}", row.name);
+    Ok(())
+}
+
+#[test]
+fn each_write_of_a_long_output_fails(rt: HostRuntime) -> Result<(), Fail> {
+    for row in LONG {
+        check_long(&rt, rt.alloc(), row)?;
     }
     Ok(())
 }

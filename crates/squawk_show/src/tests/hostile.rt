@@ -76,7 +76,7 @@ fn repeated(alloc: Global, parts: &[(&str, u32)]) -> Result<String, AllocError> 
 }
 
 // Appends a part so many times.
-fn push_times(text: &mut String, part: &str, times: u32) -> Result<(), AllocError> {
+pub(crate) fn push_times(text: &mut String, part: &str, times: u32) -> Result<(), AllocError> {
     for _ in 0..times {
         text.push_str(part)?;
     }
