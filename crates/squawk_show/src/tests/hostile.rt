@@ -4,41 +4,49 @@ mod nested;
 mod short;
 mod tokens;
 
+use crate::Reading;
 use squawk_cut::{Division, Parse, PlainFront, StrStep, Strings};
 use squawk_document::Document;
 use squawk_events::message;
-use squawk_tree::{ChildSpan, parse_divided};
+use squawk_tree::{ChildSpan, parse_divided, parse_source};
 use std::alloc::{AllocError, Global};
 use std::process::Abort;
 use std::test::Fail;
 
-// How plain strings are read, and whether a semicolon between parentheses ends a statement.
-struct Reading<'a> {
+// A reading, and its name.
+struct NamedReading<'a> {
     name: &'a str,
-    strings: Strings,
-    division: Division,
+    reading: Reading,
 }
 
-const READINGS: &[Reading<'static>] = &[
-    Reading {
+const READINGS: &[NamedReading<'static>] = &[
+    NamedReading {
         name: "standard, flat",
-        strings: Strings::Standard,
-        division: Division::Flat,
+        reading: Reading {
+            strings: Strings::Standard,
+            division: Division::Flat,
+        },
     },
-    Reading {
+    NamedReading {
         name: "standard, grouped",
-        strings: Strings::Standard,
-        division: Division::Grouped,
+        reading: Reading {
+            strings: Strings::Standard,
+            division: Division::Grouped,
+        },
     },
-    Reading {
+    NamedReading {
         name: "backslash, flat",
-        strings: Strings::Backslash,
-        division: Division::Flat,
+        reading: Reading {
+            strings: Strings::Backslash,
+            division: Division::Flat,
+        },
     },
-    Reading {
+    NamedReading {
         name: "backslash, grouped",
-        strings: Strings::Backslash,
-        division: Division::Grouped,
+        reading: Reading {
+            strings: Strings::Backslash,
+            division: Division::Grouped,
+        },
     },
 ];
 
@@ -48,19 +56,19 @@ fn same_parse(a: &Parse, b: &Parse) -> bool {
 }
 
 // The parse of a text in a reading.
-fn whole_parse(alloc: Global, text: &str, reading: &Reading<'_>) -> Result<Parse, Fail> {
+fn whole_parse(alloc: Global, text: &str, reading: Reading) -> Result<Parse, Fail> {
     let parse = parse_divided(alloc, text, reading.strings, reading.division);
     Ok(parse.ok().ok_or("no memory")?)
 }
 
 // A document in a reading, whose text is empty.
-fn empty_document(alloc: Global, reading: &Reading<'_>) -> Result<Document<PlainFront>, Fail> {
+fn empty_document(alloc: Global, reading: Reading) -> Result<Document<PlainFront>, Fail> {
     let front = PlainFront::new_divided(reading.strings, reading.division);
     Ok(Document::new(alloc, front, "").ok().ok_or("no memory")?)
 }
 
 // The parse of a text that is put into an empty document by one edit.
-fn edited_parse(alloc: Global, text: &str, reading: &Reading<'_>) -> Result<Parse, Fail> {
+fn edited_parse(alloc: Global, text: &str, reading: Reading) -> Result<Parse, Fail> {
     let mut document = empty_document(alloc, reading)?;
     document.edit(0, 0, text).ok().ok_or("refused")?;
     Ok(document.parse(alloc).ok().ok_or("no memory")?)
@@ -134,24 +142,28 @@ fn check_row(
     alloc: Global,
     row: &Row<'_>,
     text: &str,
-    reading: &Reading<'_>,
+    named: &NamedReading<'_>,
 ) -> Result<(), Fail> {
-    let parse = whole_parse(alloc, text, reading)?;
-    let (name, read) = (row.name, reading.name);
+    let parse = whole_parse(alloc, text, named.reading)?;
+    let (name, read) = (row.name, named.name);
     assert_eq!(rt; parse.steps().len(), row.steps, "{name}, {read}");
     assert_eq!(rt; parse.children().len(), row.children, "{name}, {read}");
     let lines = render(alloc, &parse, MOST_CHILDREN)?;
     assert_eq!(rt; lines.as_str(), row.lines, "{name}, {read}");
-    let edited = edited_parse(alloc, text, reading)?;
+    let edited = edited_parse(alloc, text, named.reading)?;
     assert!(rt; same_parse(&parse, &edited), "{name}, {read}");
+    if named.reading.strings == Strings::Standard && named.reading.division == Division::Flat {
+        let source = parse_source(alloc, text).ok().ok_or("no memory")?;
+        assert!(rt; same_parse(&parse, &source), "{name}, {read}");
+    }
     Ok(())
 }
 
 // Checks a text in each reading, which all parse it alike.
 fn check_in_readings(rt: &impl Abort, alloc: Global, row: &Row<'_>) -> Result<(), Fail> {
     let text = repeated(alloc, row.parts)?;
-    for reading in READINGS {
-        check_row(rt, alloc, row, text.as_str(), reading)?;
+    for named in READINGS {
+        check_row(rt, alloc, row, text.as_str(), named)?;
     }
     Ok(())
 }

@@ -107,60 +107,60 @@ const SCRIPT: &str = "create rule r as on insert to t do (notify a; notify b);\n
     select 'it\\'s; on';\n";
 
 // The words of a run without a command, the text, and the nodes under the root of its tree.
-struct Division<'a> {
+struct DividedText<'a> {
     name: &'a str,
     words: &'a [&'a str],
     text: &'a str,
     nodes: &'a str,
 }
 
-const DIVISIONS: &[Division<'static>] = &[
-    Division {
+const DIVIDED_TEXTS: &[DividedText<'static>] = &[
+    DividedText {
         name: "group_is_cut",
         words: &[],
         text: "(a;\\g",
         nodes: "0..3 paren select, 3..5 psql command, ",
     },
-    Division {
+    DividedText {
         name: "rule_with_two_statements",
         words: &["--grouped"],
         text: RULE,
         nodes: "0..56 create rule, ",
     },
-    Division {
+    DividedText {
         name: "rule_is_cut",
         words: &[],
         text: RULE,
         nodes: "0..45 create rule, 46..56 select, ",
     },
-    Division {
+    DividedText {
         name: "terminator_in_two_groups",
         words: &["--grouped"],
         text: "select ((1;2 \\g\nselect 3;",
         nodes: "0..15 select, 16..25 select, ",
     },
-    Division {
+    DividedText {
         name: "standard_and_flat",
         words: &[],
         text: SCRIPT,
         nodes: "0..45 create rule, 46..56 notify, 57..111 create function, \
             112..116 commit transaction, 117..131 select, 132..137 error, ",
     },
-    Division {
+    DividedText {
         name: "backslash_and_flat",
         words: &["--backslash"],
         text: SCRIPT,
         nodes: "0..45 create rule, 46..56 notify, 57..111 create function, \
             112..116 commit transaction, 117..136 select, ",
     },
-    Division {
+    DividedText {
         name: "standard_and_grouped",
         words: &["--grouped"],
         text: SCRIPT,
         nodes: "0..56 create rule, 57..111 create function, \
             112..116 commit transaction, 117..131 select, 132..137 error, ",
     },
-    Division {
+    DividedText {
         name: "backslash_and_grouped",
         words: &["--backslash", "--grouped"],
         text: SCRIPT,
@@ -192,7 +192,7 @@ fn outcome(alloc: Global, words: &[&str], text: &str) -> Result<Result<Parse, Ru
 
 #[test]
 fn readings_divide_texts(rt: HostRuntime) -> Result<(), Fail> {
-    for row in DIVISIONS {
+    for row in DIVIDED_TEXTS {
         let parse = outcome(rt.alloc(), row.words, row.text)?
             .ok()
             .ok_or(row.name)?;

@@ -308,15 +308,15 @@ const NESTED: &[Nested<'static>] = &[
 // Checks the report of a text in each reading, and that an edit of an empty document has the same
 // parse.
 fn check_nested(rt: &impl Abort, alloc: Global, row: &Nested<'_>) -> Result<(), Fail> {
-    for reading in READINGS {
-        let parse = whole_parse(alloc, row.text, reading)?;
+    for named in READINGS {
+        let parse = whole_parse(alloc, row.text, named.reading)?;
         let memory = ReportMemory::new(alloc, parse.steps().len())?;
         let mut sink = MemorySink::new(alloc, 10_000, 10_000, &[])?;
-        let (name, read) = (row.name, reading.name);
+        let (name, read) = (row.name, named.name);
         let result = write_report(&mut sink, b"", &parse, memory);
         assert!(rt; result.is_ok(), "{name}, {read}");
         assert_eq!(rt; sink.taken(), row.report.as_bytes(), "{name}, {read}");
-        let edited = edited_parse(alloc, row.text, reading)?;
+        let edited = edited_parse(alloc, row.text, named.reading)?;
         assert!(rt; same_parse(&parse, &edited), "{name}, {read}");
     }
     Ok(())
@@ -440,7 +440,8 @@ const DEEP: &[Row<'static>] = &[
         parts: &[("\\g ", 1), ("(", MANY), (")", MANY)],
         steps: 5,
         children: 1,
-        lines: "N psql command 0..200003\n",
+        lines: "N psql command 0..200003\n\
+            T psql terminator 0..200003\n",
     },
 ];
 

@@ -1,12 +1,13 @@
 //! Short texts: each is parsed at once, and by a document that takes its characters one by one.
-use super::{READINGS, Reading, empty_document, same_parse, whole_parse};
+use super::{READINGS, empty_document, same_parse, whole_parse};
+use crate::Reading;
 use std::alloc::Global;
 use std::process::Abort;
 use std::test::Fail;
 
 // Whether a document that takes the characters of a text one by one, at its end, has the parse of
 // the text; and whether one that takes them at its start has the parse of what it holds then.
-fn parses_by_characters(alloc: Global, text: &str, reading: &Reading<'_>) -> Result<bool, Fail> {
+fn parses_by_characters(alloc: Global, text: &str, reading: Reading) -> Result<bool, Fail> {
     let mut forward = empty_document(alloc, reading)?;
     let mut backward = empty_document(alloc, reading)?;
     for character in text.chars() {
@@ -32,9 +33,9 @@ fn parses_by_characters(alloc: Global, text: &str, reading: &Reading<'_>) -> Res
 
 // Checks a text in each reading.
 fn check_text(rt: &impl Abort, alloc: Global, text: &str) -> Result<(), Fail> {
-    for reading in READINGS {
-        let same = parses_by_characters(alloc, text, reading)?;
-        assert!(rt; same, "{text:?}, {}", reading.name);
+    for named in READINGS {
+        let same = parses_by_characters(alloc, text, named.reading)?;
+        assert!(rt; same, "{text:?}, {}", named.name);
     }
     Ok(())
 }
@@ -72,8 +73,7 @@ fn characters_of_two_bytes(rt: HostRuntime) -> Result<(), Fail> {
     Ok(())
 }
 
-// Characters that begin, end or go on in tokens of each form, and some that do so in one place
-// alone.
+// Characters that begin, end or go on in tokens of each form, and some that do so in one form only.
 const ALPHABET: &[char] = &[
     '\'', '"', '$', '/', '*', '-', '\\', '(', ')', ';', 'E', 'e', 'U', '&', 'x', 'b', 'N', '0',
     '1', '.', '+', '_', 'a', 'g', '|', '`', ' ', '\n', '\r', '\0', '\u{feff}', 'é', '\u{2028}',
@@ -91,17 +91,17 @@ fn character_of(seed: u64) -> char {
     *ALPHABET.get(index).unwrap_or(&'a')
 }
 
-// The longest text from a seed, in characters.
-const LONGEST: u64 = 16;
+// A text that has so many bytes is cut.
+const CUT_LEN: u64 = 16;
 
-// Checks texts of 1 to 16 characters, so many of them.
-fn check_from_seed(rt: &impl Abort, alloc: Global, seed: u64, texts: u32) -> Result<(), Fail> {
+// Cuts so many characters into short texts, most of 2 to 7 characters, and checks each.
+fn check_from_seed(rt: &impl Abort, alloc: Global, seed: u64, characters: u32) -> Result<(), Fail> {
     let mut seed = seed;
     let mut text = String::new(alloc);
-    for _ in 0..texts {
+    for _ in 0..characters {
         seed = next(seed);
         text.push(character_of(seed))?;
-        if text.len() as u64 >= 1 + (seed >> 17) % LONGEST {
+        if text.len() as u64 >= 1 + (seed >> 17) % CUT_LEN {
             check_text(rt, alloc, text.as_str())?;
             text.clear();
         }

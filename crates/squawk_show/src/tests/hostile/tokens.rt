@@ -30,7 +30,7 @@ const DOUBLE_QUOTES: &str = "\"\"\"\"\"\"\"\"\"\"\"\"\"\"\"\"\"\"\"\"\"\"\"\"\"\
 const DOLLARS: &str = "$b$b$b$b$b$b$b$b$b$b$b$b$b$b$b$b$b$b$b$b$b$b$b$b$b$b$b$b$b$b$b$b";
 
 // Each opens a comment in the one before it.
-const OPENINGS: &str = "/*/*/*/*/*/*/*/*/*/*/*/*/*/*/*/*/*/*/*/*/*/*/*/*/*/*/*/*/*/*/*/*";
+const COMMENT_STARTS: &str = "/*/*/*/*/*/*/*/*/*/*/*/*/*/*/*/*/*/*/*/*/*/*/*/*/*/*/*/*/*/*/*/*";
 
 const WORDS_AND_TRIVIA: &[Row<'static>] = &[
     Row {
@@ -56,7 +56,7 @@ const WORDS_AND_TRIVIA: &[Row<'static>] = &[
     },
     Row {
         name: "block_comment_open",
-        parts: &[(OPENINGS, LONG)],
+        parts: &[(COMMENT_STARTS, LONG)],
         steps: 3,
         children: 1,
         lines: "T comment 0..16777216\n\
@@ -250,6 +250,14 @@ const NUMBERS_AND_COMMANDS: &[Row<'static>] = &[
         children: 1,
         lines: "N error 0..16777218\n\
             E 0..16777218 unknown statement\n",
+    },
+    Row {
+        name: "fraction_without_integer",
+        parts: &[(".", 1), (DIGITS, LONG)],
+        steps: 5,
+        children: 1,
+        lines: "N error 0..16777217\n\
+            E 0..16777217 unknown statement\n",
     },
     Row {
         name: "exponent",
