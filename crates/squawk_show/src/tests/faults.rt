@@ -275,7 +275,7 @@ fn each_write_of_the_error_line_fails(rt: HostRuntime) -> Result<(), Fail> {
 }
 
 // A command whose input is a part that is repeated so many times, and whose output has this length.
-// Each write takes all that it gets. Before each of them `out` has taken so many bytes.
+// Each write takes all that it gets. Before each of them but the first `out` has taken so many bytes.
 struct Long<'a> {
     name: &'a str,
     words: &'a [&'a str],
@@ -292,17 +292,17 @@ const LONG: &[Long<'static>] = &[
         name: "report",
         words: &[],
         part: ";",
-        times: 2000,
-        len: 85_590,
-        taken: &[0, 65_411],
+        times: 1600,
+        len: 67_590,
+        taken: &[65_411],
     },
     Long {
         name: "replay",
         words: &["replay"],
         part: "@0 0 1\n;\n",
-        times: 2000,
-        len: 172_257,
-        taken: &[0, 86_667, 152_078],
+        times: 1600,
+        len: 136_257,
+        taken: &[68_667, 134_078],
     },
 ];
 
@@ -325,11 +325,12 @@ fn written(
     Ok(Vec::from_slice(alloc, out.taken())?)
 }
 
-// Each write of a long output fails in turn. What the sink has taken then begins the whole output.
+// Each write of a long output but the first fails in turn. What the sink has taken then begins the
+// whole output.
 fn check_long(rt: &impl Abort, alloc: Global, row: &Long<'_>) -> Result<(), Fail> {
     let whole = written(rt, alloc, row, &[], 0)?;
     assert_eq!(rt; whole.len(), row.len, "{}", row.name);
-    let mut failing = 0u64;
+    let mut failing = 1u64;
     for &taken in row.taken {
         failing = failing.saturating_add(1);
         let begun = written(rt, alloc, row, &[failing], 7)?;
@@ -340,14 +341,11 @@ fn check_long(rt: &impl Abort, alloc: Global, row: &Long<'_>) -> Result<(), Fail
             row.name
         );
     }
-    // There is no further write.
-    let later = written(rt, alloc, row, &[failing.saturating_add(1)], 0)?;
-    assert_eq!(rt; later.as_slice(), whole.as_slice(), "{}", row.name);
     Ok(())
 }
 
 #[test]
-fn each_write_of_a_long_output_fails(rt: HostRuntime) -> Result<(), Fail> {
+fn later_writes_of_a_long_output_fail(rt: HostRuntime) -> Result<(), Fail> {
     for row in LONG {
         check_long(&rt, rt.alloc(), row)?;
     }

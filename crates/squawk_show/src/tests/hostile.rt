@@ -91,7 +91,25 @@ pub(crate) fn push_times(text: &mut String, part: &str, times: u32) -> Result<()
     Ok(())
 }
 
-// Appends the line of a child of the root: its node, or its leaf, and its range.
+// Appends the line of the token at a step, whose range is that of a child of the root.
+fn push_leaf(
+    alloc: Global,
+    lines: &mut String,
+    parse: &Parse,
+    step: usize,
+    child: ChildSpan,
+) -> Result<(), AllocError> {
+    let (start, end) = (child.start, child.end);
+    match parse.steps().get(step) {
+        Some(&StrStep::Token { kind, .. }) => {
+            lines.push_str(format!(in alloc; "T {kind} {start}..{end}\n")?.as_str())
+        }
+        _ => lines.push_str("?\n"),
+    }
+}
+
+// Appends the line of a child of the root, a node or a leaf, with its range. A node that has one
+// leaf and nothing else is followed by that leaf.
 fn push_child(
     alloc: Global,
     lines: &mut String,
@@ -99,14 +117,15 @@ fn push_child(
     child: ChildSpan,
 ) -> Result<(), AllocError> {
     let (start, end) = (child.start, child.end);
-    if let Some(kind) = child.node {
-        return lines.push_str(format!(in alloc; "N {kind} {start}..{end}\n")?.as_str());
-    }
-    match parse.steps().get(child.step) {
-        Some(&StrStep::Token { kind, .. }) => {
-            lines.push_str(format!(in alloc; "T {kind} {start}..{end}\n")?.as_str())
+    let Some(kind) = child.node else {
+        return push_leaf(alloc, lines, parse, child.step, child);
+    };
+    lines.push_str(format!(in alloc; "N {kind} {start}..{end}\n")?.as_str())?;
+    match parse.steps().get(child.step.saturating_add(2)) {
+        Some(&StrStep::Exit) => {
+            push_leaf(alloc, lines, parse, child.step.saturating_add(1), child)
         }
-        _ => lines.push_str("?\n"),
+        _ => Ok(()),
     }
 }
 
@@ -204,7 +223,12 @@ const ROWS: &[Row<'static>] = &[
         parts: &[(";", MANY)],
         steps: 300_002,
         children: 100_000,
-        lines: "N empty stmt 0..1\nN empty stmt 1..2\nN empty stmt 2..3\n",
+        lines: "N empty stmt 0..1\n\
+            T `;` 0..1\n\
+            N empty stmt 1..2\n\
+            T `;` 1..2\n\
+            N empty stmt 2..3\n\
+            T `;` 2..3\n",
     },
     Row {
         name: "nuls",
@@ -229,49 +253,66 @@ const ROWS: &[Row<'static>] = &[
         parts: &[("\u{feff}", 2)],
         steps: 6,
         children: 2,
-        lines: "T whitespace 0..3\nN error 3..6\nE 3..6 unknown statement\n",
+        lines: "T whitespace 0..3\n\
+            N error 3..6\n\
+            T identifier 3..6\n\
+            E 3..6 unknown statement\n",
     },
     Row {
         name: "escape_string_ends_in_a_backslash",
         parts: &[("E'\\", 1)],
         steps: 5,
         children: 1,
-        lines: "N error 0..3\nE 0..3 unknown statement\nE 0..3 unterminated string\n",
+        lines: "N error 0..3\n\
+            T escape string literal 0..3\n\
+            E 0..3 unknown statement\n\
+            E 0..3 unterminated string\n",
     },
     Row {
         name: "unicode_identifier_opens",
         parts: &[("U&\"", 1)],
         steps: 5,
         children: 1,
-        lines: "N error 0..3\nE 0..3 unknown statement\nE 0..3 unterminated quoted identifier\n",
+        lines: "N error 0..3\n\
+            T identifier 0..3\n\
+            E 0..3 unknown statement\n\
+            E 0..3 unterminated quoted identifier\n",
     },
     Row {
         name: "dollar_string_opens",
         parts: &[("$a$", 1)],
         steps: 5,
         children: 1,
-        lines: "N error 0..3\nE 0..3 unknown statement\nE 0..3 unterminated string\n",
+        lines: "N error 0..3\n\
+            T dollar-quoted string literal 0..3\n\
+            E 0..3 unknown statement\n\
+            E 0..3 unterminated string\n",
     },
     Row {
         name: "options_of_a_command_open",
         parts: &[("\\g (", 1)],
         steps: 5,
         children: 1,
-        lines: "N psql command 0..4\n",
+        lines: "N psql command 0..4\n\
+            T psql terminator 0..4\n",
     },
     Row {
         name: "backslash",
         parts: &[("\\", 1)],
         steps: 5,
         children: 1,
-        lines: "N psql command 0..1\n",
+        lines: "N psql command 0..1\n\
+            T psql meta-command 0..1\n",
     },
     Row {
         name: "comment_opens_after_a_word",
         parts: &[("select /*", 1)],
         steps: 7,
         children: 3,
-        lines: "N select 0..6\nT whitespace 6..7\nT comment 7..9\n\
+        lines: "N select 0..6\n\
+            T `select` 0..6\n\
+            T whitespace 6..7\n\
+            T comment 7..9\n\
             E 7..9 unterminated block comment\n",
     },
 ];

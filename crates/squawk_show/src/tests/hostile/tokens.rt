@@ -68,6 +68,7 @@ const WORDS_AND_TRIVIA: &[Row<'static>] = &[
         steps: 5,
         children: 1,
         lines: "N error 0..16777216\n\
+            T identifier 0..16777216\n\
             E 0..16777216 unknown statement\n",
     },
     Row {
@@ -76,6 +77,7 @@ const WORDS_AND_TRIVIA: &[Row<'static>] = &[
         steps: 5,
         children: 1,
         lines: "N error 0..16777216\n\
+            T identifier 0..16777216\n\
             E 0..16777216 unknown statement\n",
     },
     Row {
@@ -84,6 +86,7 @@ const WORDS_AND_TRIVIA: &[Row<'static>] = &[
         steps: 5,
         children: 1,
         lines: "N error 0..16777217\n\
+            T identifier 0..16777217\n\
             E 0..16777217 unknown statement\n",
     },
 ];
@@ -95,6 +98,7 @@ const QUOTED_IDENTIFIERS: &[Row<'static>] = &[
         steps: 5,
         children: 1,
         lines: "N error 0..16777218\n\
+            T identifier 0..16777218\n\
             E 0..16777218 unknown statement\n",
     },
     Row {
@@ -103,6 +107,7 @@ const QUOTED_IDENTIFIERS: &[Row<'static>] = &[
         steps: 5,
         children: 1,
         lines: "N error 0..16777218\n\
+            T identifier 0..16777218\n\
             E 0..16777218 unknown statement\n",
     },
     Row {
@@ -111,6 +116,7 @@ const QUOTED_IDENTIFIERS: &[Row<'static>] = &[
         steps: 5,
         children: 1,
         lines: "N error 0..16777217\n\
+            T identifier 0..16777217\n\
             E 0..16777217 unknown statement\n\
             E 0..16777217 unterminated quoted identifier\n",
     },
@@ -120,6 +126,7 @@ const QUOTED_IDENTIFIERS: &[Row<'static>] = &[
         steps: 5,
         children: 1,
         lines: "N error 0..16777220\n\
+            T identifier 0..16777220\n\
             E 0..16777220 unknown statement\n",
     },
 ];
@@ -131,6 +138,7 @@ const STRINGS: &[Row<'static>] = &[
         steps: 5,
         children: 1,
         lines: "N error 0..16777218\n\
+            T string literal 0..16777218\n\
             E 0..16777218 unknown statement\n",
     },
     Row {
@@ -139,6 +147,7 @@ const STRINGS: &[Row<'static>] = &[
         steps: 5,
         children: 1,
         lines: "N error 0..16777218\n\
+            T string literal 0..16777218\n\
             E 0..16777218 unknown statement\n",
     },
     Row {
@@ -147,6 +156,7 @@ const STRINGS: &[Row<'static>] = &[
         steps: 5,
         children: 1,
         lines: "N error 0..16777217\n\
+            T string literal 0..16777217\n\
             E 0..16777217 unknown statement\n\
             E 0..16777217 unterminated string\n",
     },
@@ -156,6 +166,7 @@ const STRINGS: &[Row<'static>] = &[
         steps: 5,
         children: 1,
         lines: "N error 0..16777219\n\
+            T escape string literal 0..16777219\n\
             E 0..16777219 unknown statement\n",
     },
     Row {
@@ -164,6 +175,7 @@ const STRINGS: &[Row<'static>] = &[
         steps: 5,
         children: 1,
         lines: "N error 0..16777220\n\
+            T escape string literal 0..16777220\n\
             E 0..16777220 unknown statement\n\
             E 0..16777220 unterminated string\n",
     },
@@ -173,6 +185,7 @@ const STRINGS: &[Row<'static>] = &[
         steps: 5,
         children: 1,
         lines: "N error 0..16777219\n\
+            T national character string literal 0..16777219\n\
             E 0..16777219 unknown statement\n",
     },
     Row {
@@ -181,6 +194,7 @@ const STRINGS: &[Row<'static>] = &[
         steps: 5,
         children: 1,
         lines: "N error 0..16777220\n\
+            T unicode escape string literal 0..16777220\n\
             E 0..16777220 unknown statement\n",
     },
     Row {
@@ -189,6 +203,7 @@ const STRINGS: &[Row<'static>] = &[
         steps: 5,
         children: 1,
         lines: "N error 0..16777219\n\
+            T bit string literal 0..16777219\n\
             E 0..16777219 unknown statement\n",
     },
     Row {
@@ -197,6 +212,7 @@ const STRINGS: &[Row<'static>] = &[
         steps: 5,
         children: 1,
         lines: "N error 0..16777219\n\
+            T hexadecimal string literal 0..16777219\n\
             E 0..16777219 unknown statement\n",
     },
     Row {
@@ -205,6 +221,7 @@ const STRINGS: &[Row<'static>] = &[
         steps: 5,
         children: 1,
         lines: "N error 0..16777220\n\
+            T dollar-quoted string literal 0..16777220\n\
             E 0..16777220 unknown statement\n",
     },
     Row {
@@ -213,6 +230,7 @@ const STRINGS: &[Row<'static>] = &[
         steps: 5,
         children: 1,
         lines: "N error 0..16777222\n\
+            T dollar-quoted string literal 0..16777222\n\
             E 0..16777222 unknown statement\n",
     },
     Row {
@@ -221,6 +239,7 @@ const STRINGS: &[Row<'static>] = &[
         steps: 5,
         children: 1,
         lines: "N error 0..16777219\n\
+            T dollar-quoted string literal 0..16777219\n\
             E 0..16777219 unknown statement\n\
             E 0..16777219 unterminated string\n",
     },
@@ -233,6 +252,7 @@ const NUMBERS_AND_COMMANDS: &[Row<'static>] = &[
         steps: 5,
         children: 1,
         lines: "N error 0..16777216\n\
+            T integer literal 0..16777216\n\
             E 0..16777216 unknown statement\n",
     },
     Row {
@@ -241,6 +261,7 @@ const NUMBERS_AND_COMMANDS: &[Row<'static>] = &[
         steps: 5,
         children: 1,
         lines: "N error 0..16777218\n\
+            T integer literal 0..16777218\n\
             E 0..16777218 unknown statement\n",
     },
     Row {
@@ -249,6 +270,7 @@ const NUMBERS_AND_COMMANDS: &[Row<'static>] = &[
         steps: 5,
         children: 1,
         lines: "N error 0..16777218\n\
+            T numeric literal 0..16777218\n\
             E 0..16777218 unknown statement\n",
     },
     Row {
@@ -257,6 +279,7 @@ const NUMBERS_AND_COMMANDS: &[Row<'static>] = &[
         steps: 5,
         children: 1,
         lines: "N error 0..16777217\n\
+            T numeric literal 0..16777217\n\
             E 0..16777217 unknown statement\n",
     },
     Row {
@@ -265,6 +288,7 @@ const NUMBERS_AND_COMMANDS: &[Row<'static>] = &[
         steps: 5,
         children: 1,
         lines: "N error 0..16777219\n\
+            T numeric literal 0..16777219\n\
             E 0..16777219 unknown statement\n",
     },
     Row {
@@ -273,6 +297,7 @@ const NUMBERS_AND_COMMANDS: &[Row<'static>] = &[
         steps: 5,
         children: 1,
         lines: "N error 0..16777217\n\
+            T integer literal 0..16777217\n\
             E 0..16777217 unknown statement\n\
             E 1..16777217 trailing junk after number\n",
     },
@@ -282,6 +307,7 @@ const NUMBERS_AND_COMMANDS: &[Row<'static>] = &[
         steps: 5,
         children: 1,
         lines: "N error 0..16777217\n\
+            T positional parameter 0..16777217\n\
             E 0..16777217 unknown statement\n",
     },
     Row {
@@ -290,6 +316,7 @@ const NUMBERS_AND_COMMANDS: &[Row<'static>] = &[
         steps: 5,
         children: 1,
         lines: "N error 0..16777218\n\
+            T positional parameter 0..16777218\n\
             E 0..16777218 unknown statement\n\
             E 2..16777218 trailing junk after parameter\n",
     },
@@ -298,21 +325,24 @@ const NUMBERS_AND_COMMANDS: &[Row<'static>] = &[
         parts: &[("\\echo ", 1), (LETTERS, LONG)],
         steps: 5,
         children: 1,
-        lines: "N psql command 0..16777222\n",
+        lines: "N psql command 0..16777222\n\
+            T psql meta-command 0..16777222\n",
     },
     Row {
         name: "psql_command_of_quotes",
         parts: &[("\\echo ", 1), (QUOTES, LONG)],
         steps: 5,
         children: 1,
-        lines: "N psql command 0..16777222\n",
+        lines: "N psql command 0..16777222\n\
+            T psql meta-command 0..16777222\n",
     },
     Row {
         name: "psql_terminator",
         parts: &[("\\g ", 1), (LETTERS, LONG)],
         steps: 5,
         children: 1,
-        lines: "N psql command 0..16777219\n",
+        lines: "N psql command 0..16777219\n\
+            T psql terminator 0..16777219\n",
     },
 ];
 
