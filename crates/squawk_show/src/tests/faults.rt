@@ -275,7 +275,7 @@ fn each_write_of_the_error_line_fails(rt: HostRuntime) -> Result<(), Fail> {
 }
 
 // A command whose input is a part that is repeated so many times, and whose output has this length.
-// Each write takes all that it gets. Before each of them but the first `out` has taken so many bytes.
+// Each write takes all that it gets. Before each of them but the first, `out` has taken `taken`.
 struct Long<'a> {
     name: &'a str,
     words: &'a [&'a str],
