@@ -1,3 +1,4 @@
+pub mod ClauseLemmas
 pub mod CommandLemmas
 pub mod DigitLemmas
 pub mod LineLemmas

@@ -1,10 +1,9 @@
 -- An output while it is written: a sink takes what a block holds, and the rest comes after it.
-use Rattle.std.proofs.Common.{◌≡◌, ℕ, zero, suc, ◌+◌, ◌<◌, ◌≤◌, List, [], ◌∷◌, ◌++◌, Ok, Err, Result, length, take, drop, ap, sym, ◌∙◌, append-nil, append_assoc, refl, subst, arith}
+use Rattle.std.proofs.Common.{◌≡◌, ℕ, zero, suc, ◌+◌, ◌<◌, List, [], ◌∷◌, ◌++◌, Ok, Err, Result, length, take, drop, ap, sym, ◌∙◌, append-nil, append_assoc, refl, subst, arith}
 use Rattle.std.proofs.KnownBytes.{Appends-nil, Appends-trans}
 use Rattle.std.proofs.Math.Seq.{take-add}
 use Rattle.std.proofs.lemmas.List.{length-append, take_at, drop_at, take-append-le}
 use Rattle.std.specs.Prelude.{OnOk, flat_map, slice_index_or}
-use Rattle.std.specs.Io.KnownBytes.{Appends}
 use Rattle.squawk_events.specs.declared.steps.ParseError.{ParseError}
 use Rattle.squawk_show.specs.Edge.{SinkView, AppendsAll, AppendsPrefix}
 use Rattle.squawk_show.specs.Output.{TakesAllBut}

@@ -1,5 +1,5 @@
 -- What calls below say of a text, over the bytes of the text, and what a command prepares.
-use Rattle.std.proofs.Common.{◌≡◌, subst, List, ℕ, Result, Ok, Err, refl, ap, ◌∙◌, map}
+use Rattle.std.proofs.Common.{◌≡◌, ◌⊎◌, inl, inr, subst, sym, List, ℕ, Result, Ok, Err, refl, ap, ◌∙◌, map}
 use Rattle.std.specs.Prelude.{IfOk}
 use Rattle.std.specs.Str.{chars}
 use Rattle.squawk_events.specs.declared.error.FrontError.{FrontError}
@@ -7,9 +7,12 @@ use Rattle.squawk_lexer.specs.Cut.{tokens, token_ends}
 use Rattle.squawk_lexer.specs.declared.token.Strings.{Strings}
 use Rattle.squawk_show.specs.Command.{asks}
 use Rattle.squawk_show.specs.Edge.{SourceView}
+use Rattle.squawk_show.specs.Forms.{form_tree, tree_of}
 use Rattle.squawk_show.specs.Made.{made}
-use Rattle.squawk_show.specs.Run.{IsText, IsParsed, IsPrepared, IsSummarized, prepared_output, tree_of, LeavesAreTokens, ChildrenAreStatements}
+use Rattle.squawk_show.specs.Run.{IsText, IsParsed, IsPrepared, IsSummarized, prepared_output, LeavesAreTokens, ChildrenAreStatements}
 use Rattle.squawk_show.specs.declared.command.Command.TheVariants.{Make}
+use Rattle.squawk_show.specs.declared.command.Form.{Form}
+use Rattle.squawk_show.specs.declared.command.Form.TheVariants.{Report, Pieces, Quotes, Squeezed}
 use Rattle.squawk_show.specs.declared.options.Reading.{Reading}
 use Rattle.squawk_show.specs.declared.program.Prepared.{Prepared}
 use Rattle.squawk_statements.specs.Children.{children}
@@ -29,6 +32,22 @@ parsed reading bytes tree valid parses = record {
   leaves = parses.leaves;
   children = parses.children;
 }
+
+-- the tree that `parse_divided` returned for a text
+pub text_parsed : (reading : Reading) (text : List ℕ) (result : Result Tree FrontError)
+    → IsText text → ParsesText reading.strings reading.division text result
+    → IfOk result (IsParsed reading text)
+text_parsed reading text (Ok tree) valid parses = parsed reading text tree valid parses
+text_parsed reading text (Err e) valid parses = tt
+
+-- the tree that goes with a form other than `Clauses`
+pub plain_form : (form : Form)
+    → (form ≡ Report) ⊎ ((form ≡ Pieces) ⊎ ((form ≡ Quotes) ⊎ (form ≡ Squeezed)))
+    → tree_of ≡ form_tree form
+plain_form form (inl is) = subst (λ f. tree_of ≡ form_tree f) (sym is) refl
+plain_form form (inr (inl is)) = subst (λ f. tree_of ≡ form_tree f) (sym is) refl
+plain_form form (inr (inr (inl is))) = subst (λ f. tree_of ≡ form_tree f) (sym is) refl
+plain_form form (inr (inr (inr is))) = subst (λ f. tree_of ≡ form_tree f) (sym is) refl
 
 -- the tree that `parse_divided` returned for a text of these bytes
 pub is_parsed : (reading : Reading) (bytes text : List ℕ) (tree : Tree)

@@ -9,7 +9,8 @@ use Rattle.squawk_lexer.specs.declared.token.Strings.{Strings}
 use Rattle.squawk_lexer.specs.declared.token.Strings.TheVariants.{Standard, Backslash}
 use Rattle.squawk_show.specs.Made.{most_pieces}
 use Rattle.squawk_show.specs.declared.command.Command.{Command}
-use Rattle.squawk_show.specs.declared.command.Command.TheVariants.{Report, Make, Replay}
+use Rattle.squawk_show.specs.declared.command.Command.TheVariants.{Show, Make, Replay}
+use Rattle.squawk_show.specs.declared.command.Form.TheVariants.{Report, Pieces, Quotes, Squeezed, Clauses}
 use Rattle.squawk_show.specs.declared.error.RunError.{RunError}
 use Rattle.squawk_show.specs.declared.error.RunError.TheVariants.{BadWords}
 use Rattle.squawk_show.specs.declared.options.Reading.{Reading}
@@ -29,18 +30,27 @@ abbrev pub make_command : List ℕ → Result Command RunError
 make_command count =
     if is_piece_count count then Ok (Make (digits_value 10 count)) else Err BadWords
 
+-- the command of one word
+abbrev pub word_command : List ℕ → Result Command RunError
+word_command word =
+    if bytes_eq word (codes "split") then Ok (Show Pieces)
+    else if bytes_eq word (codes "quote") then Ok (Show Quotes)
+    else if bytes_eq word (codes "squeeze") then Ok (Show Squeezed)
+    else if bytes_eq word (codes "clauses") then Ok (Show Clauses)
+    else if bytes_eq word (codes "replay") then Ok Replay
+    else Err BadWords
+
 -- the command that words without options name
 abbrev pub named_command : List (String Global) → Result Command RunError
-named_command [] = Ok Report
-named_command (word ∷ []) =
-    if bytes_eq (string_bytes word) (codes "replay") then Ok Replay else Err BadWords
+named_command [] = Ok (Show Report)
+named_command (word ∷ []) = word_command (string_bytes word)
 named_command (word ∷ count ∷ []) = if bytes_eq (string_bytes word) (codes "make")
     then make_command (string_bytes count) else Err BadWords
 named_command (word ∷ count ∷ other ∷ words) = Err BadWords
 
 -- a command makes no more than `most_pieces` pieces
 abbrev pub IsWithinPieces : Command → Type 0
-IsWithinPieces Report = ⊤
+IsWithinPieces (Show form) = ⊤
 IsWithinPieces (Make pieces) = pieces ≤ most_pieces
 IsWithinPieces Replay = ⊤
 

@@ -6,6 +6,7 @@ pub mod ReadAll
 pub mod Command
 pub mod Outcome
 pub mod Report
+pub mod Forms
 pub mod Made
 pub mod Summary
 pub mod Run

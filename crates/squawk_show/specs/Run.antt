@@ -1,5 +1,5 @@
 -- How a run of the program ends, and when it ends with each error.
-use Rattle.std.specs.Prelude.{ℕ, ◌≡◌, ◌≤◌, ◌<◌, ◌+◌, List, [], ◌++◌, length, map, Option, Some, None, Result, Ok, Err, IsOk, IsErr, IfOk, IfErr, OnOk, IfSome, IsSomeAnd, IsUtf8, chars, ⊤}
+use Rattle.std.specs.Prelude.{ℕ, ◌≡◌, ◌≤◌, ◌<◌, ◌+◌, ◌⊎◌, List, [], ◌++◌, length, map, Option, Some, None, Result, Ok, Err, IsOk, IsErr, IfOk, IfErr, OnOk, IfSome, IsSomeAnd, IsUtf8, chars, ⊤}
 use Rattle.std.specs.Io.KnownBytes.{IsAtEnd}
 use Rattle.std.specs.Str.{IsValidUpTo}
 use Rattle.squawk_cut.specs.PlainTells.{plain_tells}
@@ -9,19 +9,23 @@ use Rattle.squawk_lexer.specs.Cut.{tokens, token_ends}
 use Rattle.squawk_replay.specs.Replay.{AreRanges, edit_lines, last_text}
 use Rattle.squawk_script.specs.Script.{records, records_len, IsScript}
 use Rattle.squawk_show.specs.Command.{Request}
-use Rattle.squawk_show.specs.Edge.{SourceView, SinkView, SourceFaultRose, SinkFaultRose, TakesExactly, AppendsAll, AppendsPrefix}
+use Rattle.squawk_show.specs.Edge.{SourceView, SinkView, SourceFaultRose, SinkFaultRose, TakesExactly, TakesAtMost, AppendsAll, AppendsPrefix}
 use Rattle.squawk_show.specs.Outcome.{status_of_error, error_line}
 use Rattle.squawk_show.specs.Made.{made}
+use Rattle.squawk_show.specs.Forms.{AreQuotesWithin, IsFormWithin, form_of, form_tree, tree_of}
 use Rattle.squawk_show.specs.Report.{report_of}
 use Rattle.squawk_show.specs.Summary.{summary_line}
 use Rattle.squawk_show.specs.declared.command.Command.{Command}
-use Rattle.squawk_show.specs.declared.command.Command.TheVariants.{Report, Make, Replay}
+use Rattle.squawk_show.specs.declared.command.Command.TheVariants.{Show, Make, Replay}
+use Rattle.squawk_show.specs.declared.command.Form.{Form}
+use Rattle.squawk_show.specs.declared.command.Form.TheVariants.{Quotes}
 use Rattle.squawk_show.specs.declared.error.RunError.{RunError}
 use Rattle.squawk_show.specs.declared.error.RunError.TheVariants.{BadWords, ReadFault, NotUtf8, Front, BadScript, WriteFault}
 use Rattle.squawk_show.specs.declared.options.Reading.{Reading}
 use Rattle.squawk_show.specs.declared.program.Prepared.{Prepared}
+use Rattle.squawk_clauses.specs.TreeWithout.{tree_without_clauses}
 use Rattle.squawk_statements.specs.Children.{children}
-use Rattle.squawk_tree.specs.ParseOf.{parse_of, roles_of}
+use Rattle.squawk_tree.specs.ParseOf.{roles_of}
 use Rattle.squawk_tree.specs.Steps.{leaves, ranges_through, root_children, root_child}
 use Rattle.squawk_tree.specs.Tree.{Tree, IsTree}
 
@@ -40,10 +44,6 @@ pub record IsInvalidText (bytes : List ℕ) : Type 0 where
 abbrev pub IsOverLimit : List ℕ → Type 0
 IsOverLimit bytes = limit < length bytes
 
--- the tree of a text of these bytes, by a reading
-unfoldable pub tree_of : Reading → List ℕ → Tree
-tree_of reading text = parse_of reading.strings reading.division text
-
 -- the leaves of a tree are the tokens of a text, each by its range in bytes
 unfoldable pub LeavesAreTokens : Reading → List ℕ → Tree → Type 0
 LeavesAreTokens reading text tree = leaves tree.steps
@@ -55,12 +55,35 @@ unfoldable pub ChildrenAreStatements : Reading → List ℕ → Tree → Type 0
 ChildrenAreStatements reading text tree = root_children tree.steps
     ≡ map root_child (children reading.division (roles_of (tokens reading.strings (chars text))))
 
--- the bytes are a text, and this is its tree by a reading
-pub record IsParsed (reading : Reading) (bytes : List ℕ) (tree : Tree) : Type 0 where
+-- the bytes are a text, and this is its tree by `parse` and a reading
+pub record IsParsedBy (parse : Reading → List ℕ → Tree) (reading : Reading) (bytes : List ℕ)
+    (tree : Tree) : Type 0 where
   pub text : IsText bytes
-  pub parsed : tree ≡ tree_of reading bytes
+  pub parsed : tree ≡ parse reading bytes
   pub leaves : LeavesAreTokens reading bytes tree
   pub children : ChildrenAreStatements reading bytes tree
+
+-- the bytes are a text, and this is its tree by a reading
+abbrev pub IsParsed : Reading → List ℕ → Tree → Type 0
+IsParsed reading bytes tree = IsParsedBy tree_of reading bytes tree
+
+-- a tree with the nodes of clauses: without them its steps are those of the tree of a text, and
+-- both have the same errors
+pub record AddsClauses (reading : Reading) (text : List ℕ) (tree : Tree) : Type 0 where
+  pub steps : tree_without_clauses tree.steps ≡ (tree_of reading text).steps
+  pub errors : tree.errors ≡ (tree_of reading text).errors
+
+-- Forms
+
+-- a text that has a form
+pub record HasForm (form : Form) (bytes : List ℕ) : Type 0 where
+  pub text : IsText bytes
+  pub within : IsFormWithin form bytes
+
+-- a text for which a string constant, a dollar-quoted string or a quoted identifier is too long
+pub record IsTooLongToQuote (bytes : List ℕ) : Type 0 where
+  pub text : IsText bytes
+  pub long : ¬ (AreQuotesWithin bytes)
 
 -- Scripts of edits
 
@@ -101,7 +124,7 @@ pub record HasBadRange (bytes : List ℕ) : Type 0 where
 
 -- the words name a command that reads the source
 abbrev pub ReadsSource : Result Command RunError → Type 0
-ReadsSource (Ok Report) = ⊤
+ReadsSource (Ok (Show form)) = ⊤
 ReadsSource (Ok (Make pieces)) = ⊥
 ReadsSource (Ok Replay) = ⊤
 ReadsSource (Err e) = ⊥
@@ -113,56 +136,63 @@ IsAll (Some left) bytes = left ≡ bytes
 
 -- the input of a command has these bytes: all that it reads, or its made text
 abbrev pub IsInput : Result Command RunError → SourceView → List ℕ → Type 0
-IsInput (Ok Report) source bytes = IsAll source.left bytes
+IsInput (Ok (Show form)) source bytes = IsAll source.left bytes
 IsInput (Ok (Make pieces)) source bytes = made pieces ≡ bytes
 IsInput (Ok Replay) source bytes = IsAll source.left bytes
 IsInput (Err e) source bytes = ⊥
 
--- a command accepts an input: a text, or a script of lawful edits
+-- a command accepts an input: a text that has the form, or a script of lawful edits
 abbrev pub Accepts : Result Command RunError → List ℕ → Type 0
-Accepts (Ok Report) input = IsText input
+Accepts (Ok (Show form)) input = HasForm form input
 Accepts (Ok (Make pieces)) input = ⊤
 Accepts (Ok Replay) input = IsAcceptedScript input
 Accepts (Err e) input = ⊥
 
 -- the text that a command parses for its input
 abbrev pub parsed_text : Result Command RunError → List ℕ → List ℕ
-parsed_text (Ok Report) input = input
+parsed_text (Ok (Show form)) input = input
 parsed_text (Ok (Make pieces)) input = input
 parsed_text (Ok Replay) input = text_of_script input
 parsed_text (Err e) input = []
 
+-- the tree that a command makes of the text that it parses, by a reading
+abbrev pub command_tree : Result Command RunError → Reading → List ℕ → Tree
+command_tree (Ok (Show form)) = form_tree form
+command_tree (Ok (Make pieces)) = tree_of
+command_tree (Ok Replay) = tree_of
+command_tree (Err e) = tree_of
+
 -- what a command writes to `out` for its input and its tree, by a reading
 abbrev pub output_of : Reading → Result Command RunError → List ℕ → Tree → List ℕ
-output_of reading (Ok Report) input tree = report_of tree
+output_of reading (Ok (Show form)) input tree = form_of reading form input tree
 output_of reading (Ok (Make pieces)) input tree = summary_line tree
 output_of reading (Ok Replay) input tree = lines_of_script reading input ++ report_of tree
 output_of reading (Err e) input tree = []
 
 -- the bytes that a command reads are observable, and P holds of them
 abbrev pub Reads : (List ℕ → Type 0) → Result Command RunError → SourceView → Type 0
-Reads P (Ok Report) source = IsSomeAnd source.left P
+Reads P (Ok (Show form)) source = IsSomeAnd source.left P
 Reads P (Ok (Make pieces)) source = ⊥
 Reads P (Ok Replay) source = IsSomeAnd source.left P
 Reads P (Err e) source = ⊥
 
 -- a command accepts its input: the bytes that it reads, if these are observable, or a made text
 abbrev pub HasAcceptedInput : Result Command RunError → SourceView → Type 0
-HasAcceptedInput (Ok Report) source = IsSomeAnd source.left IsText
+HasAcceptedInput (Ok (Show form)) source = IsSomeAnd source.left (HasForm form)
 HasAcceptedInput (Ok (Make pieces)) source = ⊤
 HasAcceptedInput (Ok Replay) source = IsSomeAnd source.left IsAcceptedScript
 HasAcceptedInput (Err e) source = ⊥
 
 -- P holds of the text that a command parses, where its input is observable
 abbrev pub OnParsedText : (List ℕ → Type 0) → Result Command RunError → SourceView → Type 0
-OnParsedText P (Ok Report) source = IfSome source.left P
+OnParsedText P (Ok (Show form)) source = IfSome source.left P
 OnParsedText P (Ok (Make pieces)) source = P (made pieces)
 OnParsedText P (Ok Replay) source = IfSome source.left (λ script. P (text_of_script script))
 OnParsedText P (Err e) source = ⊥
 
 -- a command that reads its source reads it to the end
 abbrev pub IsReadToEnd : Result Command RunError → SourceView → Type 0
-IsReadToEnd (Ok Report) source = IsAtEnd source.left
+IsReadToEnd (Ok (Show form)) source = IsAtEnd source.left
 IsReadToEnd (Ok (Make pieces)) source = ⊤
 IsReadToEnd (Ok Replay) source = IsAtEnd source.left
 IsReadToEnd (Err e) source = ⊥
@@ -176,7 +206,8 @@ SourceFailed command old new = ReadsSource command × SourceFaultRose old new
 -- the command accepts its input, and this is the tree of the text that it parses
 pub record IsTreeFor (request : Request) (input : List ℕ) (tree : Tree) : Type 0 where
   pub accepted : Accepts request.command input
-  pub parsed : IsParsed request.reading (parsed_text request.command input) tree
+  pub parsed : IsParsedBy (command_tree request.command) request.reading
+      (parsed_text request.command input) tree
 
 -- this is the tree of the command for its input
 abbrev pub IsTreeOf : Request → SourceView → Tree → Type 0
@@ -204,6 +235,11 @@ abbrev pub IsDivided : Request → SourceView → Tree → Type 0
 IsDivided request source tree =
     OnParsedText (λ text. ChildrenAreStatements request.reading text tree) request.command source
 
+-- a tree with the nodes of clauses, added to the tree of that text
+abbrev pub HasAddedClauses : Request → SourceView → Tree → Type 0
+HasAddedClauses request source tree =
+    OnParsedText (λ text. AddsClauses request.reading text tree) request.command source
+
 -- Runs
 
 -- the status that a run ends with
@@ -230,6 +266,19 @@ pub record IsInvalidAt (at : ℕ) (command : Result Command RunError) (old new :
 -- one byte more than the limit was taken from the source
 abbrev pub ExceedsLimit : Result Command RunError → (old new : SourceView) → Type 0
 ExceedsLimit command old new = ReadsSource command × TakesExactly old new (limit + 1)
+
+-- a text to quote was read to its end, and one of the three that quote it is too long
+pub record MeetsLongQuotes (command : Result Command RunError) (old new : SourceView)
+    : Type 0 where
+  pub quotes : command ≡ Ok (Show Quotes)
+  pub taken : TakesAtMost old new limit
+  pub end : IsReadToEnd command new
+  pub input : (bytes : List ℕ) × IsInput command old bytes × IsTooLongToQuote bytes
+
+-- one byte more than the limit was taken, or one of the three texts that quote what was read is
+-- longer than the limit
+abbrev pub IsTooLong : Result Command RunError → (old new : SourceView) → Type 0
+IsTooLong command old new = ExceedsLimit command old new ⊎ MeetsLongQuotes command old new
 
 -- a script was read to its end, and its first bad record is at an offset
 pub record IsMalformedAt (at : ℕ) (command : Result Command RunError) (old new : SourceView)
@@ -260,7 +309,7 @@ IsRunRefusal run ReadFault = SourceFailed run.request.command run.source_before 
 IsRunRefusal run (NotUtf8 at) =
     IsInvalidAt at run.request.command run.source_before run.source_after
 IsRunRefusal run (Front TooLong) =
-    ExceedsLimit run.request.command run.source_before run.source_after
+    IsTooLong run.request.command run.source_before run.source_after
 IsRunRefusal run (Front OutOfMemory) = IsOk run.request.command
 IsRunRefusal run (Front BadRange) =
     MeetsBadRange run.request.command run.source_before run.source_after
@@ -284,16 +333,16 @@ pub record WritesErrorLine (old new : SinkView) (e : RunError) : Type 0 where
 
 -- What the contracts of private functions cite
 
--- the errors of making the tree of bytes within the limit, and when each comes
-abbrev pub IsParseRefusal : List ℕ → RunError → Type 0
-IsParseRefusal bytes BadWords = ⊥
-IsParseRefusal bytes ReadFault = ⊥
-IsParseRefusal bytes (NotUtf8 at) = IsInvalidText bytes × IsValidUpTo bytes at
-IsParseRefusal bytes (Front TooLong) = ⊥
-IsParseRefusal bytes (Front OutOfMemory) = ⊤
-IsParseRefusal bytes (Front BadRange) = ⊥
-IsParseRefusal bytes (BadScript at) = ⊥
-IsParseRefusal bytes WriteFault = ⊥
+-- the errors of making a form of bytes within the limit, and when each comes
+abbrev pub IsFormRefusal : Form → List ℕ → RunError → Type 0
+IsFormRefusal form bytes BadWords = ⊥
+IsFormRefusal form bytes ReadFault = ⊥
+IsFormRefusal form bytes (NotUtf8 at) = IsInvalidText bytes × IsValidUpTo bytes at
+IsFormRefusal form bytes (Front TooLong) = (form ≡ Quotes) × IsTooLongToQuote bytes
+IsFormRefusal form bytes (Front OutOfMemory) = ⊤
+IsFormRefusal form bytes (Front BadRange) = ⊥
+IsFormRefusal form bytes (BadScript at) = ⊥
+IsFormRefusal form bytes WriteFault = ⊥
 
 -- the errors of applying a script within the limit, and when each comes
 abbrev pub IsReplayRefusal : List ℕ → RunError → Type 0
@@ -311,7 +360,7 @@ abbrev pub IsPrepareRefusal : Command → (old new : SourceView) → RunError �
 IsPrepareRefusal command old new BadWords = ⊥
 IsPrepareRefusal command old new ReadFault = SourceFailed (Ok command) old new
 IsPrepareRefusal command old new (NotUtf8 at) = IsInvalidAt at (Ok command) old new
-IsPrepareRefusal command old new (Front TooLong) = ExceedsLimit (Ok command) old new
+IsPrepareRefusal command old new (Front TooLong) = IsTooLong (Ok command) old new
 IsPrepareRefusal command old new (Front OutOfMemory) = ⊤
 IsPrepareRefusal command old new (Front BadRange) = MeetsBadRange (Ok command) old new
 IsPrepareRefusal command old new (BadScript at) = IsMalformedAt at (Ok command) old new
@@ -329,6 +378,15 @@ pub record IsPrepared (request : Request) (old new : SourceView) (p : Prepared) 
       (prepared_output p.text.items p.memory p.parse)
   pub balanced : IsTree p.parse
   pub end : IsReadToEnd request.command new
+
+-- the tree that goes with a form of a text, and the form
+pub record IsFormed (reading : Reading) (form : Form) (bytes : List ℕ) (p : Prepared)
+    : Type 0 where
+  pub accepted : HasForm form bytes
+  pub parsed : IsParsedBy (form_tree form) reading bytes p.parse
+  pub balanced : IsTree p.parse
+  pub form_is : prepared_output p.text.items p.memory p.parse
+      ≡ form_of reading form bytes p.parse
 
 -- the tree of a made text, and its summary
 pub record IsSummarized (reading : Reading) (pieces : ℕ) (p : Prepared) : Type 0 where

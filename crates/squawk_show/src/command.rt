@@ -1,16 +1,33 @@
 //! The commands of the program, and the words of its command line.
 ghost use Rattle.std.specs.Prelude.{◌≡◌, IfOk, IfErr, IsErr, IsOkUnless};
-ghost use Rattle.squawk_show.specs.Command.{asks, command_of, named_command, make_command, request_of, IsWithinPieces};
+ghost use Rattle.squawk_show.specs.Command.{asks, command_of, named_command, make_command, request_of, word_command, IsWithinPieces};
 
 use crate::made::MAX_PIECES;
 use crate::options::parse_options;
 use crate::{Reading, RunError};
 
+/// What the program writes of a text that it reads. Public for contracts.
+#[derive(Clone, Copy, Debug, PartialEq, Eq)]
+pub enum Form {
+    /// The report of its tree: without a word.
+    Report,
+    /// A line for each of its pieces, which are statements, psql commands, COPY data and the gaps
+    /// between them: `split`.
+    Pieces,
+    /// SQL that has the text as its value, as a string constant, as a dollar-quoted string and as a
+    /// quoted identifier: `quote`.
+    Quotes,
+    /// The text with one character for each run of white space and comments: `squeeze`.
+    Squeezed,
+    /// The report of its tree with the clauses of `select` statements: `clauses`.
+    Clauses,
+}
+
 /// A command of the program. Public for contracts: `run` reads it from its words.
 #[derive(Clone, Copy, Debug, PartialEq, Eq)]
 pub enum Command {
-    /// Reads a text and writes the report of its tree: the command of an empty command line.
-    Report,
+    /// Reads a text and writes a form of it. Its word is that of the form.
+    Show { form: Form },
     /// Makes a text of `pieces` pieces, from 1 to 100000, and writes the summary of its tree. Its
     /// words are `make` and the number in decimal digits, without leading zeros.
     Make { pieces: u32 },
@@ -35,6 +52,28 @@ fn parse_make(count: &str) -> Result<Command, RunError>
     }
 }
 
+// The command of one word.
+fn parse_word(word: &str) -> Result<Command, RunError>
+    ensures command { result ≡ word_command word.now }
+    ensures bad_words { IsOkUnless result RunError.BadWords }
+    ensures within { IfOk result IsWithinPieces }
+{
+    let form = if word == "split" {
+        Form::Pieces
+    } else if word == "quote" {
+        Form::Quotes
+    } else if word == "squeeze" {
+        Form::Squeezed
+    } else if word == "clauses" {
+        Form::Clauses
+    } else if word == "replay" {
+        return Ok(Command::Replay);
+    } else {
+        return Err(RunError::BadWords);
+    };
+    Ok(Command::Show { form })
+}
+
 // Parses the words of the command line after its options.
 fn parse_command(words: &[String]) -> Result<Command, RunError>
     ensures command { result ≡ named_command words.now }
@@ -42,8 +81,8 @@ fn parse_command(words: &[String]) -> Result<Command, RunError>
     ensures within { IfOk result IsWithinPieces }
 {
     match words.len() {
-        0 => Ok(Command::Report),
-        1 if words[0].as_str() == "replay" => Ok(Command::Replay),
+        0 => Ok(Command::Show { form: Form::Report }),
+        1 => parse_word(words[0].as_str()),
         2 if words[0].as_str() == "make" => parse_make(words[1].as_str()),
         _ => Err(RunError::BadWords),
     }

@@ -1,5 +1,5 @@
-//! The program: it writes the report of the SQL on standard input, a summary of a made text, or
-//! what the edits of a script do.
+//! The program: it writes a form of the SQL on standard input, a summary of a made text, or what
+//! the edits of a script do.
 #![tactic(auto)]
 
 mod block;
@@ -7,6 +7,7 @@ mod command;
 mod digits;
 mod edge;
 mod error;
+mod forms;
 pub mod laws;
 mod line;
 mod line_buffer;
@@ -22,7 +23,7 @@ mod summary;
 mod tests;
 mod writing;
 
-pub use command::Command;
+pub use command::{Command, Form};
 pub use edge::{Failed, MemorySink, MemorySource, ReadSource, Sink, Source, WriteSink};
 pub use error::RunError;
 pub use options::Reading;

@@ -5,19 +5,20 @@ ghost use Rattle.squawk_show.specs.Command.{asks, command_of, request_of, IsWith
 ghost use Rattle.squawk_show.specs.Edge.{AppendsAll, AppendsPrefix, HasCause, TakesAtMost, SinkFaultRose, SourceFaultRose};
 ghost use Rattle.squawk_show.specs.Made.{most_pieces};
 ghost use Rattle.squawk_show.specs.Run as spec;
-ghost use Rattle.squawk_show.specs.Run.{HasLeavesOf, IsDivided, IsReadToEnd, WritesErrorLine};
+ghost use Rattle.squawk_show.specs.Run.{HasAddedClauses, HasLeavesOf, IsDivided, IsReadToEnd, WritesErrorLine};
 ghost use Rattle.squawk_tree.specs.Tree.{IsTree};
 
 use crate::command::parse_words;
+use crate::forms::prepare_form;
 use crate::made::make_text;
 use crate::refusal::write_error_line;
 use crate::replay::prepare_replay;
 use crate::summary::make_summary;
 use crate::{
-    Command, Failed, Reading, ReportMemory, RunError, Sink, Source, read_all, write_report,
-    write_whole,
+    Command, Failed, Form, Reading, ReportMemory, RunError, Sink, Source, write_report, write_whole,
 };
-use squawk_events::{FrontError, LIMIT};
+use squawk_clauses::laws::clause_parses_are_plain;
+use squawk_events::FrontError;
 use squawk_tree::{Parse, parse_divided};
 use std::alloc::Global;
 
@@ -26,23 +27,8 @@ use std::alloc::Global;
 pub struct Shown {
     /// 0 where the whole output was written, else the status of the error.
     pub status: u8,
-    /// The tree of the text, or why no whole output was written.
+    /// The tree that the command made, or why no whole output was written.
     pub outcome: Result<Parse, RunError>,
-}
-
-// Parses bytes, if they are UTF-8.
-fn parse_bytes(alloc: Global, bytes: &[u8], reading: Reading) -> Result<Parse, RunError>
-    requires { length bytes.now ≤ limit }
-    ensures parsed { IfOk result (spec.IsParsed reading bytes.now) }
-    ensures balanced { IfOk result IsTree }
-    ensures refusals { IfErr result (spec.IsParseRefusal bytes.now) }
-{
-    match std::str::from_utf8(bytes) {
-        Ok(text) => Ok(parse_divided(alloc, text, reading.strings, reading.division)?),
-        Err(error) => Err(RunError::NotUtf8 {
-            at: error.valid_up_to(),
-        }),
-    }
 }
 
 // What a command makes before it writes: its tree, the text that it writes first, and the memory
@@ -52,29 +38,6 @@ pub(crate) struct Prepared {
     pub(crate) parse: Parse,
     pub(crate) text: Vec<u8>,
     pub(crate) memory: Option<ReportMemory>,
-}
-
-// Reads the source to its end, and makes the tree of its text.
-fn prepare_report<S: Source>(
-    alloc: Global,
-    reading: Reading,
-    source: &mut S,
-) -> Result<Prepared, RunError>
-    ensures prepared { IfOk result (spec.IsPrepared (asks reading Command.Report)
-        (S.view source.old) (S.view source.new)) }
-    ensures refusals { IfErr result
-        (spec.IsPrepareRefusal Command.Report (S.view source.old) (S.view source.new)) }
-    ensures taken { result ≢ Err (RunError.Front FrontError.TooLong)
-        → TakesAtMost (S.view source.old) (S.view source.new) limit }
-{
-    let bytes = read_all(alloc, source, LIMIT)?;
-    let parse = parse_bytes(alloc, &bytes, reading)?;
-    let memory = ReportMemory::new(alloc, parse.steps().len())?;
-    Ok(Prepared {
-        parse,
-        text: Vec::new(alloc),
-        memory: Some(memory),
-    })
 }
 
 // Makes a text, its tree and its summary.
@@ -111,7 +74,7 @@ fn prepare<S: Source>(
         → TakesAtMost (S.view source.old) (S.view source.new) limit }
 {
     match command {
-        Command::Report => prepare_report(alloc, reading, source),
+        Command::Show { form } => prepare_form(alloc, reading, form, source),
         Command::Make { pieces } => prepare_summary(alloc, reading, pieces),
         Command::Replay => prepare_replay(alloc, reading, source),
     }
@@ -173,7 +136,10 @@ fn run_command<S: Source, K: Sink>(
 ///
 /// `words` are those of the command line without the program's name: the options, and then the
 /// command. Without a command the text is what `source` has left, and the output is the report of
-/// its tree. With `make` and a number from 1 to 100000 the text is made, the output is a summary,
+/// its tree. With `split` it is a line for each piece of that text; with `quote`, SQL that has the
+/// text as its value; with `squeeze`, the text with one character for each run of white space and
+/// comments; with `clauses`, the report of a tree that also has the clauses of `select` statements.
+/// With `make` and a number from 1 to 100000 the text is made, the output is a summary,
 /// and the source is not read. With `replay` what `source` has left is a script of edits of a text
 /// that is empty at first, and the output is a line for each edit, and then the report of the last
 /// tree.
@@ -207,6 +173,10 @@ pub fn run<S: Source, K: Sink, E: Sink>(
     ensures leaves { IfOk result.outcome (HasLeavesOf (request_of words.now) (S.view source.old)) }
     ensures children { IfOk result.outcome (IsDivided (request_of words.now) (S.view source.old)) }
 
+    // With `clauses` that tree is the one without the command, but for the nodes of clauses.
+    ensures clauses { command_of words.now ≡ Ok (Command.Show Form.Clauses)
+        → IfOk result.outcome (HasAddedClauses (request_of words.now) (S.view source.old)) }
+
     // When each error comes.
     ensures refusals { IfErr result.outcome (spec.IsRunRefusal (record {
       request = request_of words.now;
@@ -226,7 +196,7 @@ pub fn run<S: Source, K: Sink, E: Sink>(
     // Without a fault of the source, the input decides the status unless memory runs out. Each
     // clause has one case: an accepted input, where `out` has no fault either; bytes within the
     // limit that are not UTF-8; more bytes than the limit; a text that is no script; a script with
-    // an unlawful range.
+    // an unlawful range; a text that is too long to quote.
     ensures complete { spec.HasAcceptedInput (command_of words.now) (S.view source.old)
         → ¬ (spec.SourceFailed (command_of words.now) (S.view source.old) (S.view source.new))
         → ¬ (SinkFaultRose (K.view out.old) (K.view out.new))
@@ -245,7 +215,12 @@ pub fn run<S: Source, K: Sink, E: Sink>(
         → IsSomeAnd (S.view source.old).left spec.HasBadRange
         → ¬ (SourceFaultRose (S.view source.old) (S.view source.new))
         → (result.status ≡ 9) ⊎ (result.status ≡ 6) }
+    ensures long_quotes { command_of words.now ≡ Ok (Command.Show Form.Quotes)
+        → IsSomeAnd (S.view source.old).left spec.IsTooLongToQuote
+        → ¬ (SourceFaultRose (S.view source.old) (S.view source.new))
+        → (result.status ≡ 5) ⊎ (result.status ≡ 6) }
 {
+    clause_parses_are_plain();
     match run_command(alloc, words, source, out) {
         Ok(parse) => Shown {
             status: 0,

@@ -1,4 +1,4 @@
-use Rattle.std.proofs.Common.{◌++◌, drop, arith}
+use Rattle.std.proofs.Common.{drop, arith}
 use Rattle.std.specs.Prelude.{flat_map}
 use Rattle.squawk_show.proofs.OutputLemmas.{error_lines_of, takes_line, takes_prefix, takes_some}
 use Rattle.squawk_show.specs.Report.{parse_error_line}

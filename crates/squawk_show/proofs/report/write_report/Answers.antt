@@ -2,7 +2,7 @@ use Rattle.std.proofs.Common.{◌++◌, append_assoc, subst, sym}
 use Rattle.std.specs.Prelude.{flat_map}
 use Rattle.squawk_show.proofs.OutputLemmas.{on_ok, takes_end, takes_longer, takes_prefix, takes_rest, takes_then, tree_taken}
 use Rattle.squawk_show.specs.Output.{TakesAllBut}
-use Rattle.squawk_show.specs.Report.{parse_error_line, report_of, tree_lines}
+use Rattle.squawk_show.specs.Report.{parse_error_line, tree_lines}
 use Rattle.squawk_show.proofs.report.write_report.Goals as goal
 
 pub returns-in_err-push_tree_lines-clause-prefix : goal.returns-in_err-push_tree_lines-clause-prefix
