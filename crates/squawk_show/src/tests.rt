@@ -3,6 +3,7 @@ mod bad_scripts;
 mod commands;
 mod errors;
 mod faults;
+mod forms;
 mod hostile;
 mod lines;
 mod readings;

@@ -112,6 +112,86 @@ const ROWS: &[Row<'static>] = &[
         words: &["replays"],
         out: None,
     },
+    Row {
+        name: "split_with_word",
+        words: &["split", "x"],
+        out: None,
+    },
+    Row {
+        name: "split_with_empty_word",
+        words: &["split", ""],
+        out: None,
+    },
+    Row {
+        name: "split_uppercase",
+        words: &["Split"],
+        out: None,
+    },
+    Row {
+        name: "splits",
+        words: &["splits"],
+        out: None,
+    },
+    Row {
+        name: "split_and_space",
+        words: &["split "],
+        out: None,
+    },
+    Row {
+        name: "quote_with_number",
+        words: &["quote", "4"],
+        out: None,
+    },
+    Row {
+        name: "quote_uppercase",
+        words: &["QUOTE"],
+        out: None,
+    },
+    Row {
+        name: "quotes",
+        words: &["quotes"],
+        out: None,
+    },
+    Row {
+        name: "squeeze_with_word",
+        words: &["squeeze", "squeeze"],
+        out: None,
+    },
+    Row {
+        name: "squeeze_uppercase",
+        words: &["Squeeze"],
+        out: None,
+    },
+    Row {
+        name: "squeezed",
+        words: &["squeezed"],
+        out: None,
+    },
+    Row {
+        name: "clauses_with_word",
+        words: &["clauses", "select"],
+        out: None,
+    },
+    Row {
+        name: "clauses_uppercase",
+        words: &["Clauses"],
+        out: None,
+    },
+    Row {
+        name: "clause",
+        words: &["clause"],
+        out: None,
+    },
+    Row {
+        name: "two_commands",
+        words: &["split", "quote"],
+        out: None,
+    },
+    Row {
+        name: "empty_word",
+        words: &[""],
+        out: None,
+    },
 ];
 
 const OPTION_ROWS: &[Row<'static>] = &[
@@ -168,6 +248,41 @@ const OPTION_ROWS: &[Row<'static>] = &[
     Row {
         name: "option_with_one_dash",
         words: &["-backslash"],
+        out: None,
+    },
+    Row {
+        name: "option_after_split",
+        words: &["split", "--backslash"],
+        out: None,
+    },
+    Row {
+        name: "option_after_quote",
+        words: &["quote", "--grouped"],
+        out: None,
+    },
+    Row {
+        name: "option_after_squeeze",
+        words: &["squeeze", "--backslash"],
+        out: None,
+    },
+    Row {
+        name: "option_after_clauses",
+        words: &["clauses", "--grouped"],
+        out: None,
+    },
+    Row {
+        name: "options_around_split",
+        words: &["--backslash", "split", "--grouped"],
+        out: None,
+    },
+    Row {
+        name: "options_in_the_other_order_before_split",
+        words: &["--grouped", "--backslash", "split"],
+        out: None,
+    },
+    Row {
+        name: "option_before_splits",
+        words: &["--grouped", "splits"],
         out: None,
     },
 ];

@@ -46,6 +46,37 @@ const REPLAY: Run<'static> = Run {
         0 N source file 0..0\n",
 };
 
+const SPLIT: Run<'static> = Run {
+    name: "split",
+    words: &["split"],
+    input: b"copy t from stdin;\n\\.\n",
+    out: b"S 0..18\nD 18..22\n",
+};
+
+const QUOTE: Run<'static> = Run {
+    name: "quote",
+    words: &["quote"],
+    input: b"it's",
+    out: b"'it''s'\n$$it's$$\n\"it's\"\n",
+};
+
+const SQUEEZE: Run<'static> = Run {
+    name: "squeeze",
+    words: &["squeeze"],
+    input: b"a /**/ - --\n/**/-",
+    out: b"a -\n-",
+};
+
+const CLAUSES: Run<'static> = Run {
+    name: "clauses",
+    words: &["clauses"],
+    input: b"select",
+    out: b"0 N source file 0..6\n\
+        1 N select 0..6\n\
+        2 N select clause 0..6\n\
+        3 T `select` 0..6\n",
+};
+
 // The calls that fail, and what is expected then: the status, the number of bytes in `out`, and the
 // line on `err`.
 #[derive(Clone, Copy)]
@@ -116,7 +147,7 @@ fn check_reads(rt: &impl Abort, alloc: Global, run_of: &Run<'_>) -> Result<(), F
 
 #[test]
 fn each_read_fails(rt: HostRuntime) -> Result<(), Fail> {
-    for run_of in &[REPORT, REPLAY] {
+    for run_of in &[REPORT, REPLAY, SPLIT, QUOTE, SQUEEZE, CLAUSES] {
         check_reads(&rt, rt.alloc(), run_of)?;
     }
     Ok(())
@@ -145,7 +176,7 @@ fn check_writes(rt: &impl Abort, alloc: Global, run_of: &Run<'_>) -> Result<(), 
 #[test]
 fn each_write_fails(rt: HostRuntime) -> Result<(), Fail> {
     assert_eq!(rt; SELECT_ONE.len(), 113);
-    for run_of in &[REPORT, MAKE, REPLAY] {
+    for run_of in &[REPORT, MAKE, REPLAY, SPLIT, QUOTE, SQUEEZE, CLAUSES] {
         check_writes(&rt, rt.alloc(), run_of)?;
     }
     Ok(())
@@ -170,7 +201,7 @@ fn check_rooms(rt: &impl Abort, alloc: Global, run_of: &Run<'_>) -> Result<(), F
 
 #[test]
 fn little_room(rt: HostRuntime) -> Result<(), Fail> {
-    for run_of in &[REPORT, MAKE, REPLAY] {
+    for run_of in &[REPORT, MAKE, REPLAY, SPLIT, QUOTE, SQUEEZE, CLAUSES] {
         check_rooms(&rt, rt.alloc(), run_of)?;
     }
     Ok(())
@@ -303,6 +334,14 @@ const LONG: &[Long<'static>] = &[
         times: 1600,
         len: 136_257,
         taken: &[68_667, 134_078],
+    },
+    Long {
+        name: "clauses",
+        words: &["clauses"],
+        part: "select 1;",
+        times: 460,
+        len: 67_999,
+        taken: &[65_413],
     },
 ];
 
