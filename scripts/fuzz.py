@@ -6,7 +6,8 @@ Use: fuzz.py [--cases N] [--minutes M] [--seed S] [--jobs J] [--commands NAMES] 
 A case is one text, of pieces that are tokens of every form, cut and glued. The script ends after N cases or M minutes,
 whichever comes first; after 1000 cases if neither is given. Case K of a seed is the same in every run. J programs run
 at once, 1 if nothing is said. The program is the one that ./run builds, which is built first if need be; PROGRAM is any
-other. NAMES are the commands, with commas between them: `report` (no arguments) and `replay`; both if nothing is said.
+other. NAMES are the commands, with commas between them: `report` (no arguments), `replay`, `split`, `quote`, `squeeze`
+and `clauses`; all of them if nothing is said.
 
 For each text, in one of the readings that the program's options choose:
   tree      the leaves tile the text, nodes nest and begin and end with a leaf that is no trivia, a leaf that prints as
@@ -14,6 +15,14 @@ For each text, in one of the readings that the program's options choose:
   parts     the lines and errors of two parts of the text, cut at the end of a closed statement, are those of the text
   replay    a script of edits that make the text ends with its report, and begins as its first records alone do; the
             counts of an edit add up to the tokens and children of the text after it, and what it keeps is in both texts
+  split     the pieces tile the text; up to COPY data they are the children of the root, and those from an offset on
+            are the pieces of the rest of the text; COPY data stands after some statements, and ends at its first end
+  quote     each of the three lines has the text as its value and is one leaf in its report, and the delimiter of the
+            dollar-quoted string is the shortest that fits
+  squeeze   the squeezed text is no longer, has the same leaves besides trivia, one character where it has trivia, and
+            stays the same when it is squeezed again
+  clauses   the report is the one without the command but for clause nodes, which are in `select` statements alone, and
+            in each with the word outside parentheses
   refusals  bytes that are not UTF-8 end with status 4 and the right offset; a broken script with status 8 at an offset
             up to which it is a script, or with 9, or with 0; nothing was written to standard output but with 0
   time      the processor time is below 0.1 s and 1 microsecond for each byte and edit; each 200th text is repeated up
@@ -36,6 +45,7 @@ import time
 
 # The modules beside this script leave no compiled files there.
 sys.dont_write_bytecode = True
+from fuzz_forms import check_clauses, check_quote, check_split, check_squeeze
 from fuzz_report import BOM, Report, Wrong, check, check_kept
 from fuzz_texts import random_range, random_text, script
 
@@ -44,7 +54,9 @@ BUILT = TOP / "crates/squawk_show/out/squawk_show"
 
 # The options that stand before a command, one entry for each reading.
 READINGS = [], ["--backslash"], ["--grouped"], ["--backslash", "--grouped"]
-COMMANDS = {"report": [], "replay": ["replay"]}
+# The commands that write a form of the text.
+FORMS = "split", "quote", "squeeze", "clauses"
+COMMANDS = {"report": [], "replay": ["replay"]} | {name: [name] for name in FORMS}
 
 # The bound of the processor time in seconds: of each run, and of each byte and edit. A longer run is killed.
 START_TIME, BYTE_TIME, LONGEST = 0.1, 1e-6, 30
@@ -162,6 +174,21 @@ def check_not_utf8(program, words, data, rng):
         check(ended == (4, b"", f"not UTF-8 at {error.start}\n"), f"refusals: {data!r} ends with {ended}")
 
 
+def check_forms(program, commands, reading, data, report, rng):
+    """The commands that write a form of the text."""
+    if "split" in commands:
+        check_split(program, reading, data, report, rng)
+    if "quote" in commands:
+        check_quote(program, reading, data)
+    if "squeeze" in commands:
+        check_squeeze(program, reading, data, report)
+    if "clauses" in commands:
+        check_clauses(program, reading, data, report)
+    for name in FORMS:
+        if name in commands:
+            check_not_utf8(program, [*reading, name], data, rng)
+
+
 def check_text(program, commands, text, rng):
     """All checks of a text, in one of the readings."""
     data = text.encode()
@@ -177,6 +204,7 @@ def check_text(program, commands, text, rng):
         whole = check_replay(program, words, data, lines, rng)
         check_script(program, words, whole, rng)
         check_not_utf8(program, words, whole, rng)
+    check_forms(program, commands, reading, data, report, rng)
 
 
 def failure(program, commands, text, key):

@@ -18,6 +18,10 @@ FORMS = [
     "select SELECT insert into update set delete from where create or replace temp table view unique index end".split(),
     "begin commit with as values copy stdin explain grant drop alter function constraint recursive group by".split(),
     ["select 1;", "begin;", "(select 1);", "insert into t values (1, 'a;b');", "create or replace view v as table $1;"],
+    "select from where group by having order by limit 1 offset union distinct SELECT FROM ;".split(),
+    ["copy t from stdin;\r\n'\r\n\\.\r\n", "copy t (a) FROM STDIN csv;\n", "\\.\n", "\n\\.\r\n", "\n\\.", "\\.\r"],
+    ["- -", "-/*a*/-", "-\n-", "| /**/|", "/ *", "/ /* */*"],
+    ["copy (select 1 from stdin) to stdout;", "(copy t from stdin;", "$q$", "$qq$", "$qqq", "''", '""'],
     ["update t set a = 1;", "delete from t \\g\n", "foo (a;b", "copy t from stdin;\n1\n\\.\n", "with q as (table t) 1"],
 ]
 

@@ -17,6 +17,13 @@ of these, with commas between them; all of them if nothing is said:
   backslash_replay, grouped_replay, both_replay
               `replay` of an edit, with these options
   both_make   `make 4` with both options
+  split, quote, squeeze, clauses
+              these commands on a script of statements, COPY data, comments and psql commands
+  backslash_split, grouped_split, both_split, backslash_squeeze, grouped_clauses, both_clauses
+              these commands on the text of `both`, with these options
+  long_quote  `quote` of a text with 40 delimiters of dollar-quoted strings
+  long_split, long_squeeze, long_clauses
+              these commands on a text of 400 statements
   unchanged   a test of squawk_document: after an edit without memory a document is the same as before
 
 A growth is a call of malloc, calloc, realloc, posix_memalign, aligned_alloc or mmap. The script compiles a library
@@ -118,6 +125,22 @@ COMMIT;
 # Both options read this text in another way: a backslash escapes a quote, and a semicolon stands in parentheses.
 BOTH = r"select (1; '\'); select 2; '); select 3;"
 
+# A script with a piece of each kind: gaps, statements, a psql command and COPY data.
+SCRIPT = r"""-- It's a script.
+\echo start
+create table t (a text);
+copy t (a) from stdin;
+it's
+\.
+select a  /* all */  from t where (a <> '') group by a limit 1 \g
+"""
+
+# A text with 40 delimiters of dollar-quoted strings, none of which fits.
+DELIMITERS = "".join(f"${'q' * count}$ " for count in range(40))
+
+# A text of 400 statements, with comments.
+LONG = "select a from t;  -- a\n" * 400
+
 
 def record(start, end, new):
     """A record of a script of edits: the range from start to end is replaced by the text `new`."""
@@ -152,6 +175,20 @@ RUNS = {
     "grouped_replay": (["--grouped", "replay"], both_replay()),
     "both_replay": (["--backslash", "--grouped", "replay"], both_replay()),
     "both_make": (["--backslash", "--grouped", "make", "4"], ""),
+    "split": (["split"], SCRIPT),
+    "quote": (["quote"], SCRIPT),
+    "squeeze": (["squeeze"], SCRIPT),
+    "clauses": (["clauses"], SCRIPT),
+    "backslash_split": (["--backslash", "split"], BOTH),
+    "grouped_split": (["--grouped", "split"], BOTH),
+    "both_split": (["--backslash", "--grouped", "split"], BOTH),
+    "backslash_squeeze": (["--backslash", "squeeze"], BOTH),
+    "grouped_clauses": (["--grouped", "clauses"], BOTH),
+    "both_clauses": (["--backslash", "--grouped", "clauses"], BOTH),
+    "long_quote": (["quote"], DELIMITERS),
+    "long_split": (["split"], LONG),
+    "long_squeeze": (["squeeze"], LONG),
+    "long_clauses": (["clauses"], LONG),
 }
 
 # The runs of a test, whose program is that of TESTS.
@@ -221,7 +258,7 @@ class Refusals:
                 self.wrong(name, growths, growths, alone)
         if ended != (False, *whole):
             self.wrong(name, 0, 0, ended)
-        print(f"{name:16} {growths:6} growths refused, {silent} for the words, {spared} that it can do without")
+        print(f"{name:17} {growths:6} growths refused, {silent} for the words, {spared} that it can do without")
         return growths
 
     def refuse_test(self, name, test):
@@ -234,7 +271,7 @@ class Refusals:
                     self.wrong(name, growths, last, done)
         if ended[1] != 0:
             self.wrong(name, 0, 0, ended)
-        print(f"{name:16} {growths:6} growths refused, in a test")
+        print(f"{name:17} {growths:6} growths refused, in a test")
         return growths
 
 
