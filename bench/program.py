@@ -11,6 +11,9 @@ NAMES are one or more of these, with commas between them; all of them if nothing
   texts     the files, and `make 100000`, which only the program that ./run builds knows
   growth    the first file, 1, 2, 4 and 8 times, with the ratio of the time to that of half the text
   hostile   texts of 20 MB that repeat what is bad for a lexer or a tree, and a group 100000 deep
+  commands  the files under split, quote, squeeze and clauses of the first program, as ratios to its report
+  hostile_commands
+            the same of hostile texts of 10 and 20 MB, with the ratio of the time of 20 MB to that of 10 MB
 
 Time is user and system time of the process. Memory is its largest resident set. On Linux the figure includes the
 memory of this script, about 15 MB, so it says nothing below that.
@@ -72,6 +75,22 @@ def nested(depth):
     yield b";"
 
 
+# Of these, and of others, those that are bad for a command that reads a text.
+HOSTILE_TO_COMMANDS = {
+    "$q": ("", "$q"),
+    "data of COPY": ("copy t from stdin;\n", "\\.x\n"),
+    "ends of data": ("", "\\.\n"),
+    "white space": ("", " \n"),
+    "comments": ("", "/**/"),
+    "'": HOSTILE["'"],
+    ";": HOSTILE[";"],
+    "select": ("", "select "),
+}
+
+# The commands that read a text, without that of the report.
+COMMANDS = "split", "quote", "squeeze", "clauses"
+
+
 def parts_of(path):
     """The bytes of a file, in parts."""
     with open(path, "rb") as file:
@@ -92,7 +111,12 @@ def cost(program, words, path):
 
 def least_costs(programs, words, path, times):
     """The least time and the least memory of each program, which take turns."""
-    runs = [[cost(program, words, path) for program in programs] for _ in range(times)]
+    return least_of([(program, words) for program in programs], path, times)
+
+
+def least_of(calls, path, times):
+    """The least time and the least memory of each call, a program and its words. They take turns."""
+    runs = [[cost(program, words, path) for program, words in calls] for _ in range(times)]
     return [tuple(map(min, zip(*costs))) for costs in zip(*runs)]
 
 
@@ -119,9 +143,7 @@ class Bench:
 
     def measure(self, name, parts, half=None):
         """Prints the row of a text, with the ratio to the time of half of it. Returns the first program's time."""
-        with open(self.path, "wb") as file:
-            for part in parts:
-                file.write(part)
+        self.write(parts)
         costs = least_costs(self.programs, [], self.path, self.times)
         time = costs[0][0]
         note = "" if half is None else f" | {time / half:.2f} times the time of half"
@@ -144,6 +166,36 @@ class Bench:
             parts = (part for _ in range(factor) for part in parts_of(path))
             half = self.measure(f"{path.name} {factor}x", parts, half)
 
+    def commands(self, files):
+        for path in files:
+            self.measure_commands(path.name, parts_of(path))
+
+    def hostile_commands(self, _files):
+        for name, (start, piece) in HOSTILE_TO_COMMANDS.items():
+            half = self.measure_commands(name, repeated(start, piece, 10 * MB))
+            self.measure_commands(name, repeated(start, piece, 20 * MB), half)
+
+    def measure_commands(self, name, parts, halves=None):
+        """Prints a row for each command, and for the report. Returns their times."""
+        self.write(parts)
+        calls = [(self.programs[0], [command] if command else []) for command in ("", *COMMANDS)]
+        costs = least_of(calls, self.path, self.times)
+        report_time, report_memory = costs[0]
+        for number, (time, memory) in enumerate(costs):
+            label = f"{name}, {' '.join(calls[number][1]) or 'report'}"
+            line = f"{label:30} {time:7.3f} s {memory / MB:8.1f} MB"
+            line += f" | time {time / report_time:5.2f} memory {memory / report_memory:5.2f}"
+            if halves:
+                line += f" | {time / halves[number]:.2f} times the time of half"
+            print(line, flush=True)
+        return [time for time, _ in costs]
+
+    def write(self, parts):
+        """Writes a text to the file that the programs read."""
+        with open(self.path, "wb") as file:
+            for part in parts:
+                file.write(part)
+
     def hostile(self, _files):
         for name, (start, piece) in HOSTILE.items():
             self.measure(name, repeated(start, piece, 20 * MB))
@@ -151,7 +203,13 @@ class Bench:
 
 
 # The tables by their names.
-TABLES = {"texts": Bench.texts, "growth": Bench.growth, "hostile": Bench.hostile}
+TABLES = {
+    "texts": Bench.texts,
+    "growth": Bench.growth,
+    "hostile": Bench.hostile,
+    "commands": Bench.commands,
+    "hostile_commands": Bench.hostile_commands,
+}
 
 
 def repeated_statements(folder):
