@@ -1,0 +1,3 @@
+mod CutSteps
+mod ParseLemmas
+mod PutSteps
