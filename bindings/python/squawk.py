@@ -1,0 +1,473 @@
+"""A PostgreSQL lexer and lossless syntax trees, by ctypes over the proved library.
+
+    >>> from squawk import Text
+    >>> text = Text("select 'é'; comit;")
+    >>> [text.slice(token) for token in text.tokens()][:4]
+    ['select', ' ', "'é'", ';']
+    >>> tree = text.parse()
+    >>> [child.name for child in tree.children()]
+    ['select', 'whitespace', 'error']
+    >>> [(error.message, text.slice(error), text.char_range(error)) for error in tree.errors]
+    [('unknown statement', 'comit', (12, 17))]
+
+The library counts bytes of UTF-8, and Python counts characters. Here an offset in bytes has the
+type `ByteOffset`, an offset in characters the type `CharOffset`, and `Text` turns one into the
+other. `start` and `end` are always offsets in bytes.
+
+`SQUAWK_LIBRARY` in the environment names the shared library, which `bindings/build_libraries.sh`
+makes; without it the library is `libsquawk.so` in the folder `bindings/lib`.
+
+`bindings/c/include/squawk.h` says what the library is proved to do. This module is tested only.
+"""
+import ctypes
+import enum
+import functools
+import os
+import struct
+from typing import Iterator, List, NamedTuple, NewType, Optional, Sequence, Tuple
+
+__all__ = [
+    "ByteOffset",
+    "CharOffset",
+    "Child",
+    "Diagnostic",
+    "OutOfMemory",
+    "Parse",
+    "Span",
+    "SquawkError",
+    "Step",
+    "StepAction",
+    "Text",
+    "Token",
+    "TokenFlag",
+    "TokenKind",
+    "TooLong",
+    "kind_name",
+    "message",
+    "version",
+]
+
+ByteOffset = NewType("ByteOffset", int)
+CharOffset = NewType("CharOffset", int)
+
+# The version of the interface that is declared here.
+_VERSION = 65536
+
+_OK = 0
+_TOO_LONG = 5
+_OUT_OF_MEMORY = 6
+_ARRAY_TOO_SMALL = 12
+
+# Room for the name of every kind and for every message.
+_NAME_ROOM = 40
+
+# The number of tokens that are cut in one call.
+_PORTION = 4096
+
+# The records of squawk.h.
+_TOKEN = struct.Struct("=HHIII")
+_STEP = struct.Struct("=HHII")
+_ERROR = struct.Struct("=III")
+
+
+class SquawkError(Exception):
+    """A call failed. Errors in a text are no exceptions: see `Diagnostic`."""
+
+
+class TooLong(SquawkError, ValueError):
+    """The text has more than 4294967295 bytes."""
+
+
+class OutOfMemory(SquawkError, MemoryError):
+    """There is not enough memory."""
+
+
+class TokenKind(enum.IntEnum):
+    """The kind of a token (`docs/GRAMMAR.md`). No token of a text is an `EOF`."""
+
+    UNKNOWN = 0
+    INT = 1
+    NUMERIC = 2
+    STR = 3
+    NATIONAL_STR = 4
+    BYTE_STR = 5
+    BIT_STR = 6
+    DOLLAR_QUOTED_STR = 7
+    UNICODE_ESC_STR = 8
+    ESC_STR = 9
+    WHITESPACE = 10
+    IDENT = 11
+    PSQL_COMMAND = 12
+    SEMI = 13
+    EOF = 14
+    SLASH = 15
+    LINE_COMMENT = 16
+    BLOCK_COMMENT = 17
+    MINUS = 18
+    COLON = 19
+    DOT = 20
+    DOT_DOT = 21
+    EQ = 22
+    GT = 23
+    AND = 24
+    LT = 25
+    BANG = 26
+    PLUS = 27
+    TILDE = 28
+    POUND = 29
+    QUESTION = 30
+    OR = 31
+    PERCENT = 32
+    CARET = 33
+    STAR = 34
+    BACKTICK = 35
+    AT = 36
+    CLOSE_BRACKET = 37
+    OPEN_BRACKET = 38
+    CLOSE_CURLY = 39
+    OPEN_CURLY = 40
+    CLOSE_PAREN = 41
+    OPEN_PAREN = 42
+    COMMA = 43
+    POSITIONAL_PARAM = 44
+    QUOTED_IDENT = 45
+
+
+_TOKEN_KINDS = tuple(TokenKind)
+
+
+class TokenFlag(enum.IntFlag):
+    """The flags of a token."""
+
+    TERMINATED = 1
+    """A string, a quoted identifier or a block comment whose end was found."""
+    UESCAPE = 2
+    """A quoted identifier that begins with `U&`."""
+    ENDS_QUERY = 4
+    """A psql command that ends the query before it."""
+    EMPTY_INT = 8
+    """The prefix of an integer without digits and junk, as `0x`."""
+    EMPTY_EXPONENT = 16
+    """A number with an exponent without digits, as `1e`."""
+
+
+class Token(NamedTuple):
+    """A token, with its range in bytes."""
+
+    kind: TokenKind
+    flags: int
+    """A sum of flags; for an integer also 256 times its base."""
+    start: ByteOffset
+    end: ByteOffset
+    junk: int
+    """Of a number and a parameter: how many bytes come before its trailing junk; otherwise 0."""
+
+    def has(self, flag: TokenFlag) -> bool:
+        """Whether the flag is set."""
+        return bool(self.flags & flag)
+
+    @property
+    def base(self) -> Optional[int]:
+        """The base of an integer: 2, 8, 10 or 16."""
+        return self.flags >> 8 or None
+
+
+class StepAction(enum.IntEnum):
+    """What a step of a tree does."""
+
+    ENTER = 0
+    LEAF = 1
+    EXIT = 2
+
+
+_STEP_ACTIONS = tuple(StepAction)
+
+
+class Step(NamedTuple):
+    """A step of a tree, with its range in bytes: of a node both where it is entered and left."""
+
+    action: StepAction
+    kind: int
+    """The number of the kind of the node that is entered, or of the leaf; 0 at an exit."""
+    start: ByteOffset
+    end: ByteOffset
+
+    @property
+    def name(self) -> Optional[str]:
+        """The printed text of the kind, or `None` at an exit."""
+        return None if self.action is StepAction.EXIT else kind_name(self.kind)
+
+
+class Diagnostic(NamedTuple):
+    """An error in a text, with its range in bytes."""
+
+    start: ByteOffset
+    end: ByteOffset
+    number: int
+    """The number of the message, from 1 to 10."""
+
+    @property
+    def message(self) -> str:
+        """The message."""
+        return message(self.number)
+
+
+class Child:
+    """A child of a node: a leaf, which is one step, or a node, from its enter to its exit."""
+
+    def __init__(self, steps: Sequence[Step]) -> None:
+        self.steps = steps
+        """The steps of the leaf or the node."""
+
+    @property
+    def is_node(self) -> bool:
+        """Whether it is a node."""
+        return self.steps[0].action is StepAction.ENTER
+
+    @property
+    def kind(self) -> int:
+        """The number of its kind."""
+        return self.steps[0].kind
+
+    @property
+    def name(self) -> str:
+        """The printed text of its kind."""
+        return kind_name(self.kind)
+
+    @property
+    def start(self) -> ByteOffset:
+        """Its first byte."""
+        return self.steps[0].start
+
+    @property
+    def end(self) -> ByteOffset:
+        """The byte after its last."""
+        return self.steps[0].end
+
+    def children(self) -> Iterator["Child"]:
+        """Yields its children. A leaf has none."""
+        first, open_nodes = 1, 0
+        for i in range(1, len(self.steps) - 1):
+            action = self.steps[i].action
+            open_nodes += (action is StepAction.ENTER) - (action is StepAction.EXIT)
+            if open_nodes == 0:
+                yield Child(self.steps[first : i + 1])
+                first = i + 1
+
+
+class Parse:
+    """The tree of a text, and its errors."""
+
+    def __init__(self, steps: List[Step], errors: List[Diagnostic]) -> None:
+        self.steps = steps
+        """The steps in the order of the text. The first one enters the root."""
+        self.errors = errors
+        """The errors, in the order of the tokens."""
+
+    def children(self) -> Iterator[Child]:
+        """Yields the children of the root."""
+        return Child(self.steps).children()
+
+
+class Span(NamedTuple):
+    """A range of bytes. Tokens, steps, children and diagnostics can stand for theirs."""
+
+    start: ByteOffset
+    end: ByteOffset
+
+
+class Text:
+    """A text: its characters, and their bytes in UTF-8, which the library reads.
+
+    A lone surrogate is not a character, and makes a `UnicodeEncodeError`.
+    """
+
+    def __init__(self, text: str) -> None:
+        self.text = text
+        """The characters."""
+        self.data = text.encode("utf-8")
+        """The bytes."""
+        self._is_ascii = len(self.data) == len(text)
+
+    def tokens(self, *, backslash: bool = False) -> Iterator[Token]:
+        """Yields the tokens, which cover the text without a gap.
+
+        With `backslash`, a backslash escapes the next character in a string without a prefix.
+        """
+        if len(self.data) > 0xFFFFFFFF:
+            raise TooLong("too long")
+        at, count = ctypes.c_size_t(0), ctypes.c_size_t(0)
+        portion = (ctypes.c_uint32 * (_TOKEN.size // 4 * _PORTION))()
+        while at.value < len(self.data):
+            # The bytes are UTF-8, so they need no check. The object keeps them unchanged.
+            _check(
+                _lib.squawk_tokens_unchecked(
+                    self.data, len(self.data), int(backslash), at, portion, _PORTION, count
+                )
+            )
+            records = ctypes.string_at(portion, _TOKEN.size * count.value)
+            for kind, flags, start, length, junk in _TOKEN.iter_unpack(records):
+                yield Token(
+                    _TOKEN_KINDS[kind],
+                    flags,
+                    ByteOffset(start),
+                    ByteOffset(start + length),
+                    junk,
+                )
+
+    def parse(self, *, backslash: bool = False, grouped: bool = False) -> Parse:
+        """Returns the tree and the errors.
+
+        `backslash` is as in `tokens`. With `grouped`, a semicolon in parentheses ends no statement.
+        """
+        step_count = ctypes.c_size_t(len(self.data) // 2 + 16)
+        error_count = ctypes.c_size_t(16)
+        while True:
+            step_room, error_room = step_count.value, error_count.value
+            steps = (ctypes.c_uint32 * (_STEP.size // 4 * step_room))()
+            errors = (ctypes.c_uint32 * (_ERROR.size // 4 * error_room))()
+            status = _lib.squawk_parse(
+                self.data,
+                len(self.data),
+                backslash + 2 * grouped,
+                steps,
+                step_room,
+                step_count,
+                errors,
+                error_room,
+                error_count,
+            )
+            if status != _ARRAY_TOO_SMALL:
+                break
+        _check(status)
+        step_records = ctypes.string_at(steps, _STEP.size * step_count.value)
+        error_records = ctypes.string_at(errors, _ERROR.size * error_count.value)
+        return Parse(
+            [
+                Step(_STEP_ACTIONS[action], kind, ByteOffset(start), ByteOffset(end))
+                for action, kind, start, end in _STEP.iter_unpack(step_records)
+            ],
+            [
+                Diagnostic(ByteOffset(start), ByteOffset(end), number)
+                for start, end, number in _ERROR.iter_unpack(error_records)
+            ],
+        )
+
+    def slice(self, span) -> str:
+        """Returns the characters of a token, a step, a child, a diagnostic or a `Span`."""
+        return self.data[span.start : span.end].decode("utf-8")
+
+    def char_offset(self, offset: ByteOffset) -> CharOffset:
+        """Returns how many characters come before this byte."""
+        if self._is_ascii:
+            return CharOffset(offset)
+        block = offset // _BLOCK
+        start = block * _BLOCK
+        return CharOffset(self._chars_before[block] + _count_chars(self.data[start:offset]))
+
+    def char_range(self, span) -> Tuple[CharOffset, CharOffset]:
+        """Returns the range in characters, as `self.text[start:end]` takes it."""
+        return self.char_offset(span.start), self.char_offset(span.end)
+
+    def byte_offset(self, offset: CharOffset) -> ByteOffset:
+        """Returns how many bytes come before this character."""
+        if self._is_ascii:
+            return ByteOffset(offset)
+        return ByteOffset(len(self.text[:offset].encode("utf-8")))
+
+    def line_column(self, offset: ByteOffset) -> Tuple[int, int]:
+        """Returns the line and the column, in characters, of this byte. Both count from 1."""
+        line_start = self.data.rfind(b"\n", 0, offset) + 1
+        line = self.data.count(b"\n", 0, offset) + 1
+        return line, _count_chars(self.data[line_start:offset]) + 1
+
+    @functools.cached_property
+    def _chars_before(self) -> List[int]:
+        """How many characters begin before each block of bytes."""
+        counts = [0]
+        for start in range(0, len(self.data), _BLOCK):
+            counts.append(counts[-1] + _count_chars(self.data[start : start + _BLOCK]))
+        return counts
+
+
+# The number of bytes of a block, in which characters are counted one by one.
+_BLOCK = 4096
+
+# The bytes that continue a character.
+_CONTINUATION = bytes(range(0x80, 0xC0))
+
+
+def _count_chars(data: bytes) -> int:
+    """Returns how many characters begin in these bytes."""
+    return len(data.translate(None, _CONTINUATION))
+
+
+@functools.lru_cache(maxsize=None)
+def kind_name(kind: int) -> str:
+    """Returns the printed text of the kind with this number."""
+    return _copied(_lib.squawk_kind_name, kind, "kind")
+
+
+@functools.lru_cache(maxsize=None)
+def message(number: int) -> str:
+    """Returns the message of an error with this number, from 1 to 10."""
+    return _copied(_lib.squawk_message, number, "error")
+
+
+def version() -> Tuple[int, int]:
+    """Returns the version of the library's interface: the major and the minor number."""
+    return _lib.squawk_version() >> 16, _lib.squawk_version() & 0xFFFF
+
+
+def _copied(call, number: int, what: str) -> str:
+    """Returns the text that a call copies for this number."""
+    if not 0 <= number <= 0xFFFFFFFF:
+        raise ValueError(f"no {what} has the number {number}")
+    room, count = ctypes.create_string_buffer(_NAME_ROOM), ctypes.c_size_t(0)
+    if call(number, room, _NAME_ROOM, count) != _OK:
+        raise ValueError(f"no {what} has the number {number}")
+    return room.raw[: count.value].decode("ascii")
+
+
+def _check(status: int) -> None:
+    """Raises what stands for a status."""
+    if status == _TOO_LONG:
+        raise TooLong("too long")
+    if status == _OUT_OF_MEMORY:
+        raise OutOfMemory("out of memory")
+    if status != _OK:
+        raise SquawkError(f"status {status}")
+
+
+def _load() -> ctypes.CDLL:
+    """Returns the library, with the types of its calls.
+
+    Without `argtypes` ctypes passes an `int` as a C `int`, and cuts a length to 32 bits.
+    """
+    here = os.path.dirname(os.path.abspath(__file__))
+    path = os.environ.get("SQUAWK_LIBRARY") or os.path.join(here, "../lib/libsquawk.so")
+    if not os.path.exists(path):
+        raise ImportError(f"no {path}: run bindings/build_libraries.sh, or set SQUAWK_LIBRARY")
+    lib = ctypes.CDLL(path)
+    size, number, array = ctypes.c_size_t, ctypes.c_uint32, ctypes.c_void_p
+    count = ctypes.POINTER(ctypes.c_size_t)
+    text = ctypes.c_char_p
+    lib.squawk_version.argtypes = []
+    lib.squawk_tokens_unchecked.argtypes = [text, size, number, count, array, size, count]
+    lib.squawk_parse.argtypes = [text, size, number, array, size, count, array, size, count]
+    lib.squawk_kind_name.argtypes = [number, text, size, count]
+    lib.squawk_message.argtypes = [number, text, size, count]
+    for call in (
+        lib.squawk_version,
+        lib.squawk_tokens_unchecked,
+        lib.squawk_parse,
+        lib.squawk_kind_name,
+        lib.squawk_message,
+    ):
+        call.restype = number
+    if lib.squawk_version() >> 16 != _VERSION >> 16:
+        raise ImportError(f"{path} has another version of the interface")
+    return lib
+
+
+_lib = _load()

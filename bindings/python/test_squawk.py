@@ -1,0 +1,163 @@
+"""Worked examples of each call, and the declarations against the header.
+
+Use: python3 -m unittest discover bindings/python
+"""
+import doctest
+import os
+import re
+import unittest
+
+import squawk
+from squawk import Span, StepAction, Text, TokenFlag, TokenKind
+
+HERE = os.path.dirname(os.path.abspath(__file__))
+
+
+def enumerators(prefix):
+    """Returns the numbers of the enumerators of the header with this prefix, by their names."""
+    with open(os.path.join(HERE, "../c/include/squawk.h"), encoding="utf-8") as file:
+        rows = re.findall(rf"\b{prefix}(\w+) = (\d+)", file.read())
+    return {name: int(number) for name, number in rows}
+
+
+def load_tests(_loader, tests, _pattern):
+    """Adds the examples in the module's docstring."""
+    tests.addTests(doctest.DocTestSuite(squawk))
+    return tests
+
+
+class Declarations(unittest.TestCase):
+    def test_enums_are_those_of_the_header(self):
+        for prefix, enum in [
+            ("SQUAWK_TOKEN_", TokenKind),
+            ("SQUAWK_FLAG_", TokenFlag),
+            ("SQUAWK_STEP_", StepAction),
+        ]:
+            with self.subTest(prefix):
+                numbers = {member.name: member.value for member in enum}
+                self.assertEqual(numbers, enumerators(prefix))
+
+    def test_version_is_known(self):
+        self.assertEqual(squawk.version(), (1, 0))
+
+
+class Tokens(unittest.TestCase):
+    def pairs(self, text, **options):
+        text = Text(text)
+        return [(t.kind, text.slice(t)) for t in text.tokens(**options)]
+
+    def test_tokens_have_kinds_and_texts(self):
+        self.assertEqual(
+            self.pairs("select é, 'a';"),
+            [
+                (TokenKind.IDENT, "select"),
+                (TokenKind.WHITESPACE, " "),
+                (TokenKind.IDENT, "é"),
+                (TokenKind.COMMA, ","),
+                (TokenKind.WHITESPACE, " "),
+                (TokenKind.STR, "'a'"),
+                (TokenKind.SEMI, ";"),
+            ],
+        )
+        self.assertEqual(self.pairs(""), [])
+        self.assertEqual(self.pairs("\0")[0][0], TokenKind.UNKNOWN)
+
+    def test_many_tokens_are_cut_in_portions(self):
+        tokens = list(Text("x " * 5000).tokens())
+        self.assertEqual([t.start for t in tokens], list(range(10000)))
+
+    def test_tokens_have_flags(self):
+        tokens = [t for t in Text("0x 1e 12ab $1 'open").tokens() if t.kind != 10]
+        self.assertEqual([t.base for t in tokens], [16, None, 10, None, None])
+        self.assertEqual([t.junk for t in tokens], [2, 2, 2, 2, 0])
+        self.assertTrue(tokens[0].has(TokenFlag.EMPTY_INT))
+        self.assertTrue(tokens[1].has(TokenFlag.EMPTY_EXPONENT))
+        self.assertFalse(tokens[4].has(TokenFlag.TERMINATED))
+
+    def test_backslash_chooses_the_reading(self):
+        self.assertEqual(len(self.pairs(r"'a\' y'", backslash=True)), 1)
+        self.assertEqual(len(self.pairs(r"'a\' y'")), 4)
+
+    def test_a_lone_surrogate_is_refused(self):
+        with self.assertRaises(UnicodeEncodeError):
+            Text("\ud800")
+
+
+class Trees(unittest.TestCase):
+    def test_steps_walk_the_tree(self):
+        steps = Text("select 1;").parse().steps
+        self.assertEqual([int(s.action) for s in steps], [0, 0, 1, 1, 1, 1, 2, 2])
+        self.assertEqual([(s.start, s.end) for s in steps[1:3]], [(0, 9), (0, 6)])
+        self.assertEqual(steps[1].name, "select")
+        self.assertIsNone(steps[7].name)
+
+    def test_children_are_slices_of_steps(self):
+        text = Text("select (1); ;")
+        children = list(text.parse().children())
+        self.assertEqual([text.slice(c) for c in children], ["select (1);", " ", ";"])
+        self.assertEqual([c.is_node for c in children], [True, False, True])
+        inside = list(children[0].children())
+        self.assertEqual([text.slice(c) for c in inside], ["select", " ", "(1)", ";"])
+        self.assertEqual([text.slice(c) for c in inside[2].children()], ["(", "1", ")"])
+        self.assertEqual(list(inside[0].children()), [])
+
+    def test_grouped_chooses_the_division(self):
+        text = Text("create rule r as on insert to t do (notify a; notify b);")
+        for grouped, count in [(False, 2), (True, 1)]:
+            nodes = [c for c in text.parse(grouped=grouped).children() if c.is_node]
+            self.assertEqual(len(nodes), count)
+
+    def test_arrays_grow_where_the_first_ones_are_too_small(self):
+        self.assertEqual(len(Text(";" * 100).parse().steps), 302)
+        errors = Text("comit;" * 100).parse().errors
+        self.assertEqual(len(errors), 100)
+        self.assertEqual((errors[99].start, errors[99].end), (594, 599))
+        self.assertEqual(errors[99].message, "unknown statement")
+
+    def test_an_empty_text_has_an_empty_tree(self):
+        parse = Text("").parse()
+        self.assertEqual((len(parse.steps), list(parse.children()), parse.errors), (2, [], []))
+
+
+class Offsets(unittest.TestCase):
+    def test_characters_are_counted_across_blocks(self):
+        for unit in ("a", "é", "€", "😀", "aé€😀"):
+            text = Text(unit * 5000)
+            for chars in (0, 1, 2047, 2048, 4097, len(text.text)):
+                at = text.byte_offset(chars)
+                with self.subTest(unit=unit, chars=chars):
+                    self.assertEqual(at, len(text.text[:chars].encode()))
+                    self.assertEqual(text.char_offset(at), chars)
+
+    def test_ranges_are_those_of_the_characters(self):
+        text = Text("é 'ß'")
+        token = list(text.tokens())[2]
+        start, end = text.char_range(token)
+        self.assertEqual((token.start, token.end), (3, 7))
+        self.assertEqual((start, end, text.text[start:end]), (2, 5, "'ß'"))
+        self.assertEqual(text.slice(Span(3, 7)), "'ß'")
+
+    def test_lines_and_columns_count_from_one(self):
+        text = Text("é\nßx;\n")
+        rows = [(0, (1, 1)), (2, (1, 2)), (3, (2, 1)), (5, (2, 2)), (8, (3, 1))]
+        for offset, expected in rows:
+            self.assertEqual(text.line_column(offset), expected)
+
+
+class Names(unittest.TestCase):
+    def test_numbers_that_nothing_has_are_refused(self):
+        for call, numbers in [
+            (squawk.kind_name, (-1, 2068, 2**16, 2**32)),
+            (squawk.message, (-1, 0, 11, 2**32 + 1)),
+        ]:
+            for number in numbers:
+                with self.subTest(call=call, number=number), self.assertRaises(ValueError):
+                    call(number)
+
+    def test_numbers_have_texts(self):
+        self.assertEqual(squawk.kind_name(3), "`;`")
+        self.assertEqual(squawk.message(3), "unterminated string")
+
+
+if __name__ == "__main__":
+    unittest.main()

@@ -1,0 +1,232 @@
+//! The tree of a text, and its errors.
+use crate::{Error, Kind, Options, ffi};
+use std::fmt;
+use std::iter::FusedIterator;
+use std::ops::Range;
+
+/// What a step of a tree does.
+#[derive(Clone, Copy, Debug, PartialEq, Eq, Hash)]
+pub enum Action {
+    /// It enters a node.
+    Enter,
+    /// It is a leaf.
+    Leaf,
+    /// It leaves the innermost open node.
+    Exit,
+}
+
+/// A step of a tree, with its range in the text.
+#[repr(C)]
+#[derive(Clone, Copy, Debug, Default, PartialEq, Eq, Hash)]
+pub struct Step {
+    step: u16,
+    kind: u16,
+    start: u32,
+    end: u32,
+}
+
+impl Step {
+    /// Returns what the step does.
+    pub fn action(&self) -> Action {
+        match self.step {
+            0 => Action::Enter,
+            1 => Action::Leaf,
+            _ => Action::Exit,
+        }
+    }
+
+    /// Returns the kind of the node that is entered, or of the leaf.
+    pub fn kind(&self) -> Option<Kind> {
+        (self.action() != Action::Exit).then_some(Kind(self.kind))
+    }
+
+    /// Returns the range of the leaf, or of the whole node both where it is entered and left.
+    pub fn range(&self) -> Range<usize> {
+        self.start as usize..self.end as usize
+    }
+}
+
+/// An error in a text.
+#[repr(C)]
+#[derive(Clone, Copy, Debug, Default, PartialEq, Eq, Hash)]
+pub struct SyntaxError {
+    start: u32,
+    end: u32,
+    number: u32,
+}
+
+impl SyntaxError {
+    /// Returns the range in the text.
+    pub fn range(&self) -> Range<usize> {
+        self.start as usize..self.end as usize
+    }
+
+    /// Returns the number of the message, from 1 to 10.
+    pub fn number(&self) -> u32 {
+        self.number
+    }
+
+    /// Returns the message.
+    pub fn message(&self) -> String {
+        self.to_string()
+    }
+}
+
+/// Writes the message.
+impl fmt::Display for SyntaxError {
+    fn fmt(&self, f: &mut fmt::Formatter<'_>) -> fmt::Result {
+        let mut room = [0; ffi::MESSAGE_ROOM];
+        let mut count = 0;
+        // SAFETY: the pointers are those of references, and the capacity is that of the array.
+        let status =
+            unsafe { ffi::squawk_message(self.number, room.as_mut_ptr(), room.len(), &mut count) };
+        let text = if status == ffi::OK {
+            &room[..count]
+        } else {
+            &[]
+        };
+        f.pad(str::from_utf8(text).unwrap_or_default())
+    }
+}
+
+/// The tree of a text, and its errors.
+#[derive(Clone, Debug, PartialEq, Eq)]
+pub struct Parse {
+    steps: Vec<Step>,
+    errors: Vec<SyntaxError>,
+}
+
+/// Parses a text into statements. Every text of at most 4294967295 bytes parses, unless memory runs
+/// out.
+pub fn parse(text: &str, options: Options) -> Result<Parse, Error> {
+    if ffi::squawk_version() >> 16 != ffi::VERSION >> 16 {
+        return Err(Error::WrongVersion);
+    }
+    let mut step_count = text.len() / 2 + 16;
+    let mut error_count = 16;
+    loop {
+        let mut steps = zeroed(step_count)?;
+        let mut errors = zeroed(error_count)?;
+        // SAFETY: the pointers are those of references that do not overlap, and the lengths are
+        // theirs.
+        let status = unsafe {
+            ffi::squawk_parse(
+                text.as_ptr(),
+                text.len(),
+                options.bits(),
+                steps.as_mut_ptr(),
+                steps.len(),
+                &mut step_count,
+                errors.as_mut_ptr(),
+                errors.len(),
+                &mut error_count,
+            )
+        };
+        match status {
+            ffi::OK => {
+                steps.truncate(step_count);
+                errors.truncate(error_count);
+                return Ok(Parse { steps, errors });
+            }
+            ffi::ARRAY_TOO_SMALL => {}
+            status => return Err(Error::of_status(status)),
+        }
+    }
+}
+
+/// Returns this many values of zero bytes.
+fn zeroed<T: Clone + Default>(count: usize) -> Result<Vec<T>, Error> {
+    let mut values = Vec::new();
+    values
+        .try_reserve_exact(count)
+        .map_err(|_| Error::OutOfMemory)?;
+    values.resize(count, T::default());
+    Ok(values)
+}
+
+impl Parse {
+    /// Returns the steps of the tree, in the order of the text. The first one enters the root, and
+    /// the last one leaves it.
+    pub fn steps(&self) -> &[Step] {
+        &self.steps
+    }
+
+    /// Returns the errors, in the order of the tokens.
+    pub fn errors(&self) -> &[SyntaxError] {
+        &self.errors
+    }
+
+    /// Returns the children of the root.
+    pub fn children(&self) -> Children<'_> {
+        let steps = &self.steps;
+        Children {
+            steps: steps
+                .get(1..steps.len().saturating_sub(1))
+                .unwrap_or_default(),
+        }
+    }
+}
+
+/// A child of a node: a leaf, which is one step, or a node, from its `Enter` to its `Exit`.
+#[derive(Clone, Copy, Debug, PartialEq, Eq)]
+pub struct Child<'t> {
+    steps: &'t [Step],
+}
+
+impl<'t> Child<'t> {
+    /// Returns its steps.
+    pub fn steps(&self) -> &'t [Step] {
+        self.steps
+    }
+
+    /// Returns its range in the text.
+    pub fn range(&self) -> Range<usize> {
+        self.steps[0].range()
+    }
+
+    /// Returns the kind of the leaf or the node.
+    pub fn kind(&self) -> Kind {
+        Kind(self.steps[0].kind)
+    }
+
+    /// Returns the kind of the node, if it is one.
+    pub fn node(&self) -> Option<Kind> {
+        (self.steps[0].action() == Action::Enter).then_some(self.kind())
+    }
+
+    /// Returns its children. A leaf has none.
+    pub fn children(&self) -> Children<'t> {
+        Children {
+            steps: self.steps.get(1..self.steps.len() - 1).unwrap_or_default(),
+        }
+    }
+}
+
+/// An iterator over the children of a node.
+#[derive(Clone, Debug)]
+pub struct Children<'t> {
+    steps: &'t [Step],
+}
+
+impl<'t> Iterator for Children<'t> {
+    type Item = Child<'t>;
+
+    fn next(&mut self) -> Option<Child<'t>> {
+        let mut open_nodes = 0usize;
+        for (i, step) in self.steps.iter().enumerate() {
+            match step.action() {
+                Action::Enter => open_nodes += 1,
+                Action::Leaf => {}
+                Action::Exit => open_nodes -= 1,
+            }
+            if open_nodes == 0 {
+                let (steps, rest) = self.steps.split_at(i + 1);
+                self.steps = rest;
+                return Some(Child { steps });
+            }
+        }
+        None
+    }
+}
+
+impl FusedIterator for Children<'_> {}
