@@ -307,13 +307,7 @@ class Text:
             )
             records = ctypes.string_at(portion, _TOKEN.size * count.value)
             for kind, flags, start, length, junk in _TOKEN.iter_unpack(records):
-                yield Token(
-                    _TOKEN_KINDS[kind],
-                    flags,
-                    ByteOffset(start),
-                    ByteOffset(start + length),
-                    junk,
-                )
+                yield Token(_TOKEN_KINDS[kind], flags, start, start + length, junk)
 
     def parse(self, *, backslash: bool = False, grouped: bool = False) -> Parse:
         """Returns the tree and the errors.
@@ -344,13 +338,10 @@ class Text:
         error_records = ctypes.string_at(errors, _ERROR.size * error_count.value)
         return Parse(
             [
-                Step(_STEP_ACTIONS[action], kind, ByteOffset(start), ByteOffset(end))
+                Step(_STEP_ACTIONS[action], kind, start, end)
                 for action, kind, start, end in _STEP.iter_unpack(step_records)
             ],
-            [
-                Diagnostic(ByteOffset(start), ByteOffset(end), number)
-                for start, end, number in _ERROR.iter_unpack(error_records)
-            ],
+            [Diagnostic(*record) for record in _ERROR.iter_unpack(error_records)],
         )
 
     def slice(self, span) -> str:
