@@ -1,4 +1,4 @@
--- One turn of a loop that writes elements to the front of an array.
+-- One turn of a loop that writes elements to the beginning of an array.
 use Rattle.std.proofs.Common.{◌≡◌, ℕ, ◌+◌, ◌<◌, List, [], ◌∷◌, ◌++◌, length, take, drop, ap, sym, ◌∙◌, append_assoc, arith}
 use Rattle.std.proofs.lemmas.List.{take_more_set, drop-set-lt, drop-drop}
 use Rattle.std.proofs.Math.ListN.{set}

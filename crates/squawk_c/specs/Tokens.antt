@@ -100,8 +100,8 @@ unfoldable pub records_from : Strings → List ℕ → ℕ → List SquawkToken
 records_from strings text at =
     token_records at (tokens_from strings 0 (at == 0) (chars (drop at text)))
 
--- An array that was `before` holds at its front the records of the `count` tokens of a text from
--- the offset `at` up to the offset `end`.
+-- The first `count` elements of an array that was `before` are the records of the tokens of a text
+-- from the offset `at` up to the offset `end`.
 pub record IsCut (strings : Strings) (text : List ℕ) (at end : ℕ) (before after : List SquawkToken)
     (count : ℕ) : Type 0 where
   -- the records, and those of the tokens from `end` on, are those of the tokens from `at` on

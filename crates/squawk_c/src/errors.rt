@@ -29,8 +29,8 @@ fn error_record(error: ParseError) -> SquawkError
     }
 }
 
-// Writes the records of all errors to the front of an array, if it has room for them. Returns their
-// number.
+// Writes the records of all errors to the first elements of an array, if it has room for them.
+// Returns their number.
 pub(crate) fn put_errors(parse: &Parse, out: &mut [SquawkError]) -> usize
     ensures { IsPut (map error_record parse.now.errors) out.old out.new result }
 {

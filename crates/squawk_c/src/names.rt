@@ -9,7 +9,7 @@ use crate::status::{ARRAY_TOO_SMALL, BAD_ARGUMENT, OK};
 use squawk_events::message;
 use squawk_kinds::{COUNT, SyntaxKind};
 
-// Writes a text to the front of an array, if it has room for it. Returns its length.
+// Writes a text to the first bytes of an array, if it has room for it. Returns its length.
 fn put_text(text: &str, out: &mut [u8]) -> usize
     ensures { IsPut text.now out.old out.new result }
 {
@@ -29,8 +29,8 @@ fn copy_status(count: usize, room: usize) -> u32
     if count > room { ARRAY_TOO_SMALL } else { OK }
 }
 
-/// Writes the printed text of the kind with this number to the front of an array. The text is ASCII
-/// and at most 39 bytes long; no NUL follows it.
+/// Writes the printed text of the kind with this number to the first bytes of an array. The text is
+/// ASCII and at most 39 bytes long; no NUL follows it.
 ///
 /// `count` becomes the length of the text. The status is 0 if it was written, and 12 if the array
 /// has too little room; then it stays as it was. For a number that no kind has, the status is 2,
@@ -57,8 +57,8 @@ pub extern "C" fn squawk_kind_name(kind: u32, name: &mut [u8], count: &mut usize
     copy_status(*count, name.len())
 }
 
-/// Writes the message of an error with this number, from 1 to 10, to the front of an array. The
-/// message is ASCII and at most 40 bytes long; no NUL follows it.
+/// Writes the message of an error with this number, from 1 to 10, to the first bytes of an array.
+/// The message is ASCII and at most 40 bytes long; no NUL follows it.
 ///
 /// `count` becomes the length of the message. The status is 0 if it was written, and 12 if the
 /// array has too little room; then it stays as it was. For a number that no error has, the status

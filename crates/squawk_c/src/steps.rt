@@ -38,8 +38,8 @@ fn step_record(step: StrStep, range: (u32, u32)) -> SquawkStep
     }
 }
 
-// Writes the records of all steps to the front of an array, if it has room for them. Returns their
-// number.
+// Writes the records of all steps to the first elements of an array, if it has room for them.
+// Returns their number.
 pub(crate) fn put_steps(parse: &Parse, out: &mut [SquawkStep]) -> usize
     ensures { IsPut (records_of_steps parse.now.steps) out.old out.new result }
 {
