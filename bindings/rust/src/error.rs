@@ -2,7 +2,7 @@
 use crate::ffi;
 use std::fmt;
 
-/// Why a call failed. Errors in a text are no failure: see [`SyntaxError`](crate::SyntaxError).
+/// Why a call failed. Errors in a text are no failure: see [`ParseError`](crate::ParseError).
 #[derive(Clone, Copy, Debug, PartialEq, Eq)]
 #[non_exhaustive]
 pub enum Error {

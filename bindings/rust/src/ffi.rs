@@ -2,7 +2,7 @@
 //!
 //! Nothing compares these declarations with the library but the tests: a slice is passed as a
 //! pointer and a length.
-use crate::{Step, SyntaxError, Token};
+use crate::{ParseError, Step, Token};
 
 pub const OK: u32 = 0;
 pub const TOO_LONG: u32 = 5;
@@ -38,7 +38,7 @@ unsafe extern "C" {
         steps: *mut Step,
         step_capacity: usize,
         step_count: *mut usize,
-        errors: *mut SyntaxError,
+        errors: *mut ParseError,
         error_capacity: usize,
         error_count: *mut usize,
     ) -> u32;
@@ -51,4 +51,4 @@ unsafe extern "C" {
 // The library writes these: their layout is that of the header.
 const _: () = assert!(size_of::<Token>() == 16 && align_of::<Token>() == 4);
 const _: () = assert!(size_of::<Step>() == 12 && align_of::<Step>() == 4);
-const _: () = assert!(size_of::<SyntaxError>() == 12 && align_of::<SyntaxError>() == 4);
+const _: () = assert!(size_of::<ParseError>() == 12 && align_of::<ParseError>() == 4);

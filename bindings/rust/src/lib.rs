@@ -28,7 +28,7 @@ pub use error::Error;
 pub use kind::{Kind, kinds};
 pub use options::{Division, Options, Strings};
 pub use token::{Base, Token, TokenKind, Tokens, tokenize};
-pub use tree::{Action, Child, Children, Parse, Step, SyntaxError, parse};
+pub use tree::{Action, Child, Children, Parse, ParseError, Step, parse};
 
 /// Returns the version of the library's interface: the major and the minor number.
 pub fn version() -> (u32, u32) {

@@ -1,5 +1,6 @@
 //! The tree of a text, and its errors.
 use crate::{Error, Kind, Options, ffi};
+use std::error;
 use std::fmt;
 use std::iter::FusedIterator;
 use std::ops::Range;
@@ -46,16 +47,16 @@ impl Step {
     }
 }
 
-/// An error in a text.
+/// An error in a text. Every text has a tree, so no call fails with it.
 #[repr(C)]
 #[derive(Clone, Copy, Debug, Default, PartialEq, Eq, Hash)]
-pub struct SyntaxError {
+pub struct ParseError {
     start: u32,
     end: u32,
     number: u32,
 }
 
-impl SyntaxError {
+impl ParseError {
     /// Returns the range in the text.
     pub fn range(&self) -> Range<usize> {
         self.start as usize..self.end as usize
@@ -73,7 +74,7 @@ impl SyntaxError {
 }
 
 /// Writes the message.
-impl fmt::Display for SyntaxError {
+impl fmt::Display for ParseError {
     fn fmt(&self, f: &mut fmt::Formatter<'_>) -> fmt::Result {
         let mut room = [0; ffi::MESSAGE_ROOM];
         let mut count = 0;
@@ -89,11 +90,13 @@ impl fmt::Display for SyntaxError {
     }
 }
 
+impl error::Error for ParseError {}
+
 /// The tree of a text, and its errors.
 #[derive(Clone, Debug, PartialEq, Eq)]
 pub struct Parse {
     steps: Vec<Step>,
-    errors: Vec<SyntaxError>,
+    errors: Vec<ParseError>,
 }
 
 /// Parses a text into statements. Every text of at most 4294967295 bytes parses, unless memory runs
@@ -152,7 +155,7 @@ impl Parse {
     }
 
     /// Returns the errors, in the order of the tokens.
-    pub fn errors(&self) -> &[SyntaxError] {
+    pub fn errors(&self) -> &[ParseError] {
         &self.errors
     }
 

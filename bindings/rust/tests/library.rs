@@ -216,4 +216,7 @@ fn kinds_have_names() {
 fn errors_are_errors() {
     let error: Box<dyn std::error::Error> = Error::TooLong.into();
     assert_eq!(error.to_string(), "too long");
+    let tree = parse("comit", Options::default()).expect("memory");
+    let error: Box<dyn std::error::Error> = tree.errors()[0].into();
+    assert_eq!(error.to_string(), "unknown statement");
 }
