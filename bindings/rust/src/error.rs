@@ -14,6 +14,18 @@ pub enum Error {
     WrongVersion,
 }
 
+/// Refuses a text of this many bytes if it is too long, and a library with another interface. Comes
+/// before anything is allocated.
+pub(crate) fn check_call(len: usize) -> Result<(), Error> {
+    if ffi::squawk_version() >> 16 != ffi::VERSION >> 16 {
+        return Err(Error::WrongVersion);
+    }
+    if len > u32::MAX as usize {
+        return Err(Error::TooLong);
+    }
+    Ok(())
+}
+
 impl Error {
     /// The error of a status other than 0, of a call whose arguments were good.
     pub(crate) fn of_status(status: u32) -> Error {

@@ -1,4 +1,5 @@
 //! The tokens of a text.
+use crate::error::check_call;
 use crate::{Error, Options, ffi};
 use std::iter::FusedIterator;
 use std::ops::Range;
@@ -87,7 +88,7 @@ pub enum Base {
 
 /// A token, with its offset in the text.
 #[repr(C)]
-#[derive(Clone, Copy, Debug, Default, PartialEq, Eq, Hash)]
+#[derive(Clone, Copy, Debug, PartialEq, Eq, Hash)]
 pub struct Token {
     kind: u16,
     flags: u16,
@@ -103,6 +104,15 @@ const EMPTY_INT: u16 = 8;
 const EMPTY_EXPONENT: u16 = 16;
 
 impl Token {
+    /// What an array holds before the library writes to it. No token of a text is empty.
+    pub(crate) const EMPTY: Self = Token {
+        kind: 0,
+        flags: 0,
+        start: 0,
+        len: 0,
+        junk: 0,
+    };
+
     /// Returns the kind.
     pub fn kind(&self) -> TokenKind {
         TokenKind::ALL[usize::from(self.kind)]
@@ -118,8 +128,8 @@ impl Token {
         (self.kind, self.flags)
     }
 
-    /// Of a string, a quoted identifier and a block comment: whether its end was found. Otherwise
-    /// it ends with the text.
+    /// Of a string, a quoted identifier and a block comment: returns whether its end was found (if
+    /// not, it extends to the end of the text). `None` for other tokens.
     pub fn is_terminated(&self) -> Option<bool> {
         use TokenKind::*;
         let has_end = matches!(
@@ -195,17 +205,12 @@ pub struct Tokens<'t> {
 
 /// Returns the tokens of a text. They cover it without a gap.
 pub fn tokenize(text: &str, options: Options) -> Result<Tokens<'_>, Error> {
-    if ffi::squawk_version() >> 16 != ffi::VERSION >> 16 {
-        return Err(Error::WrongVersion);
-    }
-    if text.len() > u32::MAX as usize {
-        return Err(Error::TooLong);
-    }
+    check_call(text.len())?;
     Ok(Tokens {
         text,
         options,
         at: 0,
-        tokens: [Token::default(); PORTION],
+        tokens: [Token::EMPTY; PORTION],
         next: 0,
         count: 0,
     })
