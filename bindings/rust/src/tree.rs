@@ -1,4 +1,5 @@
 //! The tree of a text, and its errors.
+use crate::error::check_call;
 use crate::{Error, Kind, Options, ffi};
 use std::error;
 use std::fmt;
@@ -18,7 +19,7 @@ pub enum Action {
 
 /// A step of a tree, with its range in the text.
 #[repr(C)]
-#[derive(Clone, Copy, Debug, Default, PartialEq, Eq, Hash)]
+#[derive(Clone, Copy, Debug, PartialEq, Eq, Hash)]
 pub struct Step {
     step: u16,
     kind: u16,
@@ -27,6 +28,14 @@ pub struct Step {
 }
 
 impl Step {
+    /// What an array holds before the library writes to it.
+    pub(crate) const EMPTY: Self = Step {
+        step: 0,
+        kind: 0,
+        start: 0,
+        end: 0,
+    };
+
     /// Returns what the step does.
     pub fn action(&self) -> Action {
         match self.step {
@@ -49,7 +58,7 @@ impl Step {
 
 /// An error in a text. Every text has a tree, so no call fails with it.
 #[repr(C)]
-#[derive(Clone, Copy, Debug, Default, PartialEq, Eq, Hash)]
+#[derive(Clone, Copy, Debug, PartialEq, Eq, Hash)]
 pub struct ParseError {
     start: u32,
     end: u32,
@@ -57,6 +66,13 @@ pub struct ParseError {
 }
 
 impl ParseError {
+    /// What an array holds before the library writes to it. No error of a text has the number 0.
+    pub(crate) const EMPTY: Self = ParseError {
+        start: 0,
+        end: 0,
+        number: 0,
+    };
+
     /// Returns the range in the text.
     pub fn range(&self) -> Range<usize> {
         self.start as usize..self.end as usize
@@ -96,20 +112,21 @@ impl error::Error for ParseError {}
 #[derive(Clone, Debug, PartialEq, Eq)]
 pub struct Parse {
     steps: Vec<Step>,
+    /// For each step but an exit the number of steps of the leaf or the node that begins there. A
+    /// text can have more steps than a `u32` counts.
+    lengths: Vec<usize>,
     errors: Vec<ParseError>,
 }
 
 /// Parses a text into statements. Every text of at most 4294967295 bytes parses, unless memory runs
 /// out.
 pub fn parse(text: &str, options: Options) -> Result<Parse, Error> {
-    if ffi::squawk_version() >> 16 != ffi::VERSION >> 16 {
-        return Err(Error::WrongVersion);
-    }
+    check_call(text.len())?;
     let mut step_count = text.len() / 2 + 16;
     let mut error_count = 16;
     loop {
-        let mut steps = zeroed(step_count)?;
-        let mut errors = zeroed(error_count)?;
+        let mut steps = filled(Step::EMPTY, step_count)?;
+        let mut errors = filled(ParseError::EMPTY, error_count)?;
         // SAFETY: the pointers are those of references that do not overlap, and the lengths are
         // theirs.
         let status = unsafe {
@@ -128,8 +145,15 @@ pub fn parse(text: &str, options: Options) -> Result<Parse, Error> {
         match status {
             ffi::OK => {
                 steps.truncate(step_count);
+                steps.shrink_to_fit();
                 errors.truncate(error_count);
-                return Ok(Parse { steps, errors });
+                errors.shrink_to_fit();
+                let lengths = lengths_of(&steps)?;
+                return Ok(Parse {
+                    steps,
+                    lengths,
+                    errors,
+                });
             }
             ffi::ARRAY_TOO_SMALL => {}
             status => return Err(Error::of_status(status)),
@@ -137,14 +161,36 @@ pub fn parse(text: &str, options: Options) -> Result<Parse, Error> {
     }
 }
 
-/// Returns this many values of zero bytes.
-fn zeroed<T: Clone + Default>(count: usize) -> Result<Vec<T>, Error> {
+/// Returns this many copies of a value.
+fn filled<T: Clone>(value: T, count: usize) -> Result<Vec<T>, Error> {
     let mut values = Vec::new();
     values
         .try_reserve_exact(count)
         .map_err(|_| Error::OutOfMemory)?;
-    values.resize(count, T::default());
+    values.resize(count, value);
     Ok(values)
+}
+
+/// Returns for each step but an exit the number of steps of the leaf or the node that begins there.
+/// Until a node is left, its entry holds the index of the node around it.
+fn lengths_of(steps: &[Step]) -> Result<Vec<usize>, Error> {
+    let mut lengths = filled(1, steps.len())?;
+    let mut open_node = 0;
+    for (i, step) in steps.iter().enumerate() {
+        match step.action() {
+            Action::Enter => {
+                lengths[i] = open_node;
+                open_node = i;
+            }
+            Action::Leaf => {}
+            Action::Exit => {
+                let outer_node = lengths[open_node];
+                lengths[open_node] = i + 1 - open_node;
+                open_node = outer_node;
+            }
+        }
+    }
+    Ok(lengths)
 }
 
 impl Parse {
@@ -154,19 +200,19 @@ impl Parse {
         &self.steps
     }
 
-    /// Returns the errors, in the order of the tokens.
+    /// Returns the errors, in the order of the tokens; at each token first those of the grammar,
+    /// then its faults by number.
     pub fn errors(&self) -> &[ParseError] {
         &self.errors
     }
 
     /// Returns the children of the root.
     pub fn children(&self) -> Children<'_> {
-        let steps = &self.steps;
-        Children {
-            steps: steps
-                .get(1..steps.len().saturating_sub(1))
-                .unwrap_or_default(),
-        }
+        let root = Child {
+            steps: &self.steps,
+            lengths: &self.lengths,
+        };
+        root.children()
     }
 }
 
@@ -174,6 +220,7 @@ impl Parse {
 #[derive(Clone, Copy, Debug, PartialEq, Eq)]
 pub struct Child<'t> {
     steps: &'t [Step],
+    lengths: &'t [usize],
 }
 
 impl<'t> Child<'t> {
@@ -199,37 +246,47 @@ impl<'t> Child<'t> {
 
     /// Returns its children. A leaf has none.
     pub fn children(&self) -> Children<'t> {
+        let inside = 1..self.steps.len() - 1;
         Children {
-            steps: self.steps.get(1..self.steps.len() - 1).unwrap_or_default(),
+            steps: self.steps.get(inside.clone()).unwrap_or_default(),
+            lengths: self.lengths.get(inside).unwrap_or_default(),
         }
     }
 }
 
-/// An iterator over the children of a node.
+/// An iterator over the children of a node. Each call of `next` takes the same time, however deep
+/// the child is.
 #[derive(Clone, Debug)]
 pub struct Children<'t> {
     steps: &'t [Step],
+    lengths: &'t [usize],
 }
 
 impl<'t> Iterator for Children<'t> {
     type Item = Child<'t>;
 
     fn next(&mut self) -> Option<Child<'t>> {
-        let mut open_nodes = 0usize;
-        for (i, step) in self.steps.iter().enumerate() {
-            match step.action() {
-                Action::Enter => open_nodes += 1,
-                Action::Leaf => {}
-                Action::Exit => open_nodes -= 1,
-            }
-            if open_nodes == 0 {
-                let (steps, rest) = self.steps.split_at(i + 1);
-                self.steps = rest;
-                return Some(Child { steps });
-            }
-        }
-        None
+        let length = *self.lengths.first()?;
+        let (steps, later_steps) = self.steps.split_at(length);
+        let (lengths, later_lengths) = self.lengths.split_at(length);
+        self.steps = later_steps;
+        self.lengths = later_lengths;
+        Some(Child { steps, lengths })
     }
 }
 
 impl FusedIterator for Children<'_> {}
+
+#[cfg(test)]
+mod tests {
+    use super::parse;
+    use crate::Options;
+
+    #[test]
+    fn a_tree_keeps_no_room_that_it_does_not_need() {
+        let tree = parse(&"a".repeat(10000), Options::default()).expect("memory");
+        assert!(tree.steps.len() < 10);
+        assert!(tree.steps.capacity() < 100);
+        assert!(tree.errors.capacity() < 16);
+    }
+}

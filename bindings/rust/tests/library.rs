@@ -2,6 +2,8 @@
 use squawk::{
     Action, Base, Division, Error, Kind, Options, Strings, TokenKind, kinds, parse, tokenize,
 };
+use std::alloc::{Layout, alloc_zeroed, dealloc};
+use std::time::{Duration, Instant};
 
 const HEADER: &str = include_str!("../../c/include/squawk.h");
 
@@ -125,6 +127,24 @@ fn tokens_have_flags() {
 }
 
 #[test]
+fn tokens_with_an_end_say_whether_it_was_found() {
+    let rows = [
+        ("'a'", Some(true)),
+        ("'a", Some(false)),
+        ("\"a\"", Some(true)),
+        ("/* a", Some(false)),
+        ("$$a$$", Some(true)),
+        ("a", None),
+        ("-- a", None),
+    ];
+    for (text, expected) in rows {
+        let mut tokens = tokenize(text, Options::default()).expect("a short text");
+        let token = tokens.next().expect("a token");
+        assert_eq!(token.is_terminated(), expected, "{text}");
+    }
+}
+
+#[test]
 fn options_choose_the_reading() {
     let backslash = Options {
         strings: Strings::Backslash,
@@ -186,6 +206,69 @@ fn arrays_grow_where_the_first_ones_are_too_small() {
     assert_eq!((tree.children().count(), tree.errors().len()), (100, 100));
     assert_eq!(tree.errors()[99].range(), 594..599);
     assert_eq!(tree.errors()[99].message(), "unknown statement");
+}
+
+#[test]
+fn deep_trees_are_walked_in_linear_time() {
+    const DEPTH: usize = 8000;
+    let text = "(".repeat(DEPTH);
+    let tree = parse(&text, Options::default()).expect("memory");
+    let begin = Instant::now();
+    let (mut leaf_count, mut depth) = (0, 0);
+    let mut open = vec![tree.children()];
+    while let Some(children) = open.last_mut() {
+        match children.next() {
+            Some(child) if child.node().is_some() => open.push(child.children()),
+            Some(leaf) => {
+                assert_eq!((leaf.kind(), leaf.steps().len()), (kinds::L_PAREN, 1));
+                leaf_count += 1;
+            }
+            None => {
+                depth = depth.max(open.len());
+                open.pop();
+            }
+        }
+    }
+    assert_eq!(leaf_count, DEPTH);
+    assert!(depth >= DEPTH, "{depth}");
+    assert!(begin.elapsed() < Duration::from_secs(1));
+}
+
+#[test]
+#[cfg(target_pointer_width = "64")]
+fn long_texts_are_refused_before_anything_is_allocated() {
+    let layout = Layout::array::<u8>(1 << 32).expect("a size");
+    // SAFETY: the size is not 0.
+    let zeros = unsafe { alloc_zeroed(layout) };
+    if zeros.is_null() {
+        eprintln!("the system reserves no 4 GiB, so long texts are left out");
+        return;
+    }
+    // No byte is read, so the system does not have to find the memory.
+    // SAFETY: zeros are UTF-8, and nothing else uses them.
+    let text = unsafe { str::from_utf8_unchecked(std::slice::from_raw_parts(zeros, 1 << 32)) };
+    assert_eq!(parse(text, Options::default()), Err(Error::TooLong));
+    let tokens = tokenize(text, Options::default());
+    assert_eq!(tokens.err(), Some(Error::TooLong));
+    // SAFETY: the same layout, and `text` is used no longer.
+    unsafe { dealloc(zeros, layout) };
+}
+
+#[test]
+fn errors_come_in_the_order_of_the_tokens() {
+    let text = "select 0x; 1e_ 'a";
+    let tree = parse(text, Options::default()).expect("memory");
+    let expected = [
+        ("0x", "missing digits after base prefix"),
+        ("1e_", "unknown statement"),
+        ("e", "missing digits in exponent"),
+        ("_", "trailing junk after number"),
+        ("'a", "unterminated string"),
+    ];
+    assert_eq!(tree.errors().len(), expected.len());
+    for (error, (part, message)) in tree.errors().iter().zip(expected) {
+        assert_eq!((&text[error.range()], &*error.message()), (part, message));
+    }
 }
 
 #[test]
