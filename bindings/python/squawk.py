@@ -14,6 +14,8 @@ The library counts bytes of UTF-8, and Python counts characters. Here an offset 
 type `ByteOffset`, an offset in characters the type `CharOffset`, and `Text` turns one into the
 other. `start` and `end` are always offsets in bytes.
 
+`kinds` has a number for each kind of a leaf or a node, such as `kinds.SELECT`.
+
 `SQUAWK_LIBRARY` in the environment names the shared library, which `bindings/build_libraries.sh`
 makes; without it the library is `libsquawk.so` in the folder `bindings/lib`.
 
@@ -25,6 +27,8 @@ import functools
 import os
 import struct
 from typing import Iterator, List, NamedTuple, NewType, Optional, Sequence, Tuple
+
+import squawk_kinds as kinds
 
 __all__ = [
     "ByteOffset",
@@ -43,6 +47,7 @@ __all__ = [
     "TokenKind",
     "TooLong",
     "kind_name",
+    "kinds",
     "message",
     "version",
 ]

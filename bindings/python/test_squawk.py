@@ -5,10 +5,12 @@ Use: python3 -m unittest discover bindings/python
 import doctest
 import os
 import re
+import subprocess
+import sys
 import unittest
 
 import squawk
-from squawk import Span, StepAction, Text, TokenFlag, TokenKind
+from squawk import Span, StepAction, Text, TokenFlag, TokenKind, kinds
 
 HERE = os.path.dirname(os.path.abspath(__file__))
 
@@ -36,6 +38,21 @@ class Declarations(unittest.TestCase):
             with self.subTest(prefix):
                 numbers = {member.name: member.value for member in enum}
                 self.assertEqual(numbers, enumerators(prefix))
+
+    def test_kinds_are_what_the_script_prints(self):
+        script = os.path.join(HERE, "../kinds_header.py")
+        command = [sys.executable, script, "--python"]
+        printed = subprocess.run(command, check=True, capture_output=True).stdout
+        with open(kinds.__file__, "rb") as file:
+            self.assertEqual(file.read(), printed)
+
+    def test_kinds_are_those_of_the_library(self):
+        numbers = [number for name, number in vars(kinds).items() if name.isupper()]
+        self.assertEqual(numbers, list(range(len(numbers))))
+        self.assertTrue(all(squawk.kind_name(number) for number in numbers))
+        self.assertEqual(squawk.kind_name(kinds.SEMICOLON), "`;`")
+        children = Text("select 1; ").parse().children()
+        self.assertEqual([child.kind for child in children], [kinds.SELECT, kinds.WHITESPACE])
 
     def test_version_is_known(self):
         self.assertEqual(squawk.version(), (1, 0))
