@@ -32,13 +32,13 @@ import squawk_kinds as kinds
 
 __all__ = [
     "ByteOffset",
+    "CallError",
     "CharOffset",
     "Child",
-    "Diagnostic",
     "OutOfMemory",
     "Parse",
+    "ParseError",
     "Span",
-    "SquawkError",
     "Step",
     "StepAction",
     "Text",
@@ -75,15 +75,15 @@ _STEP = struct.Struct("=HHII")
 _ERROR = struct.Struct("=III")
 
 
-class SquawkError(Exception):
-    """A call failed. Errors in a text are no exceptions: see `Diagnostic`."""
+class CallError(Exception):
+    """A call failed. An error in a text is no exception: see `ParseError`."""
 
 
-class TooLong(SquawkError, ValueError):
+class TooLong(CallError, ValueError):
     """The text has more than 4294967295 bytes."""
 
 
-class OutOfMemory(SquawkError, MemoryError):
+class OutOfMemory(CallError, MemoryError):
     """There is not enough memory."""
 
 
@@ -203,8 +203,8 @@ class Step(NamedTuple):
         return None if self.action is StepAction.EXIT else kind_name(self.kind)
 
 
-class Diagnostic(NamedTuple):
-    """An error in a text, with its range in bytes."""
+class ParseError(NamedTuple):
+    """An error in a text, with its range in bytes. Every text has a tree, so none is raised."""
 
     start: ByteOffset
     end: ByteOffset
@@ -263,11 +263,12 @@ class Child:
 class Parse:
     """The tree of a text, and its errors."""
 
-    def __init__(self, steps: List[Step], errors: List[Diagnostic]) -> None:
+    def __init__(self, steps: List[Step], errors: List[ParseError]) -> None:
         self.steps = steps
         """The steps in the order of the text. The first one enters the root."""
         self.errors = errors
-        """The errors, in the order of the tokens."""
+        """The errors, in the order of the tokens; at each token first those of the grammar, then its
+        faults by number."""
 
     def children(self) -> Iterator[Child]:
         """Yields the children of the root."""
@@ -275,7 +276,7 @@ class Parse:
 
 
 class Span(NamedTuple):
-    """A range of bytes. Tokens, steps, children and diagnostics can stand for theirs."""
+    """A range of bytes. Tokens, steps, children and errors can stand for theirs."""
 
     start: ByteOffset
     end: ByteOffset
@@ -346,11 +347,11 @@ class Text:
                 Step(_STEP_ACTIONS[action], kind, start, end)
                 for action, kind, start, end in _STEP.iter_unpack(step_records)
             ],
-            [Diagnostic(*record) for record in _ERROR.iter_unpack(error_records)],
+            [ParseError(*record) for record in _ERROR.iter_unpack(error_records)],
         )
 
     def slice(self, span) -> str:
-        """Returns the characters of a token, a step, a child, a diagnostic or a `Span`."""
+        """Returns the characters of a token, a step, a child, an error or a `Span`."""
         return self.data[span.start : span.end].decode("utf-8")
 
     def char_offset(self, offset: ByteOffset) -> CharOffset:
@@ -432,7 +433,7 @@ def _check(status: int) -> None:
     if status == _OUT_OF_MEMORY:
         raise OutOfMemory("out of memory")
     if status != _OK:
-        raise SquawkError(f"status {status}")
+        raise CallError(f"status {status}")
 
 
 def _load() -> ctypes.CDLL:

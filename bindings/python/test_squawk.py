@@ -131,6 +131,22 @@ class Trees(unittest.TestCase):
         self.assertEqual((errors[99].start, errors[99].end), (594, 599))
         self.assertEqual(errors[99].message, "unknown statement")
 
+    def test_errors_come_in_the_order_of_the_tokens(self):
+        text = Text("select 0x; 1e_ 'a")
+        errors = text.parse().errors
+        self.assertEqual(
+            [(text.slice(error), error.message) for error in errors],
+            [
+                ("0x", "missing digits after base prefix"),
+                ("1e_", "unknown statement"),
+                ("e", "missing digits in exponent"),
+                ("_", "trailing junk after number"),
+                ("'a", "unterminated string"),
+            ],
+        )
+        self.assertIsInstance(errors[0], squawk.ParseError)
+        self.assertNotIsInstance(errors[0], Exception)
+
     def test_an_empty_text_has_an_empty_tree(self):
         parse = Text("").parse()
         self.assertEqual((len(parse.steps), list(parse.children()), parse.errors), (2, [], []))
