@@ -289,47 +289,48 @@ class Text:
     """
 
     def __init__(self, text: str) -> None:
-        self.text = text
+        # The library trusts that the bytes are UTF-8. A subclass of `str` can have other methods.
+        self._text = str.__str__(text)
+        self._data = self._text.encode("utf-8")
+        self._is_ascii = len(self._data) == len(self._text)
+
+    @property
+    def text(self) -> str:
         """The characters."""
-        self.data = text.encode("utf-8")
+        return self._text
+
+    @property
+    def data(self) -> bytes:
         """The bytes."""
-        self._is_ascii = len(self.data) == len(text)
+        return self._data
 
     def tokens(self, *, backslash: bool = False) -> Iterator[Token]:
-        """Yields the tokens, which cover the text without a gap.
+        """Returns an iterator over the tokens, which cover the text without a gap.
 
         With `backslash`, a backslash escapes the next character in a string without a prefix.
         """
-        if len(self.data) > 0xFFFFFFFF:
-            raise TooLong("too long")
-        at, count = ctypes.c_size_t(0), ctypes.c_size_t(0)
-        portion = (ctypes.c_uint32 * (_TOKEN.size // 4 * _PORTION))()
-        while at.value < len(self.data):
-            # The bytes are UTF-8, so they need no check. The object keeps them unchanged.
-            _check(
-                _lib.squawk_tokens_unchecked(
-                    self.data, len(self.data), int(backslash), at, portion, _PORTION, count
-                )
-            )
-            records = ctypes.string_at(portion, _TOKEN.size * count.value)
-            for kind, flags, start, length, junk in _TOKEN.iter_unpack(records):
-                yield Token(_TOKEN_KINDS[kind], flags, start, start + length, junk)
+        data = self._data
+        _check_length(len(data))
+        return _cut(data, _options(backslash, False))
 
     def parse(self, *, backslash: bool = False, grouped: bool = False) -> Parse:
         """Returns the tree and the errors.
 
         `backslash` is as in `tokens`. With `grouped`, a semicolon in parentheses ends no statement.
         """
-        step_count = ctypes.c_size_t(len(self.data) // 2 + 16)
+        data = self._data
+        _check_length(len(data))
+        options = _options(backslash, grouped)
+        step_count = ctypes.c_size_t(len(data) // 2 + 16)
         error_count = ctypes.c_size_t(16)
         while True:
             step_room, error_room = step_count.value, error_count.value
             steps = (ctypes.c_uint32 * (_STEP.size // 4 * step_room))()
             errors = (ctypes.c_uint32 * (_ERROR.size // 4 * error_room))()
             status = _lib.squawk_parse(
-                self.data,
-                len(self.data),
-                backslash + 2 * grouped,
+                data,
+                len(data),
+                options,
                 steps,
                 step_room,
                 step_count,
@@ -340,19 +341,17 @@ class Text:
             if status != _ARRAY_TOO_SMALL:
                 break
         _check(status)
-        step_records = ctypes.string_at(steps, _STEP.size * step_count.value)
-        error_records = ctypes.string_at(errors, _ERROR.size * error_count.value)
         return Parse(
             [
                 Step(_STEP_ACTIONS[action], kind, start, end)
-                for action, kind, start, end in _STEP.iter_unpack(step_records)
+                for action, kind, start, end in _records(_STEP, steps, step_count.value)
             ],
-            [ParseError(*record) for record in _ERROR.iter_unpack(error_records)],
+            [ParseError(*record) for record in _records(_ERROR, errors, error_count.value)],
         )
 
     def slice(self, span) -> str:
         """Returns the characters of a token, a step, a child, an error or a `Span`."""
-        return self.data[span.start : span.end].decode("utf-8")
+        return self._data[span.start : span.end].decode("utf-8")
 
     def char_offset(self, offset: ByteOffset) -> CharOffset:
         """Returns how many characters come before this byte."""
@@ -360,30 +359,30 @@ class Text:
             return CharOffset(offset)
         block = offset // _BLOCK
         start = block * _BLOCK
-        return CharOffset(self._chars_before[block] + _count_chars(self.data[start:offset]))
+        return CharOffset(self._chars_before[block] + _count_chars(self._data[start:offset]))
 
     def char_range(self, span) -> Tuple[CharOffset, CharOffset]:
-        """Returns the range in characters, as `self.text[start:end]` takes it."""
+        """Returns the range in characters, as `text[start:end]` takes it."""
         return self.char_offset(span.start), self.char_offset(span.end)
 
     def byte_offset(self, offset: CharOffset) -> ByteOffset:
         """Returns how many bytes come before this character."""
         if self._is_ascii:
             return ByteOffset(offset)
-        return ByteOffset(len(self.text[:offset].encode("utf-8")))
+        return ByteOffset(len(self._text[:offset].encode("utf-8")))
 
     def line_column(self, offset: ByteOffset) -> Tuple[int, int]:
         """Returns the line and the column, in characters, of this byte. Both count from 1."""
-        line_start = self.data.rfind(b"\n", 0, offset) + 1
-        line = self.data.count(b"\n", 0, offset) + 1
-        return line, _count_chars(self.data[line_start:offset]) + 1
+        line_start = self._data.rfind(b"\n", 0, offset) + 1
+        line = self._data.count(b"\n", 0, offset) + 1
+        return line, _count_chars(self._data[line_start:offset]) + 1
 
     @functools.cached_property
     def _chars_before(self) -> List[int]:
         """How many characters begin before each block of bytes."""
         counts = [0]
-        for start in range(0, len(self.data), _BLOCK):
-            counts.append(counts[-1] + _count_chars(self.data[start : start + _BLOCK]))
+        for start in range(0, len(self._data), _BLOCK):
+            counts.append(counts[-1] + _count_chars(self._data[start : start + _BLOCK]))
         return counts
 
 
@@ -424,6 +423,38 @@ def _copied(call, number: int, what: str) -> str:
     if call(number, room, _NAME_ROOM, count) != _OK:
         raise ValueError(f"no {what} has the number {number}")
     return room.raw[: count.value].decode("ascii")
+
+
+def _cut(data: bytes, options: int) -> Iterator[Token]:
+    """Yields the tokens of bytes that are UTF-8 and not too long."""
+    at, count = ctypes.c_size_t(0), ctypes.c_size_t(0)
+    portion = (ctypes.c_uint32 * (_TOKEN.size // 4 * _PORTION))()
+    while at.value < len(data):
+        # The bytes are those of a `str`, so they need no check. Nothing can change them.
+        _check(
+            _lib.squawk_tokens_unchecked(data, len(data), options, at, portion, _PORTION, count)
+        )
+        for kind, flags, start, length, junk in _records(_TOKEN, portion, count.value):
+            yield Token(_TOKEN_KINDS[kind], flags, start, start + length, junk)
+
+
+def _records(record: struct.Struct, array: ctypes.Array, count: int) -> Iterator[tuple]:
+    """Returns the first records of an array of `c_uint32`, without a copy.
+
+    `ctypes.string_at` takes its size as a C `int`, which does not count the bytes of a long text.
+    """
+    return record.iter_unpack(memoryview(array)[: record.size // 4 * count])
+
+
+def _options(backslash: bool, grouped: bool) -> int:
+    """Returns the options as the library takes them."""
+    return int(bool(backslash)) + 2 * int(bool(grouped))
+
+
+def _check_length(length: int) -> None:
+    """Refuses a text of too many bytes. Comes before arrays are made."""
+    if length > 0xFFFFFFFF:
+        raise TooLong("too long")
 
 
 def _check(status: int) -> None:

@@ -95,9 +95,60 @@ class Tokens(unittest.TestCase):
         self.assertEqual(len(self.pairs(r"'a\' y'", backslash=True)), 1)
         self.assertEqual(len(self.pairs(r"'a\' y'")), 4)
 
+    def test_options_are_taken_for_true_or_false(self):
+        self.assertEqual(len(self.pairs(r"'a\' y'", backslash="yes")), 1)
+        self.assertEqual(len(self.pairs(r"'a\' y'", backslash=None)), 4)
+        self.assertEqual(len(list(Text("(;);").parse(backslash=4, grouped=[1]).children())), 1)
+
+
+class LongText(bytes):
+    """Bytes that claim to be too many."""
+
+    def __len__(self):
+        return 2**32
+
+
+class OddText(str):
+    """Characters with other bytes, and with other characters."""
+
+    def encode(self, *_args):
+        return b"\xf0"
+
+    def __str__(self):
+        return "odd"
+
+    def __len__(self):
+        return 7
+
+
+class Texts(unittest.TestCase):
     def test_a_lone_surrogate_is_refused(self):
         with self.assertRaises(UnicodeEncodeError):
             Text("\ud800")
+
+    def test_bytes_are_those_of_the_characters(self):
+        text = Text(OddText("é;"))
+        self.assertEqual((text.text, text.data), ("é;", b"\xc3\xa9;"))
+        self.assertIs(type(text.text), str)
+        self.assertEqual([token.end for token in text.tokens()], [2, 3])
+        self.assertEqual(text.byte_offset(2), 3)
+        for other in (b"\xf0", 5, None):
+            with self.subTest(other=other), self.assertRaises(TypeError):
+                Text(other)
+
+    def test_bytes_and_characters_cannot_be_set(self):
+        text = Text("é")
+        for name, value in [("data", b"\xf0"), ("text", "e")]:
+            with self.subTest(name), self.assertRaises(AttributeError):
+                setattr(text, name, value)
+
+    def test_long_texts_are_refused_before_arrays_are_made(self):
+        text = Text("")
+        text._data = LongText()
+        for call in (text.tokens, text.parse):
+            with self.subTest(call=call), self.assertRaises(squawk.TooLong):
+                call()
+        squawk._check_length(2**32 - 1)
 
 
 class Trees(unittest.TestCase):
