@@ -21,6 +21,7 @@ makes; without it the library is `libsquawk.so` in the folder `bindings/lib`.
 
 `bindings/c/include/squawk.h` says what the library is proved to do. This module is tested only.
 """
+import array
 import ctypes
 import enum
 import functools
@@ -220,19 +221,25 @@ class ParseError(NamedTuple):
 class Child:
     """A child of a node: a leaf, which is one step, or a node, from its enter to its exit."""
 
-    def __init__(self, steps: Sequence[Step]) -> None:
-        self.steps = steps
-        """The steps of the leaf or the node."""
+    def __init__(self, parse: "Parse", first: int) -> None:
+        self._parse = parse
+        self._first = first
+        self._step = parse.steps[first]
+
+    @property
+    def steps(self) -> List[Step]:
+        """A copy of the steps of the leaf or the node."""
+        return self._parse.steps[self._first : self._parse._last_steps[self._first] + 1]
 
     @property
     def is_node(self) -> bool:
         """Whether it is a node."""
-        return self.steps[0].action is StepAction.ENTER
+        return self._step.action is StepAction.ENTER
 
     @property
     def kind(self) -> int:
-        """The number of its kind."""
-        return self.steps[0].kind
+        """The number of its kind, as `kinds` has it."""
+        return self._step.kind
 
     @property
     def name(self) -> str:
@@ -242,22 +249,20 @@ class Child:
     @property
     def start(self) -> ByteOffset:
         """Its first byte."""
-        return self.steps[0].start
+        return self._step.start
 
     @property
     def end(self) -> ByteOffset:
         """The byte after its last."""
-        return self.steps[0].end
+        return self._step.end
 
     def children(self) -> Iterator["Child"]:
-        """Yields its children. A leaf has none."""
-        first, open_nodes = 1, 0
-        for i in range(1, len(self.steps) - 1):
-            action = self.steps[i].action
-            open_nodes += (action is StepAction.ENTER) - (action is StepAction.EXIT)
-            if open_nodes == 0:
-                yield Child(self.steps[first : i + 1])
-                first = i + 1
+        """Yields its children. A leaf has none. Each takes the same time, however deep it is."""
+        last_steps = self._parse._last_steps
+        first, end = self._first + 1, last_steps[self._first]
+        while first < end:
+            yield Child(self._parse, first)
+            first = last_steps[first] + 1
 
 
 class Parse:
@@ -267,12 +272,25 @@ class Parse:
         self.steps = steps
         """The steps in the order of the text. The first one enters the root."""
         self.errors = errors
-        """The errors, in the order of the tokens; at each token first those of the grammar, then its
-        faults by number."""
+        """The errors, in the order of the tokens; at each token first those of the grammar, then
+        its faults by number."""
 
     def children(self) -> Iterator[Child]:
         """Yields the children of the root."""
-        return Child(self.steps).children()
+        return Child(self, 0).children()
+
+    @functools.cached_property
+    def _last_steps(self) -> Sequence[int]:
+        """The index of the last step of each leaf and node, at the index of its first step."""
+        enter, leave = StepAction.ENTER, StepAction.EXIT
+        last_steps = array.array("Q", range(len(self.steps)))
+        open_nodes: List[int] = []
+        for i, step in enumerate(self.steps):
+            if step.action is enter:
+                open_nodes.append(i)
+            elif step.action is leave:
+                last_steps[open_nodes.pop()] = i
+        return last_steps
 
 
 class Span(NamedTuple):
@@ -438,12 +456,12 @@ def _cut(data: bytes, options: int) -> Iterator[Token]:
             yield Token(_TOKEN_KINDS[kind], flags, start, start + length, junk)
 
 
-def _records(record: struct.Struct, array: ctypes.Array, count: int) -> Iterator[tuple]:
+def _records(record: struct.Struct, room: ctypes.Array, count: int) -> Iterator[tuple]:
     """Returns the first records of an array of `c_uint32`, without a copy.
 
     `ctypes.string_at` takes its size as a C `int`, which does not count the bytes of a long text.
     """
-    return record.iter_unpack(memoryview(array)[: record.size // 4 * count])
+    return record.iter_unpack(memoryview(room)[: record.size // 4 * count])
 
 
 def _options(backslash: bool, grouped: bool) -> int:
@@ -477,12 +495,12 @@ def _load() -> ctypes.CDLL:
     if not os.path.exists(path):
         raise ImportError(f"no {path}: run bindings/build_libraries.sh, or set SQUAWK_LIBRARY")
     lib = ctypes.CDLL(path)
-    size, number, array = ctypes.c_size_t, ctypes.c_uint32, ctypes.c_void_p
+    size, number, room = ctypes.c_size_t, ctypes.c_uint32, ctypes.c_void_p
     count = ctypes.POINTER(ctypes.c_size_t)
     text = ctypes.c_char_p
     lib.squawk_version.argtypes = []
-    lib.squawk_tokens_unchecked.argtypes = [text, size, number, count, array, size, count]
-    lib.squawk_parse.argtypes = [text, size, number, array, size, count, array, size, count]
+    lib.squawk_tokens_unchecked.argtypes = [text, size, number, count, room, size, count]
+    lib.squawk_parse.argtypes = [text, size, number, room, size, count, room, size, count]
     lib.squawk_kind_name.argtypes = [number, text, size, count]
     lib.squawk_message.argtypes = [number, text, size, count]
     for call in (

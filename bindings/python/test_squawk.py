@@ -7,6 +7,7 @@ import os
 import re
 import subprocess
 import sys
+import time
 import unittest
 
 import squawk
@@ -164,10 +165,30 @@ class Trees(unittest.TestCase):
         children = list(text.parse().children())
         self.assertEqual([text.slice(c) for c in children], ["select (1);", " ", ";"])
         self.assertEqual([c.is_node for c in children], [True, False, True])
+        self.assertEqual([len(c.steps) for c in children], [10, 1, 3])
         inside = list(children[0].children())
         self.assertEqual([text.slice(c) for c in inside], ["select", " ", "(1)", ";"])
         self.assertEqual([text.slice(c) for c in inside[2].children()], ["(", "1", ")"])
         self.assertEqual(list(inside[0].children()), [])
+
+    def test_deep_trees_are_walked_in_linear_time(self):
+        parse = Text("(" * 8000).parse()
+        begin = time.perf_counter()
+        leaf_count = depth = 0
+        open_nodes = [parse.children()]
+        while open_nodes:
+            child = next(open_nodes[-1], None)
+            if child is None:
+                open_nodes.pop()
+            elif child.is_node:
+                open_nodes.append(child.children())
+                depth = max(depth, len(open_nodes))
+            else:
+                self.assertEqual((child.kind, len(child.steps)), (kinds.L_PAREN, 1))
+                leaf_count += 1
+        self.assertEqual(leaf_count, 8000)
+        self.assertGreaterEqual(depth, 8000)
+        self.assertLess(time.perf_counter() - begin, 1)
 
     def test_grouped_chooses_the_division(self):
         text = Text("create rule r as on insert to t do (notify a; notify b);")
