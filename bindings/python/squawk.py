@@ -22,12 +22,24 @@ makes; without it the library is `libsquawk.so` in the folder `bindings/lib`.
 `bindings/c/include/squawk.h` says what the library is proved to do. This module is tested only.
 """
 import array
+import bisect
 import ctypes
 import enum
 import functools
 import os
+import re
 import struct
-from typing import Iterator, List, NamedTuple, NewType, Optional, Sequence, Tuple
+from typing import (
+    Callable,
+    Iterator,
+    List,
+    NamedTuple,
+    NewType,
+    Optional,
+    Protocol,
+    Sequence,
+    Tuple,
+)
 
 import squawk_kinds as kinds
 
@@ -36,6 +48,7 @@ __all__ = [
     "CallError",
     "CharOffset",
     "Child",
+    "HasRange",
     "OutOfMemory",
     "Parse",
     "ParseError",
@@ -174,7 +187,7 @@ class Token(NamedTuple):
 
     @property
     def base(self) -> Optional[int]:
-        """The base of an integer: 2, 8, 10 or 16."""
+        """The base of an integer: 2, 8, 10 or 16. `None` for other tokens."""
         return self.flags >> 8 or None
 
 
@@ -293,8 +306,20 @@ class Parse:
         return last_steps
 
 
+class HasRange(Protocol):
+    """What has a range of bytes: a token, a step, a child, an error and a `Span`."""
+
+    @property
+    def start(self) -> ByteOffset:
+        """Its first byte."""
+
+    @property
+    def end(self) -> ByteOffset:
+        """The byte after its last."""
+
+
 class Span(NamedTuple):
-    """A range of bytes. Tokens, steps, children and errors can stand for theirs."""
+    """A range of bytes."""
 
     start: ByteOffset
     end: ByteOffset
@@ -367,33 +392,71 @@ class Text:
             [ParseError(*record) for record in _records(_ERROR, errors, error_count.value)],
         )
 
-    def slice(self, span) -> str:
+    def slice(self, span: HasRange) -> str:
         """Returns the characters of a token, a step, a child, an error or a `Span`."""
+        self._check_range(span)
         return self._data[span.start : span.end].decode("utf-8")
 
     def char_offset(self, offset: ByteOffset) -> CharOffset:
-        """Returns how many characters come before this byte."""
+        """Returns how many characters come before this byte, or the end of the text.
+
+        A `ValueError` refuses an offset past the end and one inside a character, as all calls
+        that take offsets do.
+        """
+        self._check_offset(offset)
+        return self._count_before(offset)
+
+    def char_range(self, span: HasRange) -> Tuple[CharOffset, CharOffset]:
+        """Returns the range in characters, as `text[start:end]` takes it."""
+        self._check_range(span)
+        return self._count_before(span.start), self._count_before(span.end)
+
+    def byte_offset(self, offset: CharOffset) -> ByteOffset:
+        """Returns how many bytes come before this character, or the end of the text."""
+        if not 0 <= offset <= len(self._text):
+            raise ValueError(f"the text has no character {offset}")
+        if self._is_ascii:
+            return ByteOffset(offset)
+        return ByteOffset(len(self._text[:offset].encode("utf-8")))
+
+    def line_column(self, offset: ByteOffset) -> Tuple[int, int]:
+        """Returns the line and the column, in characters, of this byte. Both count from 1.
+
+        LF alone ends a line. A CR is a character of its line, and so is the LF at its end.
+        """
+        self._check_offset(offset)
+        line = bisect.bisect_right(self._line_starts, offset)
+        line_start = ByteOffset(self._line_starts[line - 1])
+        return line, self._count_before(offset) - self._count_before(line_start) + 1
+
+    def _check_offset(self, offset: ByteOffset) -> None:
+        """Refuses an offset that is not in the text, or inside a character."""
+        if not 0 <= offset <= len(self._data):
+            raise ValueError(f"the text has no byte {offset}")
+        if offset < len(self._data) and self._data[offset] in _CONTINUATION:
+            raise ValueError(f"byte {offset} is inside a character")
+
+    def _check_range(self, span: HasRange) -> None:
+        """Refuses a range that is not one of whole characters of the text."""
+        self._check_offset(span.start)
+        self._check_offset(span.end)
+        if span.start > span.end:
+            raise ValueError(f"{span.start}..{span.end} is not a range")
+
+    def _count_before(self, offset: ByteOffset) -> CharOffset:
+        """Returns how many characters come before an offset that was checked."""
         if self._is_ascii:
             return CharOffset(offset)
         block = offset // _BLOCK
         start = block * _BLOCK
         return CharOffset(self._chars_before[block] + _count_chars(self._data[start:offset]))
 
-    def char_range(self, span) -> Tuple[CharOffset, CharOffset]:
-        """Returns the range in characters, as `text[start:end]` takes it."""
-        return self.char_offset(span.start), self.char_offset(span.end)
-
-    def byte_offset(self, offset: CharOffset) -> ByteOffset:
-        """Returns how many bytes come before this character."""
-        if self._is_ascii:
-            return ByteOffset(offset)
-        return ByteOffset(len(self._text[:offset].encode("utf-8")))
-
-    def line_column(self, offset: ByteOffset) -> Tuple[int, int]:
-        """Returns the line and the column, in characters, of this byte. Both count from 1."""
-        line_start = self._data.rfind(b"\n", 0, offset) + 1
-        line = self._data.count(b"\n", 0, offset) + 1
-        return line, _count_chars(self._data[line_start:offset]) + 1
+    @functools.cached_property
+    def _line_starts(self) -> Sequence[int]:
+        """The offset of the first byte of each line."""
+        line_starts = array.array("Q", [0])
+        line_starts.extend(match.end() for match in re.finditer(b"\n", self._data))
+        return line_starts
 
     @functools.cached_property
     def _chars_before(self) -> List[int]:
@@ -433,7 +496,7 @@ def version() -> Tuple[int, int]:
     return _lib.squawk_version() >> 16, _lib.squawk_version() & 0xFFFF
 
 
-def _copied(call, number: int, what: str) -> str:
+def _copied(call: Callable[..., int], number: int, what: str) -> str:
     """Returns the text that a call copies for this number."""
     if not 0 <= number <= 0xFFFFFFFF:
         raise ValueError(f"no {what} has the number {number}")

@@ -173,7 +173,7 @@ class Trees(unittest.TestCase):
 
     def test_deep_trees_are_walked_in_linear_time(self):
         parse = Text("(" * 8000).parse()
-        begin = time.perf_counter()
+        begin = time.process_time()
         leaf_count = depth = 0
         open_nodes = [parse.children()]
         while open_nodes:
@@ -188,7 +188,7 @@ class Trees(unittest.TestCase):
                 leaf_count += 1
         self.assertEqual(leaf_count, 8000)
         self.assertGreaterEqual(depth, 8000)
-        self.assertLess(time.perf_counter() - begin, 1)
+        self.assertLess(time.process_time() - begin, 1)
 
     def test_grouped_chooses_the_division(self):
         text = Text("create rule r as on insert to t do (notify a; notify b);")
@@ -247,6 +247,49 @@ class Offsets(unittest.TestCase):
         rows = [(0, (1, 1)), (2, (1, 2)), (3, (2, 1)), (5, (2, 2)), (8, (3, 1))]
         for offset, expected in rows:
             self.assertEqual(text.line_column(offset), expected)
+        self.assertEqual(Text("").line_column(0), (1, 1))
+
+    def test_lf_alone_ends_a_line(self):
+        text = Text("a\r\nb\rc\u2028d\n")
+        rows = [(1, (1, 2)), (2, (1, 3)), (3, (2, 1)), (5, (2, 3)), (9, (2, 5)), (11, (3, 1))]
+        for offset, expected in rows:
+            with self.subTest(offset):
+                self.assertEqual(text.line_column(offset), expected)
+
+    def test_lines_of_a_long_text_are_found_fast(self):
+        text = Text("é;\n" * 20000)
+        begin = time.process_time()
+        for line in range(20000):
+            self.assertEqual(text.line_column(4 * line + 2), (line + 1, 2))
+        self.assertLess(time.process_time() - begin, 1)
+
+    def test_offsets_out_of_range_are_refused(self):
+        for text in (Text(""), Text("ab"), Text("éß")):
+            for call, end in [
+                (text.char_offset, len(text.data)),
+                (text.line_column, len(text.data)),
+                (text.byte_offset, len(text.text)),
+            ]:
+                call(end)
+                for offset in (-1, end + 1, 2**64):
+                    with self.subTest(text=text.text, call=call, offset=offset):
+                        self.assertRaises(ValueError, call, offset)
+
+    def test_offsets_inside_a_character_are_refused(self):
+        text = Text("a😀é")
+        self.assertEqual([text.char_offset(offset) for offset in (0, 1, 5, 7)], [0, 1, 2, 3])
+        for offset in (2, 3, 4, 6):
+            for call in (text.char_offset, text.line_column):
+                with self.subTest(call=call, offset=offset):
+                    self.assertRaises(ValueError, call, offset)
+
+    def test_ranges_that_the_text_does_not_have_are_refused(self):
+        text = Text("aéb")
+        self.assertEqual((text.slice(Span(4, 4)), text.char_range(Span(4, 4))), ("", (3, 3)))
+        for start, end in [(-1, 1), (0, 5), (0, 2), (2, 3), (2, 2), (3, 1)]:
+            for call in (text.slice, text.char_range):
+                with self.subTest(call=call, start=start, end=end):
+                    self.assertRaises(ValueError, call, Span(start, end))
 
 
 class Names(unittest.TestCase):
