@@ -154,6 +154,20 @@ class TokenKind(enum.IntEnum):
 
 _TOKEN_KINDS = tuple(TokenKind)
 
+_KINDS_WITH_END = frozenset(
+    {
+        TokenKind.STR,
+        TokenKind.NATIONAL_STR,
+        TokenKind.BYTE_STR,
+        TokenKind.BIT_STR,
+        TokenKind.DOLLAR_QUOTED_STR,
+        TokenKind.UNICODE_ESC_STR,
+        TokenKind.ESC_STR,
+        TokenKind.QUOTED_IDENT,
+        TokenKind.BLOCK_COMMENT,
+    }
+)
+
 
 class TokenFlag(enum.IntFlag):
     """The flags of a token."""
@@ -184,6 +198,13 @@ class Token(NamedTuple):
     def has(self, flag: TokenFlag) -> bool:
         """Whether the flag is set."""
         return bool(self.flags & flag)
+
+    @property
+    def is_terminated(self) -> Optional[bool]:
+        """Of a string, a quoted identifier and a block comment: whether its end was found (if not,
+        it extends to the end of the text). `None` for other tokens.
+        """
+        return self.has(TokenFlag.TERMINATED) if self.kind in _KINDS_WITH_END else None
 
     @property
     def base(self) -> Optional[int]:

@@ -92,6 +92,20 @@ class Tokens(unittest.TestCase):
         self.assertTrue(tokens[1].has(TokenFlag.EMPTY_EXPONENT))
         self.assertFalse(tokens[4].has(TokenFlag.TERMINATED))
 
+    def test_tokens_with_an_end_say_whether_it_was_found(self):
+        rows = [
+            ("'a'", True),
+            ("'a", False),
+            ('"a"', True),
+            ("/* a", False),
+            ("$$a$$", True),
+            ("a", None),
+            ("-- a", None),
+        ]
+        for text, expected in rows:
+            with self.subTest(text):
+                self.assertIs(next(Text(text).tokens()).is_terminated, expected)
+
     def test_backslash_chooses_the_reading(self):
         self.assertEqual(len(self.pairs(r"'a\' y'", backslash=True)), 1)
         self.assertEqual(len(self.pairs(r"'a\' y'")), 4)
