@@ -291,7 +291,7 @@ class Child:
         return self._step.end
 
     def children(self) -> Iterator["Child"]:
-        """Yields its children. A leaf has none. Each takes the same time, however deep it is."""
+        """Yields its children. A leaf has none. Each takes the same time, however large it is."""
         last_steps = self._parse._last_steps
         first, end = self._first + 1, last_steps[self._first]
         while first < end:
@@ -349,7 +349,8 @@ class Span(NamedTuple):
 class Text:
     """A text: its characters, and their bytes in UTF-8, which the library reads.
 
-    A lone surrogate is not a character, and makes a `UnicodeEncodeError`.
+    A lone surrogate is not a character, and makes a `UnicodeEncodeError`. An offset that is not in
+    the text makes a `ValueError`, and so does an offset in bytes that is inside a character.
     """
 
     def __init__(self, text: str) -> None:
@@ -419,11 +420,7 @@ class Text:
         return self._data[span.start : span.end].decode("utf-8")
 
     def char_offset(self, offset: ByteOffset) -> CharOffset:
-        """Returns how many characters come before this byte, or the end of the text.
-
-        A `ValueError` refuses an offset past the end and one inside a character, as all calls
-        that take offsets do.
-        """
+        """Returns how many characters come before this byte, or the end of the text."""
         self._check_offset(offset)
         return self._count_before(offset)
 
@@ -438,7 +435,9 @@ class Text:
             raise ValueError(f"the text has no character {offset}")
         if self._is_ascii:
             return ByteOffset(offset)
-        return ByteOffset(len(self._text[:offset].encode("utf-8")))
+        block = offset // _BLOCK
+        begin = self._text[block * _BLOCK : offset]
+        return ByteOffset(self._bytes_before[block] + len(begin.encode("utf-8")))
 
     def line_column(self, offset: ByteOffset) -> Tuple[int, int]:
         """Returns the line and the column, in characters, of this byte. Both count from 1.
@@ -480,6 +479,14 @@ class Text:
         return line_starts
 
     @functools.cached_property
+    def _bytes_before(self) -> List[int]:
+        """How many bytes come before each block of characters."""
+        counts = [0]
+        for start in range(0, len(self._text), _BLOCK):
+            counts.append(counts[-1] + len(self._text[start : start + _BLOCK].encode("utf-8")))
+        return counts
+
+    @functools.cached_property
     def _chars_before(self) -> List[int]:
         """How many characters begin before each block of bytes."""
         counts = [0]
@@ -488,7 +495,7 @@ class Text:
         return counts
 
 
-# The number of bytes of a block, in which characters are counted one by one.
+# The number of bytes, or of characters, of a block. Those in it are counted anew in each call.
 _BLOCK = 4096
 
 # The bytes that continue a character.

@@ -242,7 +242,7 @@ class Offsets(unittest.TestCase):
     def test_characters_are_counted_across_blocks(self):
         for unit in ("a", "é", "€", "😀", "aé€😀"):
             text = Text(unit * 5000)
-            for chars in (0, 1, 2047, 2048, 4097, len(text.text)):
+            for chars in (0, 1, 2047, 2048, 4095, 4096, 4097, len(text.text)):
                 at = text.byte_offset(chars)
                 with self.subTest(unit=unit, chars=chars):
                     self.assertEqual(at, len(text.text[:chars].encode()))
@@ -270,11 +270,12 @@ class Offsets(unittest.TestCase):
             with self.subTest(offset):
                 self.assertEqual(text.line_column(offset), expected)
 
-    def test_lines_of_a_long_text_are_found_fast(self):
-        text = Text("é;\n" * 20000)
+    def test_offsets_of_a_long_text_are_found_fast(self):
+        text = Text("é;\n" * 200000)
         begin = time.process_time()
-        for line in range(20000):
+        for line in range(0, 200000, 20):
             self.assertEqual(text.line_column(4 * line + 2), (line + 1, 2))
+            self.assertEqual(text.byte_offset(3 * line), 4 * line)
         self.assertLess(time.process_time() - begin, 1)
 
     def test_offsets_out_of_range_are_refused(self):

@@ -254,7 +254,7 @@ impl<'t> Child<'t> {
     }
 }
 
-/// An iterator over the children of a node. Each call of `next` takes the same time, however deep
+/// An iterator over the children of a node. Each call of `next` takes the same time, however large
 /// the child is.
 #[derive(Clone, Debug)]
 pub struct Children<'t> {
