@@ -2,7 +2,6 @@
 use squawk::{
     Action, Base, Division, Error, Kind, Options, Strings, TokenKind, kinds, parse, tokenize,
 };
-use std::alloc::{Layout, alloc_zeroed, dealloc};
 use std::time::{Duration, Instant};
 
 const HEADER: &str = include_str!("../../c/include/squawk.h");
@@ -237,6 +236,8 @@ fn deep_trees_are_walked_in_linear_time() {
 #[test]
 #[cfg(target_pointer_width = "64")]
 fn long_texts_are_refused_before_anything_is_allocated() {
+    use std::alloc::{Layout, alloc_zeroed, dealloc};
+
     let layout = Layout::array::<u8>(1 << 32).expect("a size");
     // SAFETY: the size is not 0.
     let zeros = unsafe { alloc_zeroed(layout) };
