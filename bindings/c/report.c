@@ -27,6 +27,13 @@ static void *room_for(size_t count, size_t size) {
   return room;
 }
 
+/* Whether the library has all calls of the header: it has the same major number, and no smaller
+ * minor one. */
+static int is_new_enough(void) {
+  uint32_t version = squawk_version();
+  return version >> 16 == SQUAWK_VERSION >> 16 && version >= SQUAWK_VERSION;
+}
+
 /* Returns all of standard input. */
 static uint8_t *read_all(size_t *length) {
   size_t room = 1 << 16, got;
@@ -91,8 +98,12 @@ static void print_errors(const squawk_error *errors, size_t count) {
   }
 }
 
-/* Prints the report. The arrays are made anew if they turn out to be too small. */
+/* Prints the report. A text that is refused is refused before there are arrays. They are made anew
+ * if they turn out to be too small. */
 static squawk_status print_report(const uint8_t *text, size_t length, uint32_t options) {
+  size_t valid = 0;
+  squawk_status checked = squawk_check(text, length, &valid);
+  if (checked != SQUAWK_OK) return checked;
   size_t step_room = length / 2 + 16, error_room = 16, step_count = 0, error_count = 0;
   for (;;) {
     squawk_step *steps = room_for(step_room, sizeof *steps);
@@ -124,7 +135,7 @@ int main(int argc, char **argv) {
   }
   int wants_tokens = word < argc && strcmp(argv[word], "tokens") == 0;
   if (word + wants_tokens != argc) fail(1, "bad words");
-  if (squawk_version() != SQUAWK_VERSION) fail(1, "the header is of another version");
+  if (!is_new_enough()) fail(1, "the library does not fit the header");
   size_t length = 0;
   uint8_t *text = read_all(&length);
   squawk_status status = wants_tokens ? print_tokens(text, length, options)
