@@ -1,6 +1,8 @@
 /* Measures the calls on a text: MB/s of processor time, the best of some rounds.
  *
- * Use: bench FILE [ROUNDS]      ROUNDS is 10 without an argument */
+ * Use: bench FILE [ROUNDS]      ROUNDS is 10 without an argument
+ *
+ * The status is that of the first call that fails, and 1 if the file cannot be read. */
 #define _POSIX_C_SOURCE 200809L
 #include "squawk.h"
 
@@ -55,6 +57,15 @@ static squawk_status parse(struct work *w) {
                       w->error_room, &error_count);
 }
 
+/* Sets the room for steps and errors to what the text takes. */
+static squawk_status count_steps(struct work *w) {
+  squawk_step no_step;
+  squawk_error no_error;
+  return squawk_parse(w->text, w->length, 0, &no_step, 0, &w->step_room, &no_error, 0,
+                      &w->error_room);
+}
+
+/* Prints the speed of a call, and ends the program if the call fails. */
 static void measure(struct work *w, const char *name, squawk_status (*call)(struct work *),
                     int rounds) {
   double best = 1e9;
@@ -64,7 +75,7 @@ static void measure(struct work *w, const char *name, squawk_status (*call)(stru
     double taken = seconds() - start;
     if (status != SQUAWK_OK) {
       printf("%-20s status %u\n", name, status);
-      return;
+      exit((int)status);
     }
     if (taken < best) best = taken;
   }
@@ -76,14 +87,15 @@ int main(int argc, char **argv) {
   if (in == NULL || fseek(in, 0, SEEK_END) != 0) return 1;
   struct work w = {.length = (size_t)ftell(in)};
   rewind(in);
-  w.step_room = 3 * w.length + 2;
-  w.error_room = 2 * w.length + 1;
   w.text = malloc(w.length + 1);
+  if (!w.text) return SQUAWK_OUT_OF_MEMORY;
+  if (fread(w.text, 1, w.length, in) != w.length) return 1;
+  squawk_status counted = count_steps(&w);
+  if (counted != SQUAWK_ARRAY_TOO_SMALL) return (int)counted;
   w.tokens = malloc((w.length + PORTION) * sizeof *w.tokens);
   w.steps = malloc(w.step_room * sizeof *w.steps);
-  w.errors = malloc(w.error_room * sizeof *w.errors);
-  if (!w.text || !w.tokens || !w.steps || !w.errors) return SQUAWK_OUT_OF_MEMORY;
-  if (fread(w.text, 1, w.length, in) != w.length) return 1;
+  w.errors = malloc((w.error_room + 1) * sizeof *w.errors);
+  if (!w.tokens || !w.steps || !w.errors) return SQUAWK_OUT_OF_MEMORY;
   int rounds = argc > 2 ? atoi(argv[2]) : 10;
   measure(&w, "check", check, rounds);
   measure(&w, "tokens at once", tokens_at_once, rounds);
