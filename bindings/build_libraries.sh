@@ -3,10 +3,11 @@
 #
 # Use: build_libraries.sh [FOLDER]      FOLDER is bindings/lib without an argument
 #
-# FOLDER gets libsquawk.a and libsquawk.so, which define the calls of bindings/c/include/squawk.h.
-# They also hold the few lines of C by which a Rattle program calls malloc. Needs the Rattle kit
-# (the command `rt`), a C compiler ($CC, or else cc) and ar. The first call proves the crates below
-# too, which takes minutes.
+# FOLDER gets libsquawk.a and libsquawk.so.1, which define the calls of bindings/c/include/squawk.h,
+# and the link libsquawk.so for linkers: a program that was linked with it looks for libsquawk.so.1.
+# Both also hold the few lines of C by which a Rattle program calls malloc. Needs the Rattle kit
+# (the command `rt`), a C compiler ($CC, which may have arguments, or else cc) and ar. The first
+# call proves the crates below too, which takes minutes.
 set -eu
 here=$(CDPATH='' cd -P -- "$(dirname -- "${BASH_SOURCE[0]}")" && pwd)
 out=${1:-$here/lib}
@@ -33,6 +34,8 @@ ar rs "$out/libsquawk.a" "$work"/members/*.o 2>/dev/null
 
 # The shared library exports the calls alone.
 echo '{ global: squawk_*; local: *; };' >"$work/exports"
-"${CC:-cc}" -shared -o "$out/libsquawk.so" -Wl,-soname,libsquawk.so.1 \
+read -ra cc <<<"${CC:-cc}"
+"${cc[@]}" -shared -o "$out/libsquawk.so.1" -Wl,-soname,libsquawk.so.1 \
   -Wl,--version-script="$work/exports" -Wl,-z,defs -Wl,-z,relro,-z,now \
   -Wl,--whole-archive "$out/libsquawk.a" -Wl,--no-whole-archive
+ln -sf libsquawk.so.1 "$out/libsquawk.so"
