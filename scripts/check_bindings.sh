@@ -6,11 +6,23 @@
 #
 # The texts are those of this repository (the stored input of the program, bench/ and the
 # documents), a few that are made here, and the files named. What is not at hand (a sanitizer, C++,
-# cargo, python3) is left out with a line; without a C compiler nothing is done. The status is 0 if
-# all agree, else 1.
+# cargo, python3) is left out with a line. The compiler is $CC, which may have arguments, or else
+# cc; without both nothing is done. The status is 0 if all agree, else 1.
+#
+# The library is compiled code without a sanitizer. So a sanitizer sees what report.c and test.c do
+# with the calls, the memory that the library does not free, and what it passes to functions of C.
+# That the library itself touches nothing outside texts and arrays is tested by test.c, in which
+# they lie against pages that may not be touched.
 set -u
+named=()
+for text in "$@"; do
+  case $text in
+    /*) named+=("$text") ;;
+    *) named+=("$PWD/$text") ;;
+  esac
+done
 CDPATH='' cd -- "$(dirname -- "${BASH_SOURCE[0]}")/.." || exit 1
-cc=${CC:-cc}
+read -ra cc <<<"${CC:-cc}"
 include=bindings/c/include
 failed=0
 work=$(mktemp -d)
@@ -43,20 +55,42 @@ check_names() {
     differs "the library does not define the calls of squawk.h"
 }
 
-# Compiles the example in C, with these flags.
+# Compiles a program in C into $work, with these flags: NAME SOURCE [FLAG ..]
 compile_c() {
-  "$cc" -std=c11 -Wall -Wextra -Wpedantic -Werror "$@" -I$include bindings/c/report.c \
-    "$SQUAWK_LIB/libsquawk.a"
+  local name=$1 source=$2
+  shift 2
+  "${cc[@]}" -std=c11 -Wall -Wextra -Wpedantic -Werror -I$include -o "$work/$name" \
+    "bindings/c/$source" "$@" || differs "$source does not compile: $*"
+}
+
+# Runs a program that is to succeed.
+succeeds() {
+  "$@" >"$work/log" 2>&1 || {
+    cat "$work/log"
+    differs "${1##*/} fails"
+  }
 }
 
 build_c() {
-  compile_c -O2 -o "$work/report_c" || differs "the example in C does not compile"
-  if echo 'int main(void) { return 0; }' |
-    "$cc" -fsanitize=address,undefined -x c -o "$work/probe" - 2>/dev/null && "$work/probe"; then
-    compile_c -g -fsanitize=address,undefined -fno-sanitize-recover -o "$work/report_sanitized" ||
-      differs "the example in C does not compile with a sanitizer"
+  local archive=$SQUAWK_LIB/libsquawk.a text=bench/statements.sql
+  compile_c report_c report.c -O2 "$archive"
+  compile_c test_c test.c -O2 "$archive"
+  compile_c bench_c bench.c -O2 "$archive"
+  succeeds "$work/test_c"
+  succeeds "$work/bench_c" $text 1
+  compile_c report_linked report.c -O2 -L"$SQUAWK_LIB" -lsquawk
+  LD_LIBRARY_PATH=$SQUAWK_LIB "$work/report_linked" <$text >"$work/got" ||
+    differs "report.c fails with the shared library"
+  "$work/report_c" <$text | cmp - "$work/got" ||
+    differs "report.c prints another report with the shared library"
+  if "${cc[@]}" -fsanitize=address,undefined -o "$work/probe" "$work/probe.c" 2>/dev/null &&
+    "$work/probe"; then
+    local flags=(-g "-fsanitize=address,undefined" -fno-sanitize-recover)
+    compile_c report_sanitized report.c "${flags[@]}" "$archive"
+    compile_c test_sanitized test.c "${flags[@]}" "$archive"
+    succeeds "$work/test_sanitized"
   else
-    echo "check_bindings: $cc has no sanitizer that runs here, so it is left out"
+    echo "check_bindings: ${cc[*]} has no sanitizer that runs here, so it is left out"
   fi
   if has c++ "the header in C++"; then
     printf '#include "squawk.h"\n#include "squawk_kinds.h"\n' |
@@ -109,8 +143,20 @@ make_texts() {
 compare() {
   local text=$1 report language status
   shift
-  ./run "$@" <"$text" >"$work/expected" 2>/dev/null
+  if ! [ -f "$text" ] || ! [ -r "$text" ]; then
+    differs "cannot read $text"
+    return
+  fi
+  ./run "$@" <"$text" >"$work/expected" 2>"$work/log"
   report=$?
+  case $report in
+    0 | 4 | 5 | 6) ;;
+    *)
+      cat "$work/log"
+      differs "the program: status $report: $text $*"
+      return
+      ;;
+  esac
   sed -nE 's/^[0-9]+ T .* ([0-9]+\.\.[0-9]+)$/\1/p' "$work/expected" >"$work/leaves"
   rm -f "$work/tokens"
   for language in c sanitized rust python; do
@@ -118,12 +164,16 @@ compare() {
     "$work/report_$language" "$@" <"$text" >"$work/got" 2>"$work/log"
     status=$?
     [ $status = $report ] || differs "$language: status $status in place of $report: $text $*"
-    [ $report = 0 ] || continue
-    cmp "$work/expected" "$work/got" || differs "$language: another report: $text $*"
-    # No token depends on the division.
+    [ $report != 0 ] || cmp "$work/expected" "$work/got" ||
+      differs "$language: another report: $text $*"
+    # No token depends on the division, and cutting takes no memory.
     [ "${*: -1}" != --grouped ] || continue
-    "$work/report_$language" "$@" tokens <"$text" >"$work/got" 2>"$work/log" ||
-      differs "$language: no tokens: $text $*"
+    [ $report != 6 ] || continue
+    "$work/report_$language" "$@" tokens <"$text" >"$work/got" 2>"$work/log"
+    status=$?
+    [ $status = $report ] ||
+      differs "$language: status $status in place of $report for the tokens: $text $*"
+    [ $report = 0 ] || continue
     awk '{ print $3 ".." $3 + $4 }' "$work/got" | cmp - "$work/leaves" ||
       differs "$language: the tokens are not the leaves: $text $*"
     [ -f "$work/tokens" ] || cp "$work/got" "$work/tokens"
@@ -131,9 +181,14 @@ compare() {
   done
 }
 
-if ! command -v "$cc" >/dev/null; then
+if [ -z "${CC:-}" ] && ! command -v cc >/dev/null; then
   echo "check_bindings: no C compiler, so nothing is compared"
   exit 0
+fi
+echo 'int main(void) { return 0; }' >"$work/probe.c"
+if ! "${cc[@]}" -o "$work/probe" "$work/probe.c"; then
+  echo "check_bindings: the C compiler does not run: ${cc[*]}"
+  exit 1
 fi
 bindings/build_libraries.sh "$work/lib" || exit 1
 check_names
@@ -142,7 +197,7 @@ build_rust
 build_python
 make_texts
 count=0
-for text in crates/squawk_show/stdin bench/* README.md docs/*.md "$work"/texts/* "$@"; do
+for text in crates/squawk_show/stdin bench/* README.md docs/*.md "$work"/texts/* "${named[@]}"; do
   count=$((count + 1))
   compare "$text"
   compare "$text" --backslash
