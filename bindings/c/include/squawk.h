@@ -1,22 +1,33 @@
-/* A PostgreSQL lexer and lossless syntax trees, written in Rattle: every call below is proved to
- * meet what is said of it here under "Proved". docs/BINDINGS.md is the manual.
+/* A PostgreSQL lexer and lossless syntax trees, written in Rattle: every call of the library is
+ * proved to meet what is said of it here under "Proved". docs/BINDINGS.md is the manual.
  *
  * WHAT A CALLER OWES, for every call. Nothing is promised to a caller that does not keep it: the
  * call may then read or write anything.
  *
  *  1. No pointer is NULL, even if its length or capacity is 0. Each is aligned for its type.
  *  2. At a pointer that a length or capacity follows, that many bytes or elements lie in one
- *     object. They are initialized where the pointer is to const.
+ *     object. They are initialized where the pointer is to const, and `*at` is initialized. What is
+ *     only written (arrays, counts, `*valid`) need not be.
  *  3. What a call may write overlaps nothing else that is passed to it, and no other thread reads
  *     or writes it during the call. No other thread writes the text during the call.
  *  4. squawk_tokens_unchecked: the text is UTF-8.
  *  5. squawk_parse is not called from a signal handler, nor in the child of a fork of a process
  *     with threads. malloc, realloc and free belong to one allocator.
+ *  6. The processor is x86-64 of level v2 (SSE4.2), the system is Linux, and no other object of the
+ *     process defines these names or `rattle_alloc`, `rattle_realloc`, `rattle_dealloc`.
  *
- * PROVED, for callers that keep this: each call is safe, returns, and does what the comment at it
- * says. "Tokens" are those of docs/GRAMMAR.md, and "steps" and "errors" are those of the tree of
- * docs/STATEMENTS.md. Calls keep no pointer and share nothing, so threads may call at the same
- * time.
+ * PROVED, for callers that keep this: each call of the library is safe, returns, and does what the
+ * comment at it says, but for what the next paragraph lists. "Tokens" are those of docs/GRAMMAR.md,
+ * and "steps" and "errors" are those of the tree of docs/STATEMENTS.md.
+ *
+ * TESTED OR BY CONSTRUCTION, NOT PROVED:
+ *
+ *  - Calls keep no pointer and share nothing, so threads may call at the same time.
+ *  - Only squawk_parse allocates, and the memory that it takes is freed before it returns.
+ *  - Its status 6 comes only if malloc or realloc failed. It may come at any time, and is the only
+ *    status for which nothing says when.
+ *  - length / 2 + 16 steps are room enough for most texts.
+ *  - Names and messages are ASCII without a NUL.
  *
  * TRUSTED: this header and the inline functions at its end (nothing proves that they match the
  * library; scripts/check_bindings.sh tests it), the Rattle toolchain, LLVM and the C library.
@@ -35,7 +46,8 @@ extern "C" {
 #endif
 
 /* The version of this header: 65536 times the major number, plus the minor one. The version of
- * the library is squawk_version(); a different major number is another interface. */
+ * the library is squawk_version(). A different major number is another interface, and a library
+ * with a smaller minor number lacks calls of this header. */
 #define SQUAWK_VERSION 65536u
 
 /* Statuses. Where several fit, the first in the order 5, 4, 2, 6 is returned. */
@@ -43,7 +55,7 @@ typedef uint32_t squawk_status;
 enum {
   SQUAWK_OK = 0,
   SQUAWK_BAD_ARGUMENT = 2,    /* unknown options, an offset that is past the end or inside a
-                                 character, or a number that nothing has */
+                                 character, or a number that no kind or message has */
   SQUAWK_NOT_UTF8 = 4,
   SQUAWK_TOO_LONG = 5,        /* the text has more than 4294967295 bytes */
   SQUAWK_OUT_OF_MEMORY = 6,
@@ -168,9 +180,9 @@ squawk_status squawk_check(const uint8_t *text, size_t length, size_t *valid);
  *
  * After another status *count is 0, and *at and the array are as they were.
  *
- * Each call checks the whole text. So take this call for a text that is cut at once, with room for
- * `length` tokens, or in few portions. For many portions of a text take a squawk_reader, below,
- * which checks it once. */
+ * Each call checks the whole text: k calls read the text k times. So take this call for a text that
+ * is cut at once, with room for `length` tokens, or in few portions. For many portions take a
+ * squawk_reader, below, which checks the text once. */
 squawk_status squawk_tokens(const uint8_t *text, size_t length, uint32_t options, size_t *at,
                             squawk_token *tokens, size_t capacity, size_t *count);
 
@@ -182,8 +194,9 @@ squawk_status squawk_tokens_unchecked(const uint8_t *text, size_t length, uint32
                                       size_t *at, squawk_token *tokens, size_t capacity,
                                       size_t *count);
 
-/* Parses a text into statements: the steps of its tree, and its errors in the order of the text.
- * Status 0, 2, 4, 5, 6 or 12; 2, 4 and 5 exactly if they fit, 6 only if malloc or realloc failed.
+/* Parses a text into statements: the steps of its tree, and its errors in the order of the tokens;
+ * at each token first those of the grammar, then its faults by number. Status 0, 2, 4, 5, 6 or 12;
+ * 2, 4 and 5 exactly if they fit, 6 only if malloc or realloc failed.
  *
  * After status 0 and 12 the counts are the numbers of the steps and of the errors. An array that
  * has room for all of its own holds them, and what comes after them in it is as it was; the other
