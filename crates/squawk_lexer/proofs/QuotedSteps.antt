@@ -1,8 +1,12 @@
 -- Steps of the loop over a quoted text.
-use Rattle.std.proofs.Common.{◌≡◌, ℕ, ◌+◌, ◌<◌, ◌≤◌, Bool, true, false, List, [], ◌∷◌, length, get_or, drop, slice_get, None, Some, refl, sym, inl, inr, ◌∙◌, arith, ◌⊎◌, ◌&&◌, eqb, eq-eqb, cond, unwrap_or, is_some}
-use Rattle.std.proofs.lemmas.Bool.{cases_lt}
+use Rattle.std.proofs.Common.{◌≡◌, ℕ, ◌+◌, ◌<◌, ◌≤◌, Bool, true, false, List, [], ◌∷◌, length, get_or, drop, slice_get, None, Some, refl, sym, inl, inr, ◌∙◌, arith, ◌⊎◌, ◌&&◌, ◌/◌, ◌%◌, zero, suc, eqb, eq-eqb, cond, unwrap_or, is_some}
+use Rattle.std.proofs.lemmas.Bool.{cases_lt, cases_Bool}
+use Rattle.std.proofs.lemmas.Bool.Decides.{nat_tests}
+use Rattle.std.proofs.Math.Nat.{div-add-mod}
+use Rattle.std.specs.List.{prefix_len}
 use Rattle.squawk_lexer.specs.Position.{position_after}
-use Rattle.squawk_lexer.specs.Quoted.{quoted_end, quoted_len, is_terminated}
+use Rattle.squawk_lexer.specs.Quoted.{quoted_end, quoted_len, is_terminated, is_quote}
+use Rattle.squawk_lexer.specs.Runs.{run_end}
 use Rattle.squawk_lexer.specs.Stops.{is_neither, stop_at}
 use Rattle.squawk_lexer.proofs.StopSteps.{run_kept, other_not, stop_is, stop_after}
 use Rattle.squawk_lexer.proofs.Steps.{ne_eqb, get_some, mapped, drop_some, drop_none, drop_read, drop_past, within_read, within_some, after_some, after_none, after_within, after_past, after_on}
@@ -84,6 +88,74 @@ pub quoted_at_end : (e : Bool) (q : ℕ) (u : List ℕ) (i : ℕ) → None ≡ s
     → (quoted_end e q u i ≡ i) × (is_terminated e q u i ≡ false)
 quoted_at_end e q u i s = rw (drop_none u i s) (omega arith, refl)
 
+-- ---- a run of quotes, of which the first is at index i
+
+-- A run that is not empty is a quote and a run.
+run_more : (q : ℕ) (u : List ℕ) (i n : ℕ) → prefix_len (is_quote q) (drop i u) ≡ suc n
+    → (get_or u i 0 ≡ q) × (prefix_len (is_quote q) (drop (i + 1) u) ≡ n)
+run_more q u i n e = by (cases_lt i (length u)) (cases_Bool (eqb (get_or u i 0) q))
+  where
+    by : (i < length u) ⊎ (length u ≤ i)
+        → (eqb (get_or u i 0) q ≡ true) ⊎ (eqb (get_or u i 0) q ≡ false)
+        → (get_or u i 0 ≡ q) × (prefix_len (is_quote q) (drop (i + 1) u) ≡ n)
+    by (inl h) (inl t) =
+        let first : prefix_len (is_quote q) (drop i u)
+        ≡ 1 + prefix_len (is_quote q) (drop (i + 1) u) = rw (drop_read u i h, t) refl in
+        (grind (arith, nat_tests), omega arith)
+    by (inl h) (inr f) = absurd (let none : prefix_len (is_quote q) (drop i u) ≡ 0 =
+        rw (drop_read u i h, f) refl in omega arith)
+    by (inr h) t = absurd (let none : prefix_len (is_quote q) (drop i u) ≡ 0 =
+        rw (drop_past u i h) refl in omega arith)
+
+-- At an empty run there is no quote.
+run_none : (q : ℕ) (u : List ℕ) (i : ℕ) → 0 < q → prefix_len (is_quote q) (drop i u) ≡ 0
+    → eqb (get_or u i 0) q ≡ false
+run_none q u i some e = by (cases_Bool (eqb (get_or u i 0) q))
+  where
+    by : (eqb (get_or u i 0) q ≡ true) ⊎ (eqb (get_or u i 0) q ≡ false)
+        → eqb (get_or u i 0) q ≡ false
+    by (inl t) =
+        let same : get_or u i 0 ≡ q = grind (arith, nat_tests) in
+        let h : i < length u = within_read u i (omega arith) in
+        absurd (let first : prefix_len (is_quote q) (drop i u)
+        ≡ 1 + prefix_len (is_quote q) (drop (i + 1) u) = rw (drop_read u i h, t) refl in
+        omega arith)
+    by (inr f) = f
+
+-- An even number of quotes after the first: the last one ends the text.
+quotes_end : (e : Bool) (q : ℕ) (u : List ℕ) (k i : ℕ) → 0 < q → get_or u i 0 ≡ q
+    → prefix_len (is_quote q) (drop (i + 1) u) ≡ k + k
+    → (quoted_end e q u i ≡ i + 1 + (k + k)) × (is_terminated e q u i ≡ true)
+quotes_end e q u zero i some here run =
+    let p = quoted_stop e q u i some here (run_none q u (i + 1) some run) in
+    (p.0 ∙ omega arith, p.1)
+quotes_end e q u (suc k) i some here run =
+    let second = run_more q u (i + 1) (suc (k + k)) (omega (arith, run)) in
+    let two : i + 1 + 1 ≡ i + 2 = omega arith in
+    let third = run_more q u (i + 2) (k + k) (rw two at (second.1)) in
+    let p = quoted_pair e q u i some here second.0 in
+    let more = quotes_end e q u k (i + 2) some third.0 third.1 in
+    (sym p.0 ∙ more.0 ∙ omega arith, sym p.1 ∙ more.1)
+
+-- An odd number of quotes after the first: each two stand for one.
+quotes_pair : (e : Bool) (q : ℕ) (u : List ℕ) (k i : ℕ) → 0 < q → get_or u i 0 ≡ q
+    → prefix_len (is_quote q) (drop (i + 1) u) ≡ suc (k + k)
+    → (quoted_end e q u i ≡ quoted_end e q u (i + 1 + suc (k + k)))
+    × (is_terminated e q u i ≡ is_terminated e q u (i + 1 + suc (k + k)))
+quotes_pair e q u zero i some here run =
+    let second = run_more q u (i + 1) zero run in
+    let p = quoted_pair e q u i some here second.0 in
+    let two : i + 1 + suc (zero + zero) ≡ i + 2 = omega arith in
+    rw two (sym p.0, sym p.1)
+quotes_pair e q u (suc k) i some here run =
+    let second = run_more q u (i + 1) (suc (suc (k + k))) (omega (arith, run)) in
+    let two : i + 1 + 1 ≡ i + 2 = omega arith in
+    let third = run_more q u (i + 2) (suc (k + k)) (rw two at (second.1)) in
+    let p = quoted_pair e q u i some here second.0 in
+    let more = quotes_pair e q u k (i + 2) some third.0 third.1 in
+    let last : i + 1 + suc (suc k + suc k) ≡ i + 2 + 1 + suc (k + k) = omega arith in
+    rw last (sym p.0 ∙ more.0, sym p.1 ∙ more.1)
+
 -- ---- up to the next quote or backslash that escapes
 
 -- A character before the stop is neither the quote nor an escaping backslash.
@@ -106,26 +178,6 @@ quoted_passed e q u i = (
 
 -- The steps at the stop, in the form in which the loop has them. With escapes o is the backslash,
 -- else the quote.
-pub quoted_step_pair : (e : Bool) (q o : ℕ) (u : List ℕ) (i c : ℕ) → o ≡ cond e 92 q
-    → Some c ≡ slice_get u (stop_at q o u i) → c ≡ q → 0 < q
-    → get_or u (position_after u (stop_at q o u i)) 0 ≡ q
-    → (quoted_end e q u i
-    ≡ quoted_end e q u (position_after u (position_after u (stop_at q o u i))))
-    × (is_terminated e q u i
-    ≡ is_terminated e q u (position_after u (position_after u (stop_at q o u i))))
-quoted_step_pair e q o u i c which s same some next =
-    let j = stop_at q o u i in
-    let b = after_some u j c s in
-    let next_is : get_or u (j + 1) 0 ≡ q = rw b at next in
-    let k : j + 1 < length u = within_read u (j + 1) (omega arith) in
-    let two : j + 1 + 1 ≡ j + 2 = omega arith in
-    let first = quoted_passed e q u i in
-    let p = quoted_pair e q u j some (get_some u j c s ∙ same) next_is in
-    rw (b, after_within u (j + 1) k, two) (
-      rw (← which) at (first.0) ∙ sym p.0,
-      rw (← which) at (first.1) ∙ sym p.1,
-    )
-
 pub quoted_step_escaped : (e : Bool) (q o : ℕ) (u : List ℕ) (i c : ℕ) → o ≡ cond e 92 q
     → Some c ≡ slice_get u (stop_at q o u i) → (c ≡ q → ⊥)
     → (quoted_end e q u i
@@ -144,16 +196,43 @@ quoted_step_escaped true q o u i c which s other =
       rw (← which) at (first.1) ∙ sym p.1,
     )
 
-pub quoted_step_stop : (e : Bool) (q o : ℕ) (u : List ℕ) (i c : ℕ) → o ≡ cond e 92 q
+pub quoted_step_stop : (e : Bool) (q o : ℕ) (u : List ℕ) (i c j n : ℕ) → o ≡ cond e 92 q
     → Some c ≡ slice_get u (stop_at q o u i) → c ≡ q → 0 < q
-    → (get_or u (position_after u (stop_at q o u i)) 0 ≡ q → ⊥)
-    → (quoted_end e q u i ≡ position_after u (stop_at q o u i)) × (is_terminated e q u i ≡ true)
-quoted_step_stop e q o u i c which s same some next =
-    let j = stop_at q o u i in
-    let b = after_some u j c s in
+    → j ≡ run_end (is_quote q) u (position_after u (stop_at q o u i))
+    → j ≡ position_after u (stop_at q o u i) + n → n % 2 ≡ 0
+    → (quoted_end e q u i ≡ j) × (is_terminated e q u i ≡ true)
+quoted_step_stop e q o u i c j n which s same some run len even =
+    let m = stop_at q o u i in
+    let b = after_some u m c s in
+    let half : n ≡ n / 2 + n / 2 = omega (arith, div-add-mod n 2) in
+    let ends : j ≡ m + 1 + prefix_len (is_quote q) (drop (m + 1) u) = rw b at run in
+    let counted : j ≡ m + 1 + n = rw b at len in
+    let count : prefix_len (is_quote q) (drop (m + 1) u) ≡ n / 2 + n / 2 = omega arith in
     let first = quoted_passed e q u i in
-    let p = quoted_stop e q u j some (get_some u j c s ∙ same) (ne_eqb _ q (rw b at next)) in
-    rw b (rw (← which) at (first.0) ∙ p.0, rw (← which) at (first.1) ∙ p.1)
+    let p = quotes_end e q u (n / 2) m some (get_some u m c s ∙ same) count in (
+      rw (← which) at (first.0) ∙ p.0 ∙ omega arith,
+      rw (← which) at (first.1) ∙ p.1,
+    )
+
+pub quoted_step_pair : (e : Bool) (q o : ℕ) (u : List ℕ) (i c j n : ℕ) → o ≡ cond e 92 q
+    → Some c ≡ slice_get u (stop_at q o u i) → c ≡ q → 0 < q
+    → j ≡ run_end (is_quote q) u (position_after u (stop_at q o u i))
+    → j ≡ position_after u (stop_at q o u i) + n → (n % 2 ≡ 0 → ⊥)
+    → (quoted_end e q u i ≡ quoted_end e q u j) × (is_terminated e q u i ≡ is_terminated e q u j)
+quoted_step_pair e q o u i c j n which s same some run len odd =
+    let m = stop_at q o u i in
+    let b = after_some u m c s in
+    let half : n ≡ suc (n / 2 + n / 2) = omega (arith, div-add-mod n 2) in
+    let ends : j ≡ m + 1 + prefix_len (is_quote q) (drop (m + 1) u) = rw b at run in
+    let counted : j ≡ m + 1 + n = rw b at len in
+    let count : prefix_len (is_quote q) (drop (m + 1) u) ≡ suc (n / 2 + n / 2) = omega arith in
+    let first = quoted_passed e q u i in
+    let p = quotes_pair e q u (n / 2) m some (get_some u m c s ∙ same) count in
+    let last : j ≡ m + 1 + suc (n / 2 + n / 2) = omega arith in
+    rw last (
+      rw (← which) at (first.0) ∙ p.0,
+      rw (← which) at (first.1) ∙ p.1,
+    )
 
 pub quoted_step_end : (e : Bool) (q o : ℕ) (u : List ℕ) (i : ℕ) → o ≡ cond e 92 q
     → None ≡ slice_get u (stop_at q o u i)

@@ -32,10 +32,11 @@ impl<'a> Cursor<'a> {
                 self.bump();
                 continue;
             }
-            if self.first() != quote as char {
+            // In a run of quotes each two stand for one, so a run of odd length ends the text. The
+            // first quote of this one was consumed.
+            if self.eat_quotes(quote) % 2 == 0 {
                 return true;
             }
-            self.bump();
         }
         false
     }

@@ -5,6 +5,7 @@ ghost use Rattle.std.specs.List.{prefix_len};
 ghost use Rattle.squawk_lexer.specs.Classes.{is_whitespace, is_ident_cont};
 ghost use Rattle.squawk_lexer.specs.ClassTests.{class_test, digit_test};
 ghost use Rattle.squawk_lexer.specs.Runs.{digits_len};
+ghost use Rattle.squawk_lexer.specs.Quoted.{is_quote};
 ghost use Rattle.squawk_lexer.specs.Stops.{is_neither, is_neither_on_line};
 ghost use Rattle.squawk_lexer.specs.Bytes.{HasIdentCont};
 
@@ -88,6 +89,17 @@ fn class_len(class: Class, bytes: &[u8]) -> usize
     len
 }
 
+// The length of the longest prefix whose bytes are all `quote`.
+pub(crate) fn quotes_len(quote: u8, bytes: &[u8]) -> usize
+    ensures { result ≡ prefix_len (is_quote quote) bytes.now }
+{
+    let mut len = 0;
+    while len < bytes.len() && bytes[len] == quote {
+        len += 1;
+    }
+    len
+}
+
 // The number of bytes before the first `a` or `b`, or of all bytes if there is none.
 pub(crate) fn len_until2(a: u8, b: u8, bytes: &[u8]) -> usize
     ensures { result ≡ prefix_len (is_neither a b) bytes.now }
@@ -100,7 +112,7 @@ pub(crate) fn len_until2(a: u8, b: u8, bytes: &[u8]) -> usize
 }
 
 // The same within the first `LANES` bytes. An empty run is found without a vector, since texts of
-// many quotes have one at every step.
+// many escapes have one at every step.
 fn near_len_until2(a: u8, b: u8, bytes: &[u8]) -> usize
     ensures within { result ≤ length bytes.now }
     ensures prefix { result + prefix_len (is_neither a b) (drop result bytes.now)

@@ -1,4 +1,4 @@
-use Rattle.std.proofs.Common.{sym, ◌∙◌}
+use Rattle.std.proofs.Common.{sym, ◌∙◌, arith}
 use Rattle.squawk_lexer.proofs.StopSteps.{stop_smaller}
 use Rattle.squawk_lexer.proofs.QuotedSteps.{quoted_step_escaped}
 use Rattle.squawk_lexer.proofs.cursor.Cursor.quoted_text.Goals as goal
@@ -33,5 +33,5 @@ loop-c-preserved-then-c-quote c =
 pub loop-c-smaller : goal.loop-c-smaller
 loop-c-smaller c =
     stop_smaller c.args.quote c.escape_or_quote-escape.result c.loop-c.self.text c.loop-c.self.at
-    c.in-Some.c _ _ _ c.in-Some.ensures.read (c.bump-in-Some.ensures.text
-    ∙ c.in-Some.ensures.text) c.in-Some.ensures.at c.bump-in-Some.ensures.forward
+    c.in-Some.c _ _ _ c.in-Some.ensures.read (c.eat_quotes.ensures.text
+    ∙ c.in-Some.ensures.text) c.in-Some.ensures.at (omega (arith, c.eat_quotes.ensures.len))
