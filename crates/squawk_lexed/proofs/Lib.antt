@@ -8,3 +8,4 @@ pub mod PartLemmas
 mod PlacedLemmas
 mod GivenLemmas
 pub mod RoleLemmas
+pub mod StartLemmas
