@@ -2,8 +2,10 @@
 use Rattle.std.proofs.Common.{◌≡◌, ℕ, zero, suc, ◌+◌, ◌-◌, ◌==◌, ◌<◌, ◌≤◌, Bool, true, false, cond, List, [], ◌∷◌, ◌++◌, length, take, drop, map, slice_range, append_assoc, refl, ap, sym, subst, ◌∙◌, arith}
 use Rattle.std.proofs.Math.Seq.{take-add}
 use Rattle.std.proofs.lemmas.List.{take-append-drop, append-nil, length-append, drop-drop, drop-take, take_rest, drop_all, length-drop, length-take-le}
-use Rattle.std.specs.Prelude.{None}
+use Rattle.std.specs.Prelude.{None, OnOk, Result}
+use Rattle.squawk_events.specs.declared.error.FrontError.{FrontError}
 use Rattle.squawk_events.specs.declared.steps.ParseError.{ParseError}
+use Rattle.squawk_events.specs.declared.steps.Step.{Step}
 use Rattle.squawk_events.specs.declared.steps.StrStep.{StrStep}
 use Rattle.squawk_events.specs.declared.steps.StrStep.TheVariants as out
 use Rattle.squawk_kinds.specs.Role.{Role, role, Trivia, Semicolon, Terminator, Command, Open, Close, Other}
@@ -11,24 +13,26 @@ use Rattle.squawk_kinds.specs.declared.numbers.TheConstants.Number.{ERROR, SOURC
 use Rattle.squawk_lexed.specs.LexedText.{total_len, token_start}
 use Rattle.squawk_lexed.specs.LexedToken.{LexedToken}
 use Rattle.squawk_lexed.specs.Stored.{kinds_of, errors_of}
+use Rattle.squawk_lexed.specs.Weave.{kinds_without_trivia, weave}
 use Rattle.squawk_statements.specs.Children.{open_groups_after, parts, first_child, trimmed_len}
 use Rattle.squawk_statements.specs.First.{first_shape}
+use Rattle.squawk_statements.specs.Plain.{child_steps}
 use Rattle.squawk_statements.specs.declared.division.Division.{Division}
 use Rattle.squawk_statements.specs.declared.first.ChildShape.{ChildShape}
-use Rattle.squawk_tree.specs.ChildSteps.{woven_children, unknown_error, exit_steps, steps_in_groups, nested_steps, body_len, steps_of_node, node_steps, steps_of_shape, child_error, child_steps_by, child_weave, shape_span}
+use Rattle.squawk_tree.specs.ChildSteps.{unknown_error, exit_steps, steps_in_groups, nested_steps, body_len, steps_of_node, node_steps, child_error, child_steps_by, shape_span}
 use Rattle.squawk_tree.specs.ChildSpans.{child_spans, child_spans_from}
-use Rattle.squawk_tree.specs.Join.{woven_child}
+use Rattle.squawk_tree.specs.ChildGrammar.{AreChildSteps, IsFirstNode, IsGrammarOf, child_at, woven_by, woven_children_by, woven_text}
 use Rattle.squawk_tree.specs.ParseOf.{lexed_role, token_steps}
-use Rattle.squawk_tree.proofs.ChildShapeLemmas.{shape_is}
 use Rattle.squawk_tree.proofs.ChildTokenLemmas.{kinds_len, kinds_take, kinds_drop, kinds_roles}
 use Rattle.squawk_tree.proofs.FirstPart.{more_of, first_part, first_tokens}
 use Rattle.squawk_tree.specs.Steps.{without_errors}
 use Rattle.squawk_tree.specs.Walk.{merged_errors, merged_from}
 use Rattle.squawk_tree.specs.declared.children.ChildSpan.{ChildSpan}
 use Rattle.squawk_tree.proofs.ChildErrorLemmas.{error_first}
-use Rattle.squawk_tree.proofs.ChildSpanLemmas.{span_of, SpanFirst, span_first}
+use Rattle.squawk_tree.proofs.ChildSpanLemmas.{span_of, SpanFirst, leaf_steps, span_first}
+use Rattle.squawk_tree.proofs.ChildShapeLemmas.{shape_is}
 use Rattle.squawk_tree.proofs.JoinIsParse.{without_errors_append}
-use Rattle.squawk_tree.proofs.JoinLemmas.{placed, total_append}
+use Rattle.squawk_tree.proofs.JoinLemmas.{placed_by, total_append}
 
 -- ---- parts of a list of tokens
 
@@ -115,13 +119,6 @@ tokens_kept at [] = refl
 tokens_kept at (t ∷ ts) =
     ap (λ xs. out.Token t.kind at (at + t.len) ∷ xs) (tokens_kept (at + t.len) ts)
 
--- so all steps of a leaf are
-pub leaf_kept : (shape : ChildShape) (at : ℕ) (ts : List LexedToken) → shape.node ≡ None
-    → without_errors (steps_of_shape shape at ts) ≡ token_steps at ts
-leaf_kept shape at ts none =
-    ap (λ node. without_errors (child_steps_by node shape.closed at ts)) none
-    ∙ tokens_kept at ts
-
 -- the error of an unknown statement is one
 unknown_lost : (at node : ℕ) → without_errors (unknown_error at node) ≡ []
 unknown_lost at node = by (node == ERROR)
@@ -183,16 +180,16 @@ node_emitted ts kinds from to n node closed s0 s1 s2 s3 s4 some within ks n_is l
 -- ---- all children
 
 -- the steps of all children are those of the first and of the others
-first_woven : (d : Division) (at : ℕ) (ts : List LexedToken) (n : ℕ) → 0 < length ts
+first_woven : (c : List ℕ → List Step) (d : Division) (at : ℕ) (ts : List LexedToken) (n : ℕ) → 0 < length ts
     → n ≡ (first_child d (map lexed_role ts)).tokens
-    → woven_children d at (parts lexed_role d ts)
-    ≡ woven_child d at (take n ts)
-    ++ woven_children d (at + total_len (take n ts)) (parts lexed_role d (drop n ts))
-first_woven d at [] n some n_is = absurd (omega arith)
-first_woven d at (t ∷ ts) n some n_is =
+    → woven_children_by c at (parts lexed_role d ts)
+    ≡ woven_by c at (take n ts)
+    ++ woven_children_by c (at + total_len (take n ts)) (parts lexed_role d (drop n ts))
+first_woven c d at [] n some n_is = absurd (omega arith)
+first_woven c d at (t ∷ ts) n some n_is =
     let m = more_of lexed_role d t ts in
     let count : n ≡ suc m = n_is ∙ first_tokens d (lexed_role t) (map lexed_role ts) in
-    rw count (ap (woven_children d at) (first_part lexed_role d t ts))
+    rw count (ap (woven_children_by c at) (first_part lexed_role d t ts))
 
 -- a child extends no further than the tokens
 pub child_within : (ts : List LexedToken) (kinds rest : List ℕ) (at n : ℕ) → kinds ≡ kinds_of ts
@@ -203,56 +200,60 @@ child_within ts kinds rest at n ks some rest_is within =
     let left = ap length (rest_is ∙ take_rest kinds at) ∙ length-drop at kinds in
     omega arith
 
+-- the kinds that are left are those of the tokens that are
+pub kinds_left : (ts : List LexedToken) (kinds : List ℕ) (at : ℕ) → kinds ≡ kinds_of ts
+    → take (length kinds - at) (drop at kinds) ≡ kinds_of (drop at ts)
+kinds_left ts kinds at ks = take_rest kinds at ∙ ap (drop at) ks ∙ kinds_drop at ts
+
 -- the steps of the children that are left, whose first token has an index
-abbrev left_children : Division → List LexedToken → ℕ → List StrStep
-left_children d ts at =
-    woven_children d (token_start ts at) (parts lexed_role d (drop at ts))
+abbrev left_children : (List ℕ → List Step) → Division → List LexedToken → ℕ → List StrStep
+left_children c d ts at =
+    woven_children_by c (token_start ts at) (parts lexed_role d (drop at ts))
 
 -- the steps that were emitted under the root, the children and the errors that were appended, and
 -- what those of the children that are left add to them, are all; the next token and the next
 -- lexical error have these indices
-pub record ChildrenSoFar (d : Division) (ts : List LexedToken) (at error : ℕ)
-    (steps : List StrStep) (children : List ChildSpan) (errors : List ParseError)
+pub record ChildrenSoFar (c : List ℕ → List Step) (d : Division) (ts : List LexedToken)
+    (at error : ℕ) (steps : List StrStep) (children : List ChildSpan) (errors : List ParseError)
     : Type 0 where
-  pub steps_are : steps ++ without_errors (left_children d ts at)
-      ≡ out.Enter SOURCE_FILE ∷ without_errors (left_children d ts 0)
+  pub steps_are : steps ++ without_errors (left_children c d ts at)
+      ≡ out.Enter SOURCE_FILE ∷ without_errors (left_children c d ts 0)
   pub children_are : children ++ child_spans_from 0 (length steps) (token_start ts at)
-      (without_errors (left_children d ts at) ++ out.Exit ∷ [])
-      ≡ child_spans_from 0 1 0 (without_errors (left_children d ts 0) ++ out.Exit ∷ [])
-  pub errors_are : errors ++ merged_from ts at error (left_children d ts at ++ out.Exit ∷ [])
-      ≡ merged_errors 0 ts (errors_of 0 ts) (left_children d ts 0 ++ out.Exit ∷ [])
+      (without_errors (left_children c d ts at) ++ out.Exit ∷ [])
+      ≡ child_spans_from 0 1 0 (without_errors (left_children c d ts 0) ++ out.Exit ∷ [])
+  pub errors_are : errors ++ merged_from ts at error (left_children c d ts at ++ out.Exit ∷ [])
+      ≡ merged_errors 0 ts (errors_of 0 ts) (left_children c d ts 0 ++ out.Exit ∷ [])
 
 -- before the first child
-pub children_start : (d : Division) (ts : List LexedToken) (steps before : List StrStep)
+pub children_start : (c : List ℕ → List Step) (d : Division) (ts : List LexedToken) (steps before : List StrStep)
     (children : List ChildSpan) (errors : List ParseError)
     → steps ≡ before ++ out.Enter SOURCE_FILE ∷ [] → before ≡ [] → children ≡ [] → errors ≡ []
-    → ChildrenSoFar d ts 0 0 steps children errors
-children_start d ts steps before children errors is none no_children no_errors =
+    → ChildrenSoFar c d ts 0 0 steps children errors
+children_start c d ts steps before children errors is none no_children no_errors =
     rw (is, none, no_children, no_errors)
     (record { steps_are = refl; children_are = refl; errors_are = refl })
 
 -- the first child of the tokens that are left
-record FirstLeft (d : Division) (ts : List LexedToken) (at : ℕ) (shape : ChildShape)
+record FirstLeft (c : List ℕ → List Step) (d : Division) (ts : List LexedToken) (at : ℕ) (shape : ChildShape)
     (end : ℕ) : Type 0 where
   some : 0 < length (drop at ts)
   is : shape ≡ first_shape d (kinds_of (drop at ts))
   here : slice_range ts at end ≡ take shape.tokens (drop at ts)
   start : token_start ts end ≡ token_start ts at + total_len (take shape.tokens (drop at ts))
   others : drop end ts ≡ drop shape.tokens (drop at ts)
-  first : left_children d ts at
-      ≡ steps_of_shape shape (token_start ts at) (take shape.tokens (drop at ts))
-      ++ left_children d ts end
+  first : left_children c d ts at
+      ≡ woven_by c (token_start ts at) (take shape.tokens (drop at ts))
+      ++ left_children c d ts end
 
-first_left : (d : Division) (ts : List LexedToken) (kinds rest : List ℕ) (at end : ℕ)
+first_left : (c : List ℕ → List Step) (d : Division) (ts : List LexedToken) (kinds rest : List ℕ) (at end : ℕ)
     (shape : ChildShape) → kinds ≡ kinds_of ts → at < length kinds
     → rest ≡ take (length kinds - at) (drop at kinds) → shape ≡ first_shape d rest
-    → end ≡ at + shape.tokens → FirstLeft d ts at shape end
-first_left d ts kinds rest at end shape ks some rest_is shape_of end_is =
+    → end ≡ at + shape.tokens → FirstLeft c d ts at shape end
+first_left c d ts kinds rest at end shape ks some rest_is shape_of end_is =
     let all = drop at ts in
     let n = shape.tokens in
     let from = token_start ts at in
-    let rest_of : rest ≡ kinds_of all = rest_is ∙ take_rest kinds at ∙ ap (drop at) ks
-    ∙ kinds_drop at ts in
+    let rest_of : rest ≡ kinds_of all = rest_is ∙ kinds_left ts kinds at ks in
     let size = length-drop at ts in
     let count = ap length ks ∙ kinds_len ts in
     let left : 0 < length all = omega arith in
@@ -269,14 +270,50 @@ first_left d ts kinds rest at end shape ks some rest_is shape_of end_is =
       here = ap (λ m. take m all) (omega arith);
       start = next;
       others = others;
-      first = first_woven d from all n left tokens
-          ∙ ap (λ own. own ++ woven_children d (from + total_len (take n all))
-          (parts lexed_role d (drop n all))) (sym (shape_is d from all shape left is))
-          ∙ ap (λ m. steps_of_shape shape from (take n all)
-          ++ woven_children d m (parts lexed_role d (drop n all))) (sym next)
-          ∙ ap (λ us. steps_of_shape shape from (take n all)
-          ++ woven_children d (token_start ts end) (parts lexed_role d us)) (sym others);
+      first = first_woven c d from all n left tokens
+          ∙ ap (λ m. woven_by c from (take n all)
+          ++ woven_children_by c m (parts lexed_role d (drop n all))) (sym next)
+          ∙ ap (λ us. woven_by c from (take n all)
+          ++ woven_children_by c (token_start ts end) (parts lexed_role d us)) (sym others);
     }
+
+-- the steps of a leaf that were emitted, and of a node of the plain grammar, are those of a child
+abbrev pub Emitted : Result (Unit {0}) FrontError → (steps all own : List StrStep) → Type 0
+Emitted r steps all own = OnOk r (all ≡ steps ++ own)
+
+first_some : (ts : List LexedToken) (from n : ℕ) → 1 ≤ n → from + n ≤ length ts
+    → 0 < length (drop from ts)
+first_some ts from n some within = let size = length-drop from ts in omega arith
+
+pub leaf_emitted : (c : List ℕ → List Step) (d : Division) (ts : List LexedToken) (from : ℕ)
+    (shape : ChildShape) (r : Result (Unit {0}) FrontError) (steps all : List StrStep)
+    → shape ≡ first_shape d (kinds_of (drop from ts)) → 1 ≤ shape.tokens
+    → from + shape.tokens ≤ length ts → shape.node ≡ None
+    → Emitted r steps all
+    (token_steps (token_start ts from) (slice_range ts from (from + shape.tokens)))
+    → Emitted r steps all (child_at c ts from shape.tokens)
+leaf_emitted c d ts from shape r steps all is some within none emitted =
+    let count : from + shape.tokens - from ≡ shape.tokens = omega arith in
+    subst (Emitted r steps all)
+    (ap (λ n. token_steps (token_start ts from) (take n (drop from ts))) count
+    ∙ sym (leaf_steps c d (token_start ts from) (drop from ts) shape
+    (first_some ts from shape.tokens some within) is none)) emitted
+
+pub plain_emitted : (d : Division) (ts : List LexedToken) (from : ℕ) (shape : ChildShape)
+    (node : ℕ) (r : Result (Unit {0}) FrontError) (steps all : List StrStep)
+    → IsFirstNode d ts from shape node
+    → Emitted r steps all (without_errors (node_steps node shape.closed (token_start ts from)
+    (slice_range ts from (from + shape.tokens))))
+    → Emitted r steps all (child_at (child_steps d) ts from shape.tokens)
+plain_emitted d ts from shape node r steps all first emitted =
+    let count : from + shape.tokens - from ≡ shape.tokens = omega arith in
+    let at = token_start ts from in
+    let part = take shape.tokens (drop from ts) in
+    subst (Emitted r steps all)
+    (ap (λ n. without_errors (node_steps node shape.closed at (take n (drop from ts)))) count
+    ∙ ap (λ own. without_errors (child_steps_by own shape.closed at part)) (sym first.node_is)
+    ∙ ap without_errors (shape_is d at (drop from ts) shape
+    (first_some ts from shape.tokens first.some first.within) first.first)) emitted
 
 -- one more child: its steps
 steps_more : (own left steps steps' start all : List StrStep) → all ≡ own ++ left
@@ -288,23 +325,23 @@ steps_more own left steps steps' start all all_is so_far more =
     ∙ so_far
 
 -- the child itself
-span_more : (d : Division) (ts : List LexedToken) (at end : ℕ) (shape : ChildShape)
+span_more : (c : List ℕ → List Step) → AreChildSteps c → (d : Division) (ts : List LexedToken) (at end : ℕ) (shape : ChildShape)
     (steps steps' : List StrStep) (children children' start : List ChildSpan)
-    → FirstLeft d ts at shape end → end ≡ at + shape.tokens → end ≤ length ts
+    → FirstLeft c d ts at shape end → end ≡ at + shape.tokens → end ≤ length ts
     → steps' ≡ steps
-    ++ without_errors (steps_of_shape shape (token_start ts at) (take shape.tokens (drop at ts)))
+    ++ child_at c ts at shape.tokens
     → children' ≡ children ++ shape_span ts at shape (length steps) ∷ []
     → children ++ child_spans_from 0 (length steps) (token_start ts at)
-    (without_errors (left_children d ts at) ++ out.Exit ∷ []) ≡ start
+    (without_errors (left_children c d ts at) ++ out.Exit ∷ []) ≡ start
     → children' ++ child_spans_from 0 (length steps') (token_start ts end)
-    (without_errors (left_children d ts end) ++ out.Exit ∷ []) ≡ start
-span_more d ts at end shape steps steps' children children' start left end_is within steps_is is
+    (without_errors (left_children c d ts end) ++ out.Exit ∷ []) ≡ start
+span_more c law d ts at end shape steps steps' children children' start left end_is within steps_is is
     so_far =
     let all = drop at ts in
     let from = token_start ts at in
     let part = take shape.tokens all in
-    let own = steps_of_shape shape from part in
-    let rest = without_errors (left_children d ts end) ++ out.Exit ∷ [] in
+    let own = woven_by c from part in
+    let rest = without_errors (left_children c d ts end) ++ out.Exit ∷ [] in
     let size = length-drop at ts in
     let some = left.some in
     let len : length part ≡ shape.tokens = length-take-le shape.tokens all (omega arith) in
@@ -315,14 +352,12 @@ span_more d ts at end shape steps steps' children children' start left end_is wi
     ap length steps_is ∙ length-append steps (without_errors own) in
     let span : shape_span ts at shape (length steps)
     ≡ span_of shape.node (length steps) from part = rw (len, next) refl in
-    let first = subst (λ ys. SpanFirst shape.node (length steps) from part (without_errors ys) rest)
-    (sym (shape_is d from all shape some left.is))
-    (span_first d (length steps) from all shape rest some left.is) in
-    let joined : without_errors (left_children d ts at) ++ out.Exit ∷ []
+    let first = span_first c law d (length steps) from all shape rest some left.is in
+    let joined : without_errors (left_children c d ts at) ++ out.Exit ∷ []
     ≡ without_errors own ++ rest =
     ap (λ ys. without_errors ys ++ out.Exit ∷ []) left.first
-    ∙ ap (λ ys. ys ++ out.Exit ∷ []) (without_errors_append own (left_children d ts end))
-    ∙ append_assoc (without_errors own) (without_errors (left_children d ts end))
+    ∙ ap (λ ys. ys ++ out.Exit ∷ []) (without_errors_append own (left_children c d ts end))
+    ∙ append_assoc (without_errors own) (without_errors (left_children c d ts end))
     (out.Exit ∷ []) in
     rw (is, span, count)
     (ap (λ m. (children ++ span_of shape.node (length steps) from part ∷ [])
@@ -332,22 +367,22 @@ span_more d ts at end shape steps steps' children children' start left end_is wi
     (sym (ap (child_spans_from 0 (length steps) from) joined ∙ first)) ∙ so_far
 
 -- and its error
-error_more : (d : Division) (ts : List LexedToken) (at end error next : ℕ) (shape : ChildShape)
-    (errors errors' start : List ParseError) → FirstLeft d ts at shape end
+error_more : (c : List ℕ → List Step) → AreChildSteps c → (d : Division) (ts : List LexedToken) (at end error next : ℕ) (shape : ChildShape)
+    (errors errors' start : List ParseError) → FirstLeft c d ts at shape end
     → ((offset : ℕ) (ys : List StrStep) → errors' ++ merged_from ts at next ys
     ≡ errors ++ merged_from ts at error (child_error offset shape.node ++ ys))
-    → errors ++ merged_from ts at error (left_children d ts at ++ out.Exit ∷ []) ≡ start
-    → errors' ++ merged_from ts end next (left_children d ts end ++ out.Exit ∷ []) ≡ start
-error_more d ts at end error next shape errors errors' start left more so_far =
+    → errors ++ merged_from ts at error (left_children c d ts at ++ out.Exit ∷ []) ≡ start
+    → errors' ++ merged_from ts end next (left_children c d ts end ++ out.Exit ∷ []) ≡ start
+error_more c law d ts at end error next shape errors errors' start left more so_far =
     let all = drop at ts in
     let from = token_start ts at in
     let part = take shape.tokens all in
     let us = drop shape.tokens all in
-    let own = steps_of_shape shape from part in
-    let rest = left_children d ts end ++ out.Exit ∷ [] in
+    let own = woven_by c from part in
+    let rest = left_children c d ts end ++ out.Exit ∷ [] in
     let joined : part ++ us ≡ all = take-append-drop shape.tokens all in
     let es = λ (i : ℕ). drop i (errors_of 0 ts) in
-    let h = error_first shape.node shape.closed from part us rest in
+    let h = error_first c law d from all us shape rest left.some left.is in
     ap (λ n. errors' ++ merged_errors n (drop end ts) (es next) rest) left.start
     ∙ ap (λ vs. errors' ++ merged_errors (from + total_len part) vs (es next) rest) left.others
     ∙ ap (λ zs. errors' ++ zs) (sym (h.others (es next)))
@@ -359,64 +394,64 @@ error_more d ts at end error next shape errors errors' start left more so_far =
     ∙ ap (λ vs. errors ++ merged_errors from vs (es error) (own ++ rest)) joined
     ∙ ap (λ ys. errors ++ merged_from ts at error ys)
     (sym (ap (λ ys. ys ++ out.Exit ∷ []) left.first
-    ∙ append_assoc own (left_children d ts end) (out.Exit ∷ []))) ∙ so_far
+    ∙ append_assoc own (left_children c d ts end) (out.Exit ∷ []))) ∙ so_far
 
 -- one more child
-pub children_more : (d : Division) (ts : List LexedToken) (kinds rest : List ℕ)
+pub children_more : (c : List ℕ → List Step) → AreChildSteps c → (d : Division) (ts : List LexedToken) (kinds rest : List ℕ)
     (at end error next step : ℕ) (shape : ChildShape) (steps steps' : List StrStep)
     (children children' : List ChildSpan) (errors errors' : List ParseError)
     → step ≡ length steps → kinds ≡ kinds_of ts → at < length kinds
     → rest ≡ take (length kinds - at) (drop at kinds) → shape ≡ first_shape d rest
     → end ≡ at + shape.tokens → end ≤ length ts
-    → steps' ≡ steps
-    ++ without_errors (steps_of_shape shape (token_start ts at) (slice_range ts at end))
+    → steps' ≡ steps ++ child_at c ts at shape.tokens
     → children' ≡ children ++ shape_span ts at shape step ∷ []
     → ((offset : ℕ) (ys : List StrStep) → errors' ++ merged_from ts at next ys
     ≡ errors ++ merged_from ts at error (child_error offset shape.node ++ ys))
-    → ChildrenSoFar d ts at error steps children errors
-    → ChildrenSoFar d ts end next steps' children' errors'
-children_more d ts kinds rest at end error next step shape steps steps' children children' errors
-    errors' step_is ks some rest_is shape_of end_is within steps_is children_is errors_is so_far =
-    let left = first_left d ts kinds rest at end shape ks some rest_is shape_of end_is in
-    let own = steps_of_shape shape (token_start ts at) (take shape.tokens (drop at ts)) in
-    let steps_are : steps' ≡ steps ++ without_errors own = steps_is
-    ∙ ap (λ us. steps ++ without_errors (steps_of_shape shape (token_start ts at) us)) left.here in
+    → ChildrenSoFar c d ts at error steps children errors
+    → ChildrenSoFar c d ts end next steps' children' errors'
+children_more c law d ts kinds rest at end error next step shape steps steps' children children'
+    errors errors' step_is ks some rest_is shape_of end_is within steps_is children_is errors_is so_far =
+    let left = first_left c d ts kinds rest at end shape ks some rest_is shape_of end_is in
+    let own = woven_by c (token_start ts at) (take shape.tokens (drop at ts)) in
     record {
-      steps_are = steps_more own (left_children d ts end) steps steps' _ _ left.first
-          so_far.steps_are steps_are;
-      children_are = span_more d ts at end shape steps steps' children children' _ left end_is
-          within steps_are (children_is
+      steps_are = steps_more own (left_children c d ts end) steps steps' _ _ left.first
+          so_far.steps_are steps_is;
+      children_are = span_more c law d ts at end shape steps steps' children children' _ left end_is
+          within steps_is (children_is
           ∙ ap (λ i. children ++ shape_span ts at shape i ∷ []) step_is) so_far.children_are;
-      errors_are = error_more d ts at end error next shape errors errors' _ left errors_is
+      errors_are = error_more c law d ts at end error next shape errors errors' _ left errors_is
           so_far.errors_are;
     }
 
 -- the root with all of its children
-pub record ChildrenDone (d : Division) (ts : List LexedToken) (error : ℕ) (steps : List StrStep)
-    (children : List ChildSpan) (errors : List ParseError) : Type 0 where
-  pub steps_are : steps ≡ without_errors (child_weave d ts)
+pub record ChildrenDone (told : List ℕ → List Step) (ts : List LexedToken) (error : ℕ)
+    (steps : List StrStep) (children : List ChildSpan) (errors : List ParseError) : Type 0 where
+  pub steps_are : steps ≡ without_errors (woven_text told ts)
   pub children_are : children ≡ child_spans steps
   pub errors_are : errors ++ drop error (errors_of 0 ts)
-      ≡ merged_errors 0 ts (errors_of 0 ts) (child_weave d ts)
+      ≡ merged_errors 0 ts (errors_of 0 ts) (woven_text told ts)
 
-pub children_done : (d : Division) (ts : List LexedToken) (kinds : List ℕ) (at error : ℕ)
+pub children_done : (c told : List ℕ → List Step) (d : Division) → IsGrammarOf d c told
+    → (ts : List LexedToken) (kinds : List ℕ) (at error : ℕ)
     (steps steps' : List StrStep) (children : List ChildSpan) (errors : List ParseError)
     → kinds ≡ kinds_of ts → length kinds ≤ at
-    → ChildrenSoFar d ts at error steps children errors → steps' ≡ steps ++ out.Exit ∷ []
-    → ChildrenDone d ts error steps' children errors
-children_done d ts kinds at error steps steps' children errors ks past so_far more =
+    → ChildrenSoFar c d ts at error steps children errors → steps' ≡ steps ++ out.Exit ∷ []
+    → ChildrenDone told ts error steps' children errors
+children_done c told d law ts kinds at error steps steps' children errors ks past so_far more =
     let count = ap length ks ∙ kinds_len ts in
     let none = drop_all at ts (omega arith) in
-    let no_left : left_children d ts at ≡ [] =
-    ap (λ us. woven_children d (token_start ts at) (parts lexed_role d us)) none in
-    let all = left_children d ts 0 in
+    let no_left : left_children c d ts at ≡ [] =
+    ap (λ us. woven_children_by c (token_start ts at) (parts lexed_role d us)) none in
+    let all = left_children c d ts 0 in
     let made : steps ≡ out.Enter SOURCE_FILE ∷ without_errors all =
     sym (append-nil steps) ∙ ap (λ ys. steps ++ without_errors ys) (sym no_left)
     ∙ so_far.steps_are in
     let steps_is : steps' ≡ out.Enter SOURCE_FILE ∷ (without_errors all ++ out.Exit ∷ []) =
     more ∙ ap (λ ys. ys ++ out.Exit ∷ []) made in
-    let weave_is : child_weave d ts ≡ out.Enter SOURCE_FILE ∷ (all ++ out.Exit ∷ []) =
-    ap (λ ys. out.Enter SOURCE_FILE ∷ ys) (placed (length ts) d 0 ts (omega arith)) in
+    let weave_is : woven_text told ts ≡ out.Enter SOURCE_FILE ∷ (all ++ out.Exit ∷ []) =
+    ap (weave ts) (law.root (kinds_without_trivia ts))
+    ∙ ap (λ ys. out.Enter SOURCE_FILE ∷ ys)
+    (placed_by c law.children (length ts) d 0 ts (omega arith)) in
     record {
       steps_are = steps_is
           ∙ ap (λ ys. out.Enter SOURCE_FILE ∷ ys) (sym (without_errors_append all (out.Exit ∷ [])))

@@ -2,7 +2,7 @@
 use Rattle.std.proofs.Common.{◌≡◌, ℕ, zero, suc, ◌+◌, ◌<◌, Bool, true, false, List, [], ◌∷◌, ◌++◌, length, take, map, refl, ap, sym, subst, ◌∙◌, arith}
 use Rattle.std.specs.Prelude.{Option, Some, None}
 use Rattle.squawk_events.specs.Kinds.{is_trivia_kind}
-use Rattle.squawk_events.specs.declared.steps.Step.TheVariants.{Exit}
+use Rattle.squawk_events.specs.declared.steps.Step.{Step}
 use Rattle.squawk_events.specs.declared.steps.StrStep.{StrStep}
 use Rattle.squawk_events.specs.declared.steps.StrStep.TheVariants as out
 use Rattle.squawk_kinds.specs.Role.{role}
@@ -13,12 +13,11 @@ use Rattle.squawk_lexed.specs.Weave.{kinds_without_trivia, weave_from}
 use Rattle.squawk_statements.specs.Children.{first_child}
 use Rattle.squawk_statements.specs.First.{child_node, first_shape}
 use Rattle.squawk_statements.specs.Kinds.{role_trivia}
-use Rattle.squawk_statements.specs.Plain.{node_of, unknown_statement_error, body_steps, child_steps}
-use Rattle.squawk_statements.specs.PlainIsLawful.{child_balanced, child_tokens}
+use Rattle.squawk_statements.specs.Plain.{node_of, unknown_statement_error}
 use Rattle.squawk_statements.specs.declared.division.Division.{Division}
 use Rattle.squawk_statements.specs.declared.first.ChildShape.{ChildShape}
 use Rattle.squawk_tree.specs.ChildSpans.{child_spans_from, node_tokens}
-use Rattle.squawk_tree.specs.Join.{woven_child}
+use Rattle.squawk_tree.specs.ChildGrammar.{AreChildSteps, woven_by}
 use Rattle.squawk_tree.specs.ParseOf.{lexed_role, token_steps}
 use Rattle.squawk_tree.specs.Ranges.{node_end}
 use Rattle.squawk_tree.specs.Steps.{closes, only_tokens, without_errors}
@@ -29,7 +28,7 @@ use Rattle.squawk_tree.proofs.ChildShapeLemmas.{node_is}
 use Rattle.squawk_tree.proofs.ChildTokenLemmas.{kinds_roles, kinds_take}
 use Rattle.squawk_tree.proofs.CutLemmas.{trivia_role}
 use Rattle.squawk_tree.proofs.FirstPart.{more_of, first_tokens}
-use Rattle.squawk_tree.proofs.JoinLemmas.{node_woven, leaf_woven}
+use Rattle.squawk_tree.proofs.WovenNode.{after_balanced, after_enter, after_tokens, leaf_by}
 use Rattle.squawk_tree.proofs.LeavesLemmas.{leaves_woven, leaves_kept, never_closed}
 use Rattle.squawk_tree.proofs.RootLemmas.{length_token_steps}
 
@@ -112,33 +111,32 @@ SpanFirst node i at part own rest = child_spans_from 0 i at (own ++ rest)
     ≡ span_of node i at part ∷ child_spans_from 0 (i + length own) (at + total_len part) rest
 
 -- a leaf
-leaf_span_first : (d : Division) (i at : ℕ) (t : LexedToken) (rest : List StrStep)
+leaf_span_first : (c : List ℕ → List Step) (i at : ℕ) (t : LexedToken) (rest : List StrStep)
     → is_trivia_kind t.kind ≡ true
-    → SpanFirst None i at (t ∷ []) (without_errors (woven_child d at (t ∷ []))) rest
-leaf_span_first d i at t rest is =
+    → SpanFirst None i at (t ∷ []) (without_errors (woven_by c at (t ∷ []))) rest
+leaf_span_first c i at t rest is =
     let end : at + t.len ≡ at + (t.len + 0) = omega arith in
     subst (λ own. SpanFirst None i at (t ∷ []) (without_errors own) rest)
-    (sym (leaf_woven d at t [] is))
+    (sym (leaf_by c at t [] is))
     (subst (λ m. child_spans_from 0 i at (out.Token t.kind at (at + t.len) ∷ rest)
     ≡ record { step = i; tokens = 1; start = at; end = m; node = None }
     ∷ child_spans_from 0 (i + 1) m rest) end refl)
 
 -- a node
-node_span_first : (d : Division) (i at : ℕ) (t : LexedToken) (ts : List LexedToken)
-    (rest : List StrStep) → is_trivia_kind t.kind ≡ false
+node_span_first : (c : List ℕ → List Step) (law : AreChildSteps c) (i at : ℕ) (t : LexedToken)
+    (ts : List LexedToken) (rest : List StrStep) → is_trivia_kind t.kind ≡ false
     → SpanFirst (Some (node_of (kinds_without_trivia (t ∷ ts)))) i at (t ∷ ts)
-    (without_errors (woven_child d at (t ∷ ts))) rest
-node_span_first d i at t ts rest is =
+    (without_errors (woven_by c at (t ∷ ts))) rest
+node_span_first c law i at t ts rest is =
     let part = t ∷ ts in
     let ks = kinds_without_trivia part in
-    let xs = unknown_statement_error (node_of ks) ++ body_steps d 0 ks ++ Exit ∷ [] in
+    let xs = unknown_statement_error (node_of ks) ++ (law ks).inner in
     let inner = weave_from at part xs in
     let own = without_errors inner in
-    let woven : weave_from at part (child_steps d ks) ≡ out.Enter (node_of ks) ∷ inner =
-    rw is refl in
-    let closed : closes 1 own ≡ true = closes_woven 0 at part xs (child_balanced d ks) in
+    let balanced = after_balanced ks (c ks) (law ks) in
+    let closed : closes 1 own ≡ true = closes_woven 0 at part xs balanced in
     let tokens : only_tokens own ≡ token_steps at part = leaves_kept inner
-    ∙ leaves_woven 0 at part xs (child_balanced d ks) (sym (child_tokens d ks)) in
+    ∙ leaves_woven 0 at part xs balanced (sym (after_tokens ks (c ks) (law ks))) in
     let end : end_after at own ≡ at + total_len part =
     end_of_tokens at own ∙ ap (end_after at) tokens ∙ end_token_steps at part in
     let count : node_tokens 0 (own ++ rest) ≡ length part =
@@ -150,33 +148,72 @@ node_span_first d i at t ts rest is =
     spans_after_node 0 (i + 1) at own rest closed ∙ further i own (end_after at own) rest
     ∙ ap (λ m. child_spans_from 0 (i + suc (length own)) m rest) end in
     subst (λ steps. SpanFirst (Some (node_of ks)) i at part (without_errors steps) rest)
-    (sym (node_woven d at t ts is ∙ woven)) (rw (count, last, after) refl)
+    (sym (after_enter c law at t ts is)) (rw (count, last, after) refl)
 
--- the first child of tokens
-pub span_first : (d : Division) (i at : ℕ) (ts : List LexedToken) (shape : ChildShape)
-    (rest : List StrStep) → 0 < length ts → shape ≡ first_shape d (kinds_of ts)
-    → SpanFirst shape.node i at (take shape.tokens ts)
-    (without_errors (woven_child d at (take shape.tokens ts))) rest
-span_first d i at [] shape rest some is = absurd (omega arith)
-span_first d i at (t ∷ ts) shape rest some is =
+-- ---- the first child of tokens
+
+-- its tokens are the first and some after it, and its node is that of their kinds
+pub record FirstParts (d : Division) (t : LexedToken) (ts : List LexedToken) (shape : ChildShape)
+    : Type 0 where
+  pub count : shape.tokens ≡ suc (more_of lexed_role d t ts)
+  pub node : shape.node ≡ child_node (kinds_of (t ∷ take (more_of lexed_role d t ts) ts))
+
+pub first_parts : (d : Division) (t : LexedToken) (ts : List LexedToken) (shape : ChildShape)
+    → shape ≡ first_shape d (kinds_of (t ∷ ts)) → FirstParts d t ts shape
+first_parts d t ts shape is =
     let all = t ∷ ts in
     let m = more_of lexed_role d t ts in
     let count : shape.tokens ≡ suc m = ap (λ (s : ChildShape). s.tokens) is
     ∙ ap (λ fs. (first_child d fs).tokens) (kinds_roles all)
     ∙ first_tokens d (lexed_role t) (map lexed_role ts) in
-    let node : shape.node ≡ child_node (kinds_of (t ∷ take m ts)) =
-    ap (λ (s : ChildShape). s.node) is
-    ∙ ap (λ n. child_node (take n (kinds_of all)))
-    (sym (ap (λ (s : ChildShape). s.tokens) is) ∙ count)
-    ∙ ap child_node (kinds_take (suc m) all) in
-    rw (count, node) (by (is_trivia_kind t.kind) refl)
+    record {
+      count = count;
+      node = ap (λ (s : ChildShape). s.node) is
+          ∙ ap (λ n. child_node (take n (kinds_of all)))
+          (sym (ap (λ (s : ChildShape). s.tokens) is) ∙ count)
+          ∙ ap child_node (kinds_take (suc m) all);
+    }
+
+-- the child that it is
+pub span_first : (c : List ℕ → List Step) → AreChildSteps c
+    → (d : Division) (i at : ℕ) (ts : List LexedToken) (shape : ChildShape) (rest : List StrStep)
+    → 0 < length ts → shape ≡ first_shape d (kinds_of ts)
+    → SpanFirst shape.node i at (take shape.tokens ts)
+    (without_errors (woven_by c at (take shape.tokens ts))) rest
+span_first c law d i at [] shape rest some is = absurd (omega arith)
+span_first c law d i at (t ∷ ts) shape rest some is =
+    let parts = first_parts d t ts shape is in
+    rw (parts.count, parts.node) (by (is_trivia_kind t.kind) refl)
   where
     by : (b : Bool) → is_trivia_kind t.kind ≡ b
         → SpanFirst (child_node (kinds_of (t ∷ take (more_of lexed_role d t ts) ts))) i at
         (t ∷ take (more_of lexed_role d t ts) ts)
-        (without_errors (woven_child d at (t ∷ take (more_of lexed_role d t ts) ts))) rest
+        (without_errors (woven_by c at (t ∷ take (more_of lexed_role d t ts) ts))) rest
     by true is =
         let f = trivia_role (role t.kind) (role_trivia t.kind ∙ is) in
-        rw f (leaf_span_first d i at t rest is)
+        rw f (leaf_span_first c i at t rest is)
     by false is = rw (node_is t (take (more_of lexed_role d t ts) ts) is)
-        (node_span_first d i at t (take (more_of lexed_role d t ts) ts) rest is)
+        (node_span_first c law i at t (take (more_of lexed_role d t ts) ts) rest is)
+
+-- the steps of a leaf
+pub leaf_steps : (c : List ℕ → List Step) (d : Division) (at : ℕ) (ts : List LexedToken)
+    (shape : ChildShape) → 0 < length ts → shape ≡ first_shape d (kinds_of ts)
+    → shape.node ≡ None
+    → without_errors (woven_by c at (take shape.tokens ts)) ≡ token_steps at (take shape.tokens ts)
+leaf_steps c d at [] shape some is none = absurd (omega arith)
+leaf_steps c d at (t ∷ ts) shape some is none =
+    let parts = first_parts d t ts shape is in
+    let none : child_node (kinds_of (t ∷ take (more_of lexed_role d t ts) ts)) ≡ None =
+    sym parts.node ∙ none in
+    rw parts.count (by (is_trivia_kind t.kind) refl none)
+  where
+    by : (b : Bool) → is_trivia_kind t.kind ≡ b
+        → child_node (kinds_of (t ∷ take (more_of lexed_role d t ts) ts)) ≡ None
+        → without_errors (woven_by c at (t ∷ take (more_of lexed_role d t ts) ts))
+        ≡ token_steps at (t ∷ take (more_of lexed_role d t ts) ts)
+    by true is none =
+        let f = trivia_role (role t.kind) (role_trivia t.kind ∙ is) in
+        rw f (ap without_errors (leaf_by c at t [] is))
+    by false is none =
+        let node = sym (node_is t (take (more_of lexed_role d t ts) ts) is) ∙ none in
+        absurd (cc)

@@ -30,7 +30,8 @@ use Rattle.squawk_tree.proofs.JoinLemmas.{joined_errors}
 use Rattle.squawk_statements.specs.Plain.{plain}
 use Rattle.squawk_tree.proofs.ErrorLemmas.{read_trivia_step, split, same_offset, by_token_is_by_step}
 use Rattle.squawk_tree.specs.ChildSteps.{woven_children}
-use Rattle.squawk_tree.proofs.JoinLemmas.{placed as placed_law, fits, both, fits_child, leaf_woven, node_woven, shift_child, further}
+use Rattle.squawk_tree.proofs.FitsLemmas.{fits, both, fits_child}
+use Rattle.squawk_tree.proofs.JoinLemmas.{placed as placed_law, leaf_woven, node_woven, shift_child, further}
 
 -- whether steps contain all of the tokens, each `Error` at the start of one of them
 abbrev inner : ℕ → List LexedToken → List StrStep → Bool

@@ -16,7 +16,6 @@ use Rattle.squawk_lexed.specs.LexedText.{total_len}
 use Rattle.squawk_lexed.specs.LexedToken.{LexedToken}
 use Rattle.squawk_statements.specs.Children.{ends_statement, parts}
 use Rattle.squawk_tree.proofs.FirstPart.{more, more_of, first_part}
-use Rattle.squawk_statements.specs.Plain.{node_of}
 use Rattle.squawk_statements.specs.Plain.{body_steps, exits, kind_steps, groups_open_after, enters_before, exits_after, unknown_statement_error, child_steps, children_steps, plain}
 use Rattle.squawk_statements.specs.declared.division.Division.{Division}
 use Rattle.squawk_statements.specs.declared.division.Division.TheVariants.{Flat, Grouped}
@@ -24,7 +23,10 @@ use Rattle.squawk_tree.specs.Errors.{errors}
 use Rattle.squawk_tree.specs.Join.{woven_child, shifted_step, shifted_error, child_of, children_len}
 use Rattle.squawk_tree.specs.ParseOf.{lexed_role}
 use Rattle.squawk_tree.specs.ChildSteps.{woven_children}
-use Rattle.squawk_tree.proofs.CutLemmas.{trivia_role, is_trimmed, first_cut}
+use Rattle.squawk_tree.specs.ChildGrammar.{AreChildSteps, children_by, woven_by, woven_children_by}
+use Rattle.squawk_tree.specs.PlainChildren.{plain_child, plain_children}
+use Rattle.squawk_tree.proofs.CutLemmas.{trivia_role, first_cut}
+use Rattle.squawk_tree.proofs.FitsLemmas.{append_woven, fits, fits_steps}
 
 -- ---- children one after another, each of its own tokens
 
@@ -67,258 +69,61 @@ parts_len (suc n) d (t ∷ ts) h =
     + children_len (map (child_of d) (parts lexed_role d (drop m ts))) = omega arith in
     sum ∙ ap (λ ps. children_len (map (child_of d) ps)) (sym (first_part lexed_role d t ts))
 
--- ---- steps that use up their tokens
-
--- whether the woven steps contain all of these tokens, none of them only as trivia at the end
-abbrev pub fits : List Step → List LexedToken → Bool
-fits [] ts = is_empty ts
-fits (Enter kind ∷ xs) ts = not (is_empty (after_leading_trivia ts))
-    && fits xs (after_leading_trivia ts)
-fits (Token kind ∷ xs) ts = not (is_empty (after_leading_trivia ts))
-    && fits xs (drop 1 (after_leading_trivia ts))
-fits (Exit ∷ xs) ts = fits xs ts
-fits (Error number ∷ xs) ts = not (is_empty ts) && fits xs ts
-
--- the parts of a conjunction, the first of which is negated
-pub both : (a b : Bool) → (not a && b) ≡ true → (a ≡ false) × (b ≡ true)
-both true b h = absurd (cc)
-both false b h = (refl, h)
-
--- the leading trivia of tokens p, which are not all trivia, with and without tokens r after them
-pub record LeadingTriviaOf (at : ℕ) (p r : List LexedToken) : Type 0 where
-  steps : leading_trivia at (p ++ r) ≡ leading_trivia at p
-  end : leading_trivia_end at (p ++ r) ≡ leading_trivia_end at p
-  left : after_leading_trivia (p ++ r) ≡ after_leading_trivia p ++ r
-  size : leading_trivia_end at p + total_len (after_leading_trivia p) ≡ at + total_len p
-
-pub leading_trivia_of : (at : ℕ) (p r : List LexedToken) → is_empty (after_leading_trivia p) ≡ false
-    → LeadingTriviaOf at p r
-leading_trivia_of at [] r h = absurd (cc)
-leading_trivia_of at (t ∷ p) r h =
-    by (is_trivia_kind t.kind) refl h (leading_trivia_of (at + t.len) p r)
-  where
-    by : (b : Bool) → is_trivia_kind t.kind ≡ b
-        → is_empty (cond b (after_leading_trivia p) (t ∷ p)) ≡ false
-        → (is_empty (after_leading_trivia p) ≡ false → LeadingTriviaOf (at + t.len) p r)
-        → LeadingTriviaOf at (t ∷ p) r
-    by true is h more =
-        let rest = more h in
-        record {
-          steps = rw is (ap (λ ys. out.Token t.kind at (at + t.len) ∷ ys) rest.steps);
-          end =
-              rw is rest.end;
-          left = rw is rest.left;
-          size =
-              rw is (let e = rest.size in omega arith);
-        }
-    by false is h more = record {
-      steps = rw is refl;
-      end = rw is refl;
-      left = rw is refl;
-      size =
-          rw is refl;
-    }
-
--- the first of tokens u, with and without tokens r after them
-pub record NextOf (u r : List LexedToken) : Type 0 where
-  len : next_len (u ++ r) ≡ next_len u
-  rest : drop 1 (u ++ r) ≡ drop 1 u ++ r
-  size : next_len u + total_len (drop 1 u) ≡ total_len u
-
-pub next_of : (u r : List LexedToken) → is_empty u ≡ false → NextOf u r
-next_of [] r h = absurd (cc)
-next_of (t ∷ u) r h = record { len = refl; rest = refl; size = refl }
-
--- weaving of steps that fit their tokens, before other steps and tokens
-pub append_woven : (xs : List Step) (at : ℕ) (p r : List LexedToken) (y : Step) (ys : List Step)
-    → fits xs p ≡ true → weave_from at (p ++ r) (xs ++ y ∷ ys)
-    ≡ weave_from at p xs ++ weave_from (at + total_len p) r (y ∷ ys)
-append_woven [] at [] r y ys h = ap (λ n. weave_from n r (y ∷ ys)) (omega arith)
-append_woven [] at (t ∷ p) r y ys h = absurd (cc)
-append_woven (Enter kind ∷ xs) at p r y ys h =
-    let hs = both (is_empty (after_leading_trivia p)) (fits xs (after_leading_trivia p)) h in
-    let f = leading_trivia_of at p r hs.0 in
-    let rest = append_woven xs (leading_trivia_end at p) (after_leading_trivia p) r y ys hs.1 in
-    rw (f.steps, f.end, f.left, rest, f.size)
-    (sym (append_assoc (leading_trivia at p ++ out.Enter kind
-    ∷ []) (weave_from (leading_trivia_end at p) (after_leading_trivia p) xs)
-    (weave_from (at + total_len p) r (y ∷ ys))))
-append_woven (Token kind ∷ xs) at p r y ys h =
-    let hs = both (is_empty (after_leading_trivia p)) (fits xs (drop 1 (after_leading_trivia p))) h
-    in
-    let f = leading_trivia_of at p r hs.0 in
-    let n = next_of (after_leading_trivia p) r hs.0 in
-    let rest = append_woven xs (leading_trivia_end at p + next_len (after_leading_trivia p))
-    (drop 1 (after_leading_trivia p)) r y ys hs.1 in
-    let sum : leading_trivia_end at p + next_len (after_leading_trivia p)
-    + total_len (drop 1 (after_leading_trivia p)) ≡ at + total_len p = let a = f.size in let b =
-    n.size in omega arith in
-    rw (f.steps, f.end, f.left, n.len, n.rest, rest, sum)
-    (sym (append_assoc (leading_trivia at p
-    ++ out.Token kind (leading_trivia_end at p) (leading_trivia_end at p
-    + next_len (after_leading_trivia p)) ∷ [])
-    (weave_from (leading_trivia_end at p + next_len (after_leading_trivia p))
-    (drop 1 (after_leading_trivia p)) xs) (weave_from (at + total_len p) r (y ∷ ys))))
-append_woven (Exit ∷ []) at [] r y ys h = ap (λ n. out.Exit ∷ weave_from n r (y ∷ ys)) (omega arith)
-append_woven (Exit ∷ []) at (t ∷ p) r y ys h = absurd (cc)
-append_woven (Exit ∷ x ∷ xs) at p r y ys h =
-    ap (λ zs. out.Exit ∷ zs) (append_woven (x ∷ xs) at p r y ys h)
-append_woven (Error number ∷ xs) at p r y ys h =
-    ap (λ zs. out.Error number at ∷ zs) (append_woven xs at p r y ys
-    (both (is_empty p) (fits xs p) h).1)
-
--- ---- a child's steps use up its tokens
-
--- Steps fit one token more: a trivia token before others, and a token with the steps that the
--- division makes for it.
-fits_after_trivia : (xs : List Step) (t : LexedToken) (ts : List LexedToken)
-    → is_trivia_kind t.kind ≡ true
-    → is_empty ts ≡ false → fits xs ts ≡ true → fits xs (t ∷ ts) ≡ true
-fits_after_trivia [] t ts is some h = absurd (cc)
-fits_after_trivia (Enter kind ∷ xs) t ts is some h = rw is h
-fits_after_trivia (Token kind ∷ xs) t ts is some h = rw is h
-fits_after_trivia (Exit ∷ xs) t ts is some h = fits_after_trivia xs t ts is some h
-fits_after_trivia (Error number ∷ xs) t ts is some h =
-    fits_after_trivia xs t ts is some (both (is_empty ts) (fits xs ts) h).1
-
-fits_exits : (n : ℕ) (xs : List Step) (ts : List LexedToken) → fits xs ts ≡ true
-    → fits (exits n ++ xs) ts ≡ true
-fits_exits zero xs ts h = h
-fits_exits (suc n) xs ts h = fits_exits n xs ts h
-
-fits_token : (kind : ℕ) (xs : List Step) (t : LexedToken) (ts : List LexedToken)
-    → is_trivia_kind t.kind ≡ false → fits xs ts ≡ true → fits (Token kind ∷ xs) (t ∷ ts) ≡ true
-fits_token kind xs t ts is h = rw is h
-
-fits_end : (n kind : ℕ) (xs : List Step) (t : LexedToken) (ts : List LexedToken)
-    → is_trivia_kind t.kind ≡ false → fits xs ts ≡ true
-    → fits ((exits n ++ Token kind ∷ []) ++ xs) (t ∷ ts) ≡ true
-fits_end n kind xs t ts is h =
-    ap (λ zs. fits zs (t ∷ ts)) (append_assoc (exits n) (Token kind ∷ []) xs)
-    ∙ fits_exits n (Token kind ∷ xs) (t ∷ ts) (fits_token kind xs t ts is h)
-
-fits_kind : (d : Division) (n kind : ℕ) (f : Role) (xs : List Step) (t : LexedToken)
-    (ts : List LexedToken) → is_trivia_kind t.kind ≡ false → fits xs ts ≡ true
-    → fits (cond (ends_statement d n f) (exits n ++ Token kind ∷ []) (enters_before f ++ Token kind
-    ∷ exits_after n f) ++ xs) (t ∷ ts) ≡ true
-fits_kind d n kind Trivia xs t ts is h = fits_token kind xs t ts is h
-fits_kind Flat n kind Semicolon xs t ts is h = fits_end n kind xs t ts is h
-fits_kind Grouped zero kind Semicolon xs t ts is h = fits_token kind xs t ts is h
-fits_kind Grouped (suc n) kind Semicolon xs t ts is h = fits_token kind xs t ts is h
-fits_kind d n kind Terminator xs t ts is h = fits_end n kind xs t ts is h
-fits_kind d n kind Command xs t ts is h = fits_token kind xs t ts is h
-fits_kind d n kind Open xs t ts is h = rw is (fits_token kind xs t ts is h)
-fits_kind d zero kind Close xs t ts is h = fits_token kind xs t ts is h
-fits_kind d (suc n) kind Close xs t ts is h = fits_token kind (Exit ∷ xs) t ts is h
-fits_kind d n kind Other xs t ts is h = fits_token kind xs t ts is h
-
--- the steps of a body fit its tokens
-fits_core : (d : Division) (n : ℕ) (ts : List LexedToken) (xs : List Step) → fits xs [] ≡ true
-    → is_trimmed true ts ≡ true → fits (body_steps d n (kinds_without_trivia ts) ++ xs) ts ≡ true
-fits_core d n [] xs last trimmed = fits_exits n xs [] last
-fits_core d n (t ∷ ts) xs last trimmed =
-    by (is_trivia_kind t.kind) refl (fits_core d n ts xs last)
-    (fits_core d (groups_open_after d n (role t.kind)) ts xs last)
-  where
-    some : (us : List LexedToken) → is_trimmed false us ≡ true → (is_empty us ≡ false)
-        × (is_trimmed true us ≡ true)
-    some [] h = absurd (cc)
-    some (u ∷ us) h = (refl, h)
-
-    by : (b : Bool) → is_trivia_kind t.kind ≡ b
-        → (is_trimmed true ts ≡ true → fits (body_steps d n (kinds_without_trivia ts) ++ xs) ts
-        ≡ true)
-        → (is_trimmed true ts ≡ true
-        → fits (body_steps d (groups_open_after d n (role t.kind)) (kinds_without_trivia ts)
-        ++ xs) ts ≡ true) → fits (body_steps d n (kinds_without_trivia (t ∷ ts)) ++ xs) (t ∷ ts)
-        ≡ true
-    by true is same after =
-        let left : is_trimmed false ts ≡ true = ap (λ b. is_trimmed (not b) ts) (sym is)
-        ∙ trimmed in
-        let more = some ts left in
-        let here : kinds_without_trivia (t ∷ ts) ≡ kinds_without_trivia ts = rw is refl in
-        rw here (fits_after_trivia (body_steps d n (kinds_without_trivia ts)
-        ++ xs) t ts is more.0 (same more.1))
-    by false is same after =
-        let left : is_trimmed true ts ≡ true = ap (λ b. is_trimmed (not b) ts) (sym is) ∙ trimmed in
-        let here : kinds_without_trivia (t ∷ ts) ≡ t.kind ∷ kinds_without_trivia ts = rw is refl in
-        rw here (ap (λ zs.
-        fits zs (t ∷ ts)) (append_assoc (kind_steps d n t.kind)
-        (body_steps d (groups_open_after d n (role t.kind)) (kinds_without_trivia ts)) xs)
-        ∙ fits_kind d n t.kind (role t.kind) (body_steps d (groups_open_after d n (role t.kind))
-        (kinds_without_trivia ts) ++ xs) t ts is (after left))
-
--- the error of an unknown statement fits any tokens
-fits_fault : (b : Bool) (xs : List Step) (t : LexedToken) (ts : List LexedToken)
-    → fits xs (t ∷ ts) ≡ true → fits (cond b (Error 10 ∷ []) [] ++ xs) (t ∷ ts) ≡ true
-fits_fault true xs t ts h = h
-fits_fault false xs t ts h = h
-
--- the steps of a child fit its tokens
-pub fits_child : (d : Division) (t : LexedToken) (ts : List LexedToken)
-    → is_trivia_kind t.kind ≡ false → is_trimmed true ts ≡ true
-    → fits (child_steps d (kinds_without_trivia (t ∷ ts))) (t ∷ ts) ≡ true
-fits_child d t ts is trimmed =
-    let node = node_of (kinds_without_trivia (t ∷ ts)) in
-    let whole : is_trimmed true (t ∷ ts) ≡ true = ap (λ b. is_trimmed (not b) ts) is ∙ trimmed in
-    let inner : fits ((unknown_statement_error node
-    ++ body_steps d 0 (kinds_without_trivia (t ∷ ts))) ++ Exit ∷ []) (t ∷ ts) ≡ true =
-    ap (λ zs. fits zs (t ∷ ts)) (append_assoc (unknown_statement_error node)
-    (body_steps d 0 (kinds_without_trivia (t ∷ ts))) (Exit ∷ []))
-    ∙ fits_fault (node == ERROR) (body_steps d 0 (kinds_without_trivia (t ∷ ts)) ++ Exit
-    ∷ []) t ts (fits_core d 0 (t ∷ ts) (Exit ∷ []) refl whole) in
-    let unchanged : after_leading_trivia (t ∷ ts) ≡ t ∷ ts = rw is refl in
-    ap (λ u. not (is_empty u) && fits ((unknown_statement_error node
-    ++ body_steps d 0 (kinds_without_trivia (t ∷ ts))) ++ Exit ∷ []) u) unchanged ∙ inner
-
 -- ---- the text
 
 -- weaving of a trivia token before a child or the end
-leaf_first : (d : Division) (at : ℕ) (t : LexedToken) (ts : List LexedToken) (ps : List (List ℕ))
+leaf_first : (c : List ℕ → List Step) → AreChildSteps c
+    → (at : ℕ) (t : LexedToken) (ts : List LexedToken) (ps : List (List ℕ))
     → is_trivia_kind t.kind ≡ true
-    → weave_from at (t ∷ ts) (children_steps d ps ++ Exit ∷ [])
-    ≡ out.Token t.kind at (at + t.len) ∷ weave_from (at + t.len) ts (children_steps d ps ++ Exit
+    → weave_from at (t ∷ ts) (children_by c ps ++ Exit ∷ [])
+    ≡ out.Token t.kind at (at + t.len) ∷ weave_from (at + t.len) ts (children_by c ps ++ Exit
     ∷ [])
-leaf_first d at t ts [] is = rw is refl
-leaf_first d at t ts (p ∷ ps) is = rw is refl
+leaf_first c law at t ts [] is = rw is refl
+leaf_first c law at t ts (p ∷ ps) is = rw ((law p).whole, is) refl
 
 -- weaving of a child before other children or the end
-child_first : (d : Division) (at : ℕ) (p r : List LexedToken) (ks : List ℕ) (ps : List (List ℕ))
-    → fits (child_steps d ks) p ≡ true
-    → weave_from at (p ++ r) (children_steps d (ks ∷ ps) ++ Exit ∷ [])
-    ≡ weave_from at p (child_steps d ks) ++ weave_from (at + total_len p) r (children_steps d ps
-    ++ Exit ∷ [])
-child_first d at p r ks [] h =
-    ap (λ zs. weave_from at (p ++ r) zs) (append_assoc (child_steps d ks) [] (Exit ∷ []))
-    ∙ append_woven (child_steps d ks) at p r Exit [] h
-child_first d at p r ks (q ∷ ps) h =
-    ap (λ zs. weave_from at (p ++ r) zs) (append_assoc (child_steps d ks)
-    (children_steps d (q ∷ ps)) (Exit ∷ []))
-    ∙ append_woven (child_steps d ks) at p r (Enter (node_of q)) _ h
+child_first : (c : List ℕ → List Step) → AreChildSteps c
+    → (at : ℕ) (p r : List LexedToken) (ks : List ℕ) (ps : List (List ℕ)) → fits (c ks) p ≡ true
+    → weave_from at (p ++ r) (children_by c (ks ∷ ps) ++ Exit ∷ [])
+    ≡ weave_from at p (c ks) ++ weave_from (at + total_len p) r (children_by c ps ++ Exit ∷ [])
+child_first c law at p r ks ps h =
+    ap (λ zs. weave_from at (p ++ r) zs) (append_assoc (c ks) (children_by c ps) (Exit ∷ []))
+    ∙ before (children_by c ps ++ Exit ∷ []) (some ps)
+  where
+    some : (ps : List (List ℕ)) → is_empty (children_by c ps ++ Exit ∷ []) ≡ false
+    some [] = refl
+    some (q ∷ ps) = rw (law q).whole refl
+
+    before : (zs : List Step) → is_empty zs ≡ false
+        → weave_from at (p ++ r) (c ks ++ zs)
+        ≡ weave_from at p (c ks) ++ weave_from (at + total_len p) r zs
+    before [] none = absurd (cc)
+    before (z ∷ zs) none = append_woven (c ks) at p r z zs h
 
 -- the woven steps of all children are those of each at its own offset
-pub placed : (n : ℕ) (d : Division) (at : ℕ) (ts : List LexedToken) → length ts ≤ n
-    → weave_from at ts (children_steps d (parts role d (kinds_without_trivia ts)) ++ Exit ∷ [])
-    ≡ woven_children d at (parts lexed_role d ts) ++ out.Exit ∷ []
-placed n d at [] h = refl
-placed zero d at (t ∷ ts) h = absurd (omega arith)
-placed (suc n) d at (t ∷ ts) h =
-    by (is_trivia_kind t.kind) refl (placed n d (at + t.len) ts (omega arith))
-    (placed n d (at + total_len (t ∷ take (more_of lexed_role d t ts) ts))
+pub placed_by : (c : List ℕ → List Step) → AreChildSteps c
+    → (n : ℕ) (d : Division) (at : ℕ) (ts : List LexedToken) → length ts ≤ n
+    → weave_from at ts (children_by c (parts role d (kinds_without_trivia ts)) ++ Exit ∷ [])
+    ≡ woven_children_by c at (parts lexed_role d ts) ++ out.Exit ∷ []
+placed_by c law n d at [] h = refl
+placed_by c law zero d at (t ∷ ts) h = absurd (omega arith)
+placed_by c law (suc n) d at (t ∷ ts) h =
+    by (is_trivia_kind t.kind) refl (placed_by c law n d (at + t.len) ts (omega arith))
+    (placed_by c law n d (at + total_len (t ∷ take (more_of lexed_role d t ts) ts))
     (drop (more_of lexed_role d t ts) ts) (let e = length-drop (more_of lexed_role d t ts) ts in
     omega arith))
   where
     by : (b : Bool) → is_trivia_kind t.kind ≡ b
-        → weave_from (at + t.len) ts (children_steps d (parts role d (kinds_without_trivia ts))
-        ++ Exit ∷ []) ≡ woven_children d (at + t.len) (parts lexed_role d ts) ++ out.Exit ∷ []
+        → weave_from (at + t.len) ts (children_by c (parts role d (kinds_without_trivia ts))
+        ++ Exit ∷ []) ≡ woven_children_by c (at + t.len) (parts lexed_role d ts) ++ out.Exit ∷ []
         → weave_from (at + total_len (t ∷ take (more_of lexed_role d t ts) ts))
         (drop (more_of lexed_role d t ts) ts)
-        (children_steps d (parts role d (kinds_without_trivia
+        (children_by c (parts role d (kinds_without_trivia
         (drop (more_of lexed_role d t ts) ts))) ++ Exit ∷ [])
-        ≡ woven_children d (at + total_len (t ∷ take (more_of lexed_role d t ts) ts))
+        ≡ woven_children_by c (at + total_len (t ∷ take (more_of lexed_role d t ts) ts))
         (parts lexed_role d (drop (more_of lexed_role d t ts) ts)) ++ out.Exit ∷ []
-        → weave_from at (t ∷ ts) (children_steps d (parts role d (kinds_without_trivia (t ∷ ts)))
-        ++ Exit ∷ []) ≡ woven_children d at (parts lexed_role d (t ∷ ts)) ++ out.Exit ∷ []
+        → weave_from at (t ∷ ts) (children_by c (parts role d (kinds_without_trivia (t ∷ ts)))
+        ++ Exit ∷ []) ≡ woven_children_by c at (parts lexed_role d (t ∷ ts)) ++ out.Exit ∷ []
     by true is leaf child =
         let here : kinds_without_trivia (t ∷ ts) ≡ kinds_without_trivia ts = rw is refl in
         let f = trivia_role (role t.kind) (role_trivia t.kind ∙ is) in
@@ -328,16 +133,16 @@ placed (suc n) d at (t ∷ ts) h =
         first_part lexed_role d t ts
         ∙ ap (λ m. (t ∷ take m ts) ∷ parts lexed_role d (drop m ts)) none in
         let sum : at + (t.len + 0) ≡ at + t.len = omega arith in
-        let this : woven_child d at (t ∷ []) ≡ out.Token t.kind at (at + t.len) ∷ [] = rw is refl in
-        let right : woven_children d at (parts lexed_role d (t ∷ ts))
+        let this : woven_by c at (t ∷ []) ≡ out.Token t.kind at (at + t.len) ∷ [] = rw is refl in
+        let right : woven_children_by c at (parts lexed_role d (t ∷ ts))
         ≡ out.Token t.kind at (at + t.len)
-        ∷ woven_children d (at + t.len) (parts lexed_role d ts) =
-        ap (woven_children d at) ps ∙ ap (λ zs. zs
-        ++ woven_children d (at + (t.len + 0)) (parts lexed_role d ts)) this
+        ∷ woven_children_by c (at + t.len) (parts lexed_role d ts) =
+        ap (woven_children_by c at) ps ∙ ap (λ zs. zs
+        ++ woven_children_by c (at + (t.len + 0)) (parts lexed_role d ts)) this
         ∙ ap (λ m. out.Token t.kind at (at + t.len)
-        ∷ woven_children d m (parts lexed_role d ts)) sum in
-        ap (λ ks. weave_from at (t ∷ ts) (children_steps d (parts role d ks) ++ Exit ∷ [])) here
-        ∙ leaf_first d at t ts (parts role d (kinds_without_trivia ts)) is
+        ∷ woven_children_by c m (parts lexed_role d ts)) sum in
+        ap (λ ks. weave_from at (t ∷ ts) (children_by c (parts role d ks) ++ Exit ∷ [])) here
+        ∙ leaf_first c law at t ts (parts role d (kinds_without_trivia ts)) is
         ∙ ap (λ zs. out.Token t.kind at (at + t.len) ∷ zs) leaf
         ∙ ap (λ zs. zs ++ out.Exit ∷ []) (sym right)
     by false is leaf child =
@@ -356,25 +161,35 @@ placed (suc n) d at (t ∷ ts) h =
         first_part lexed_role d t ts in
         let whole : t ∷ ts ≡ (t ∷ take m ts) ++ drop m ts =
         ap (λ us. t ∷ us) (sym (take-append-drop m ts)) in
-        let this : woven_child d at (t ∷ take m ts)
-        ≡ weave_from at (t ∷ take m ts) (child_steps d (kinds_without_trivia (t ∷ take m ts))) =
+        let this : woven_by c at (t ∷ take m ts)
+        ≡ weave_from at (t ∷ take m ts) (c (kinds_without_trivia (t ∷ take m ts))) =
         rw is refl in
-        let step = child_first d at (t ∷ take m ts) (drop m ts) (kinds_without_trivia (t
+        let step = child_first c law at (t ∷ take m ts) (drop m ts) (kinds_without_trivia (t
         ∷ take m ts)) (parts role d (kinds_without_trivia (drop m ts)))
-        (fits_child d t (take m ts) is cut.trimmed) in
-        ap (λ ps. weave_from at (t ∷ ts) (children_steps d ps ++ Exit ∷ [])) kinds
-        ∙ ap (λ us. weave_from at us (children_steps d (kinds_without_trivia (t ∷ take m ts)
+        (fits_steps t (take m ts) (c (kinds_without_trivia (t ∷ take m ts)))
+        (law (kinds_without_trivia (t ∷ take m ts))) is cut.trimmed) in
+        ap (λ ps. weave_from at (t ∷ ts) (children_by c ps ++ Exit ∷ [])) kinds
+        ∙ ap (λ us. weave_from at us (children_by c (kinds_without_trivia (t ∷ take m ts)
         ∷ parts role d (kinds_without_trivia (drop m ts))) ++ Exit ∷ [])) whole
         ∙ step
         ∙ ap (λ zs. weave_from at (t ∷ take m ts)
-        (child_steps d (kinds_without_trivia (t ∷ take m ts))) ++ zs) child
+        (c (kinds_without_trivia (t ∷ take m ts))) ++ zs) child
         ∙ ap (λ zs. zs
-        ++ (woven_children d (at + total_len (t ∷ take m ts)) (parts lexed_role d (drop m ts))
+        ++ (woven_children_by c (at + total_len (t ∷ take m ts)) (parts lexed_role d (drop m ts))
         ++ out.Exit ∷ [])) (sym this)
-        ∙ sym (append_assoc (woven_child d at (t ∷ take m ts))
-        (woven_children d (at + total_len (t ∷ take m ts)) (parts lexed_role d (drop m ts)))
+        ∙ sym (append_assoc (woven_by c at (t ∷ take m ts))
+        (woven_children_by c (at + total_len (t ∷ take m ts)) (parts lexed_role d (drop m ts)))
         (out.Exit ∷ []))
-        ∙ ap (λ ps. woven_children d at ps ++ out.Exit ∷ []) (sym tokens)
+        ∙ ap (λ ps. woven_children_by c at ps ++ out.Exit ∷ []) (sym tokens)
+
+-- in the parse into statements
+pub placed : (n : ℕ) (d : Division) (at : ℕ) (ts : List LexedToken) → length ts ≤ n
+    → weave_from at ts (children_steps d (parts role d (kinds_without_trivia ts)) ++ Exit ∷ [])
+    ≡ woven_children d at (parts lexed_role d ts) ++ out.Exit ∷ []
+placed n d at ts h =
+    ap (λ xs. weave_from at ts (xs ++ Exit ∷ []))
+    (plain_children d (parts role d (kinds_without_trivia ts)))
+    ∙ placed_by (child_steps d) (plain_child d) n d at ts h
 
 -- ---- shifts
 

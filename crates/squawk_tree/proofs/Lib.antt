@@ -4,6 +4,7 @@ pub mod NodeRangeLemmas
 pub mod FirstPart
 pub mod CutLemmas
 pub mod LeavesLemmas
+pub mod FitsLemmas
 pub mod JoinLemmas
 pub mod ErrorLemmas
 pub mod JoinErrorLemmas
@@ -20,6 +21,7 @@ pub mod SinkLemmas
 pub mod ChildTokenLemmas
 pub mod ChildBodyLemmas
 pub mod ChildShapeLemmas
+pub mod WovenNode
 pub mod ChildSpanLemmas
 pub mod ChildErrorLemmas
 pub mod ChildLoopLemmas

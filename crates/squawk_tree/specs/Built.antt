@@ -33,3 +33,7 @@ pub record IsBuilt (tree : TreeBuilder) : Type 0 where
   pub spans : AreSpansSoFar tree.steps.items tree.spans.items (reverse tree.open_nodes.items)
   pub counts : AreCountsSoFar tree.steps.items tree.counts.items
   pub end : end_of_last tree.end tree.steps.items ≡ tokens_end tree.steps.items
+
+-- the steps so far
+abbrev pub emitted : TreeBuilder → List StrStep
+emitted tree = tree.steps.items

@@ -10,18 +10,16 @@ use Rattle.squawk_lexed.specs.LexedText.{token_start, total_len}
 use Rattle.squawk_lexed.specs.LexedToken.{LexedToken}
 use Rattle.squawk_lexed.specs.Weave.{kinds_without_trivia, weave}
 use Rattle.squawk_statements.specs.Children.{open_groups_after, trimmed_len}
-use Rattle.squawk_statements.specs.Plain.{plain}
+use Rattle.squawk_statements.specs.Plain.{child_steps}
 use Rattle.squawk_statements.specs.declared.division.Division.{Division}
 use Rattle.squawk_statements.specs.declared.first.ChildShape.{ChildShape}
-use Rattle.squawk_tree.specs.Join.{woven_child}
+use Rattle.squawk_tree.specs.ChildGrammar.{woven_children_by}
 use Rattle.squawk_tree.specs.ParseOf.{lexed_role, token_steps}
 use Rattle.squawk_tree.specs.declared.children.ChildSpan.{ChildSpan}
 
 -- the steps of the children of these tokens, the first of which begins at an offset
 abbrev pub woven_children : Division → ℕ → List (List LexedToken) → List StrStep
-woven_children d at [] = []
-woven_children d at (part ∷ rest) =
-    woven_child d at part ++ woven_children d (at + total_len part) rest
+woven_children d at parts = woven_children_by (child_steps d) at parts
 
 -- the steps before a token of this role: a group begins with its `(`
 abbrev pub enters_of : Role → List StrStep
@@ -95,10 +93,6 @@ steps_of_shape shape at ts = child_steps_by shape.node shape.closed at ts
 abbrev pub child_error : ℕ → Option ℕ → List StrStep
 child_error at None = []
 child_error at (Some node) = unknown_error at node
-
--- the steps of a text of these tokens: the root with its children
-abbrev pub child_weave : Division → List LexedToken → List StrStep
-child_weave d ts = weave ts (plain d (kinds_without_trivia ts))
 
 -- the child of this shape, whose first token and whose first step have these indices
 abbrev pub shape_span : List LexedToken → (from : ℕ) → ChildShape → (step : ℕ) → ChildSpan

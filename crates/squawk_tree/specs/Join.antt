@@ -1,29 +1,24 @@
 -- The children of a parse, each built from its own tokens alone, and the tree that they make.
-use Rattle.std.specs.Prelude.{ℕ, ◌+◌, List, [], ◌∷◌, ◌++◌, map, if◌then◌else◌}
-use Rattle.squawk_events.specs.Kinds.{is_trivia_kind}
+use Rattle.std.specs.Prelude.{ℕ, ◌+◌, List, [], ◌∷◌, ◌++◌, map}
 use Rattle.squawk_events.specs.declared.steps.ParseError.{ParseError}
 use Rattle.squawk_events.specs.declared.steps.StrStep.{StrStep}
 use Rattle.squawk_events.specs.declared.steps.StrStep.TheVariants.{Enter, Token, Exit, Error}
 use Rattle.squawk_kinds.specs.declared.numbers.TheConstants.Number.{SOURCE_FILE}
 use Rattle.squawk_lexed.specs.LexedText.{total_len}
 use Rattle.squawk_lexed.specs.LexedToken.{LexedToken}
-use Rattle.squawk_lexed.specs.Weave.{kinds_without_trivia, weave_from}
 use Rattle.squawk_lexer.specs.declared.token.Strings.{Strings}
 use Rattle.squawk_statements.specs.Children.{parts}
 use Rattle.squawk_statements.specs.Plain.{child_steps}
 use Rattle.squawk_statements.specs.declared.division.Division.{Division}
+use Rattle.squawk_tree.specs.ChildGrammar.{woven_by}
 use Rattle.squawk_tree.specs.Errors.{error, errors}
 use Rattle.squawk_tree.specs.ParseOf.{lexed_role, tokens_of}
 use Rattle.squawk_tree.specs.Steps.{without_errors}
 use Rattle.squawk_tree.specs.Tree.{Tree}
 
--- The steps of a child of these tokens, the first of which begins at an offset. A trivia token is a
--- leaf; the tokens of any other child are woven into the steps of its kinds.
+-- the steps of a child of these tokens, the first of which begins at an offset
 abbrev pub woven_child : Division → ℕ → List LexedToken → List StrStep
-woven_child d at [] = []
-woven_child d at (t ∷ ts) =
-    if is_trivia_kind t.kind then Token t.kind at (at + t.len) ∷ []
-    else weave_from at (t ∷ ts) (child_steps d (kinds_without_trivia (t ∷ ts)))
+woven_child d at ts = woven_by (child_steps d) at ts
 
 -- one child: its steps, its errors and its length in bytes; offsets are from its start
 pub record ChildTree : Type 0 where

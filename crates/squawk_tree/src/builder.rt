@@ -2,7 +2,7 @@
 ghost use Rattle.std.specs.Prelude.{◌≡◌, ◌<◌, ◌*◌, ◌++◌, ◌∷◌, [], List, length, IfOk, OnOk, IfErr};
 ghost use Rattle.squawk_events.specs.Refusals.{IsOutOfMemory};
 ghost use Rattle.squawk_events.specs.declared.steps.StrStep.{StrStep as Given};
-ghost use Rattle.squawk_tree.specs.Built.{end_of_last, AreCountsSoFar, IsBuilt};
+ghost use Rattle.squawk_tree.specs.Built.{end_of_last, AreCountsSoFar, IsBuilt, emitted};
 ghost use Rattle.squawk_tree.specs.ChildSpans.{child_spans};
 ghost use Rattle.squawk_tree.specs.NodeRanges.{node_step_count, stride};
 ghost use Rattle.squawk_tree.specs.Tree.{IsTree};
@@ -18,10 +18,13 @@ use std::alloc::{AllocError, Global};
 // for so many tokens.
 const TOKENS_PER_NODE_STEP: usize = 4;
 
-// A tree while it is built. Counts may be missing for the steps after the last `Enter` or `Exit`:
-// up to the next one they are all the same, and it appends them.
+/// A tree while it is built: the steps so far, and what a `Parse` keeps beside them.
+///
+/// `parse_children` makes it and hands it to a `ChildGrammar`.
+// Counts may be missing for the steps after the last `Enter` or `Exit`: up to the next one they are
+// all the same, and it appends them.
 #[derive(Drop)]
-pub(crate) struct TreeBuilder {
+pub struct TreeBuilder {
     pub(crate) steps: Vec<StrStep>,
     // The ranges of the `Enter` and `Exit` steps; those of open nodes are not known yet.
     spans: Vec<(u32, u32)>,
@@ -102,11 +105,11 @@ impl TreeBuilder {
         Ok(())
     }
 
-    // Appends a step.
+    /// Appends a step. Fails only if memory runs out; what the tree then holds is unspecified.
     #[inline(always)]
-    pub(crate) fn push(&mut self, step: StrStep) -> Result<(), FrontError>
+    pub fn push(&mut self, step: StrStep) -> Result<(), FrontError>
         requires { IsBuilt self.old }
-        ensures steps { OnOk result (self.new.steps.items ≡ self.old.steps.items ++ step ∷ []) }
+        ensures steps { OnOk result (emitted self.new ≡ emitted self.old ++ step ∷ []) }
         ensures built { OnOk result (IsBuilt self.new) }
         ensures refusals { IfErr result IsOutOfMemory }
     {

@@ -5,18 +5,21 @@ ghost use Rattle.std.specs.Prelude.{◌≡◌, ◌≤◌, ◌<◌, ◌+◌, ◌-
 ghost use Rattle.squawk_events.specs.Refusals.{IsOutOfMemory};
 ghost use Rattle.squawk_kinds.specs.Role.{role};
 ghost use Rattle.squawk_lexed.specs.LexedText.{are_sound, token_start};
-ghost use Rattle.squawk_lexed.specs.Stored.{errors_of};
+ghost use Rattle.squawk_lexed.specs.Stored.{errors_of, kinds_of};
 ghost use Rattle.squawk_statements.specs.Children.{open_groups_after, trimmed_len};
+ghost use Rattle.squawk_statements.specs.First.{first_shape};
 ghost use Rattle.squawk_statements.specs.Plain.{plain};
-ghost use Rattle.squawk_tree.specs.Built.{IsBuilt};
+ghost use Rattle.squawk_tree.specs.Built.{IsBuilt, emitted};
 ghost use Rattle.squawk_tree.specs.ChildSpans.{child_spans};
-ghost use Rattle.squawk_tree.specs.ChildSteps.{child_weave, exit_steps, nested_steps, node_steps, shape_span, steps_in_groups, steps_of_shape};
+ghost use Rattle.squawk_tree.specs.ChildGrammar.{child_at, woven_text};
+ghost use Rattle.squawk_tree.specs.ChildSteps.{exit_steps, nested_steps, node_steps, shape_span, steps_in_groups};
 ghost use Rattle.squawk_tree.specs.ParseOf.{token_steps};
 ghost use Rattle.squawk_tree.specs.Parses.{ParsesTokens};
 ghost use Rattle.squawk_tree.specs.Steps.{without_errors};
 ghost use Rattle.squawk_tree.specs.Walk.{merged_errors};
 
 use crate::builder::TreeBuilder;
+use crate::child_grammar::{ChildGrammar, PlainChildren};
 use crate::children::ChildSpan;
 use crate::errors::{Walk, push_child_errors, push_lexical_errors};
 use crate::parse::Parse;
@@ -30,11 +33,13 @@ use std::alloc::Global;
 // In most SQL a child of the root has more tokens: room is reserved for one for so many.
 const TOKENS_PER_CHILD: usize = 8;
 
-// Emits an `Exit` for each of `groups` open groups.
-fn emit_exits(groups: usize, tree: &mut TreeBuilder) -> Result<(), FrontError>
+/// Emits an `Exit` for each of `groups` open groups.
+///
+/// Fails only if memory runs out; what `tree` then holds is unspecified.
+pub fn emit_exits(groups: usize, tree: &mut TreeBuilder) -> Result<(), FrontError>
     requires { IsBuilt tree.old }
-    ensures steps { OnOk result (tree.new.steps.items
-        ≡ tree.old.steps.items ++ exit_steps groups) }
+    ensures steps { OnOk result (emitted tree.new
+        ≡ emitted tree.old ++ exit_steps groups) }
     ensures built { OnOk result (IsBuilt tree.new) }
     ensures refusals { IfErr result IsOutOfMemory }
 {
@@ -46,11 +51,13 @@ fn emit_exits(groups: usize, tree: &mut TreeBuilder) -> Result<(), FrontError>
     Ok(())
 }
 
-// Emits the step of a token of this kind, and the start or the end of a group. Returns the number
-// of open groups after it.
+/// Emits the step of a token of this kind, and the start or the end of a group. `groups` is the
+/// number of open groups before it, below 2^63; returns the number after it.
+///
+/// Fails only if memory runs out; what `tree` then holds is unspecified.
 #[inline(always)]
 #[tactic(auto, unfolding(squawk_kinds::specs::Role::role))]
-fn emit_in_groups(
+pub fn emit_in_groups(
     groups: usize,
     kind: SyntaxKind,
     step: StrStep,
@@ -58,8 +65,8 @@ fn emit_in_groups(
 ) -> Result<usize, FrontError>
     requires small { groups < 2 ^ 63 }
     requires built { IsBuilt tree.old }
-    ensures steps { OnOk result (tree.new.steps.items
-        ≡ tree.old.steps.items ++ steps_in_groups groups (role kind) step) }
+    ensures steps { OnOk result (emitted tree.new
+        ≡ emitted tree.old ++ steps_in_groups groups (role kind) step) }
     ensures built { OnOk result (IsBuilt tree.new) }
     ensures groups { IfOk result (λ n. n ≡ open_groups_after groups (role kind)) }
     ensures bound { IfOk result (λ n. n ≤ groups + 1) }
@@ -111,8 +118,10 @@ fn emit_nested(
     emit_exits(groups, tree)
 }
 
-// Emits the tokens from `from` up to `to`.
-fn emit_tokens(
+/// Emits the tokens from index `from` up to `to`, which is at most the number of tokens.
+///
+/// Fails only if memory runs out; what `tree` then holds is unspecified.
+pub fn emit_tokens(
     lexed: &LexedStr<'_>,
     from: usize,
     to: usize,
@@ -121,7 +130,7 @@ fn emit_tokens(
     requires ordered { from ≤ to }
     requires within { to ≤ length lexed.now.tokens }
     requires built { IsBuilt tree.old }
-    ensures steps { OnOk result (tree.new.steps.items ≡ tree.old.steps.items
+    ensures steps { OnOk result (emitted tree.new ≡ emitted tree.old
         ++ token_steps (token_start lexed.now.tokens from)
         (slice_range lexed.now.tokens from to)) }
     ensures built { OnOk result (IsBuilt tree.new) }
@@ -151,7 +160,7 @@ fn body_len(kinds: &[SyntaxKind], closed: bool) -> usize
 // Emits a node of this kind with the tokens from `from` up to `to`. Groups that are open at its end
 // end before the token that ends the statement and the trivia before it.
 #[tactic(auto, using(crate::proofs::ChildTokenLemmas::kinds_len))]
-fn emit_node(
+pub(crate) fn emit_plain_node(
     lexed: &LexedStr<'_>,
     from: usize,
     to: usize,
@@ -177,26 +186,29 @@ fn emit_node(
     Ok(())
 }
 
-// Emits the child of this shape with the tokens from `from` up to `to`.
-fn emit_child(
+// Emits the child of this shape whose first token is that at `from`.
+fn emit_child<G: ChildGrammar>(
+    grammar: &G,
     lexed: &LexedStr<'_>,
+    division: Division,
     from: usize,
-    to: usize,
     shape: ChildShape,
     tree: &mut TreeBuilder,
 ) -> Result<(), FrontError>
-    requires ordered { from < to }
-    requires within { to ≤ length lexed.now.tokens }
+    requires first { shape ≡ first_shape division (kinds_of (drop from lexed.now.tokens)) }
+    requires some { 1 ≤ shape.tokens }
+    requires within { from + shape.tokens ≤ length lexed.now.tokens }
     requires built { IsBuilt tree.old }
     ensures steps { OnOk result (tree.new.steps.items ≡ tree.old.steps.items
-        ++ without_errors (steps_of_shape shape (token_start lexed.now.tokens from)
-        (slice_range lexed.now.tokens from to))) }
+        ++ child_at (G.child grammar.now division) lexed.now.tokens from shape.tokens) }
     ensures built { OnOk result (IsBuilt tree.new) }
     ensures refusals { IfErr result IsOutOfMemory }
 {
+    // The number of tokens bounds the indices.
+    let _ = lexed.len();
     match shape.node {
-        None => emit_tokens(lexed, from, to, tree),
-        Some(node) => emit_node(lexed, from, to, shape, node, tree),
+        None => emit_tokens(lexed, from, from + shape.tokens, tree),
+        Some(node) => grammar.emit_node(lexed, division, from, shape, node, tree),
     }
 }
 
@@ -229,7 +241,8 @@ fn push_child(
 // Emits the steps of a text that is divided into statements, and appends the children of the root
 // and the errors up to the last unknown statement. Returns the index of the next lexical error.
 #[tactic(auto, using(crate::proofs::ChildTokenLemmas::kinds_len))]
-fn emit_children(
+fn emit_children<G: ChildGrammar>(
+    grammar: &G,
     lexed: &LexedStr<'_>,
     division: Division,
     tree: &mut TreeBuilder,
@@ -241,13 +254,13 @@ fn emit_children(
     requires no_children { children.old.items ≡ [] }
     requires no_errors { errors.old.items ≡ [] }
     ensures steps { OnOk result (tree.new.steps.items
-        ≡ without_errors (child_weave division lexed.now.tokens)) }
+        ≡ without_errors (woven_text (G.told grammar.now division) lexed.now.tokens)) }
     ensures built { OnOk result (IsBuilt tree.new) }
     ensures children { OnOk result (children.new.items ≡ child_spans tree.new.steps.items) }
     ensures errors { IfOk result (λ next. errors.new.items
         ++ drop next (errors_of 0 lexed.now.tokens)
         ≡ merged_errors 0 lexed.now.tokens (errors_of 0 lexed.now.tokens)
-        (child_weave division lexed.now.tokens)) }
+        (woven_text (G.told grammar.now division) lexed.now.tokens)) }
     ensures within { IfOk result (λ next. next ≤ length (errors_of 0 lexed.now.tokens)) }
     ensures refusals { IfErr result IsOutOfMemory }
 {
@@ -258,18 +271,46 @@ fn emit_children(
     let (mut at, mut error) = (0, 0);
     while at < kinds.len() {
         let shape = first_child_in(&kinds[at..], division);
-        let end = at + shape.tokens;
         push_child(children, lexed, at, &shape, tree.steps.len())?;
         error = push_child_errors(errors, lexed, Walk { token: at, error }, &shape)?;
-        emit_child(lexed, at, end, shape, tree)?;
-        at = end;
+        emit_child(grammar, lexed, division, at, shape, tree)?;
+        at += shape.tokens;
     }
     tree.push(StrStep::Exit)?;
     Ok(error)
 }
 
-// The parse of these tokens into statements.
-pub(crate) fn statement_tree(
+/// Parses the tokens of a text by a grammar of children, where `division` divides them into the
+/// children of the root. The only error is `OutOfMemory`.
+pub fn parse_children<G: ChildGrammar>(
+    alloc: Global,
+    lexed: &LexedStr<'_>,
+    division: Division,
+    grammar: &G,
+) -> Result<Parse, FrontError>
+    ensures parse { ParsesTokens (G.told grammar.now division) lexed.now result }
+    ensures sound { IsTrue (are_sound lexed.now.tokens) }
+    ensures refusals { IfErr result IsOutOfMemory }
+{
+    let mut tree = TreeBuilder::with_room(alloc, lexed.len());
+    let mut children = children_with_room(alloc, lexed.len() / TOKENS_PER_CHILD);
+    let mut errors = Vec::new(alloc);
+    let next = emit_children(
+        grammar,
+        lexed,
+        division,
+        &mut tree,
+        &mut children,
+        &mut errors,
+    )?;
+    let len = lexed.text_start(lexed.len());
+    push_lexical_errors(&mut errors, lexed, next, len)?;
+    tree.finish(children, errors, len as u32)
+}
+
+/// Parses the tokens of a text into statements, as `parse_divided` parses the text. The only error
+/// is `OutOfMemory`.
+pub fn parse_statements(
     alloc: Global,
     lexed: &LexedStr<'_>,
     division: Division,
@@ -278,11 +319,5 @@ pub(crate) fn statement_tree(
     ensures sound { IsTrue (are_sound lexed.now.tokens) }
     ensures refusals { IfErr result IsOutOfMemory }
 {
-    let mut tree = TreeBuilder::with_room(alloc, lexed.len());
-    let mut children = children_with_room(alloc, lexed.len() / TOKENS_PER_CHILD);
-    let mut errors = Vec::new(alloc);
-    let next = emit_children(lexed, division, &mut tree, &mut children, &mut errors)?;
-    let len = lexed.text_start(lexed.len());
-    push_lexical_errors(&mut errors, lexed, next, len)?;
-    tree.finish(children, errors, len as u32)
+    parse_children(alloc, lexed, division, &PlainChildren)
 }

@@ -2,6 +2,7 @@
 #![tactic(auto)]
 
 mod builder;
+mod child_grammar;
 mod child_steps;
 mod children;
 mod errors;
@@ -15,6 +16,9 @@ mod tables;
 #[cfg(test)]
 mod tests;
 
+pub use builder::TreeBuilder;
+pub use child_grammar::{ChildGrammar, PlainChildren};
+pub use child_steps::{emit_exits, emit_in_groups, emit_tokens, parse_children, parse_statements};
 pub use children::ChildSpan;
 pub use parse::Parse;
 pub use sink::TreeSink;

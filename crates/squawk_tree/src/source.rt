@@ -12,7 +12,7 @@ ghost use Rattle.squawk_tree.specs.ChildSteps.{IsWeaveOf, IsWoven};
 ghost use Rattle.squawk_tree.specs.Parses.{ParsesText, ParsesTokens};
 ghost use Rattle.squawk_tree.specs.Walk.{covers, errors_by_step};
 
-use crate::child_steps::statement_tree;
+use crate::child_steps::parse_statements;
 use crate::errors::{errors_of_steps, lexical_errors};
 use crate::laws::{children_join, parses_are_trees};
 use crate::parse::TreeParts;
@@ -171,7 +171,7 @@ pub fn parse_divided(
     children_join();
     parses_are_trees();
     let lexed = LexedStr::new_in(alloc, text, strings)?;
-    statement_tree(alloc, &lexed, division)
+    parse_statements(alloc, &lexed, division)
 }
 
 /// Parses a text into statements, where each semicolon ends one; `strings` says how plain

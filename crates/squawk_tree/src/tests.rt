@@ -4,9 +4,13 @@ mod grammar;
 mod ranges;
 mod sink;
 
-use crate::{ChildSpan, Division, Parse, Strings, parse_divided, parse_source, parse_with};
-use squawk_events::{ParseError, StrStep};
+use crate::{
+    ChildGrammar, ChildSpan, Division, Parse, PlainChildren, Strings, parse_children,
+    parse_divided, parse_source, parse_statements, parse_with,
+};
+use squawk_events::{FrontError, ParseError, StrStep};
 use squawk_kinds::SyntaxKind;
+use squawk_lexed::LexedStr;
 use squawk_statements::GroupedGrammar;
 use std::alloc::{AllocError, Global};
 use std::test::Fail;
@@ -191,6 +195,39 @@ fn divisions(rt: HostRuntime) -> Result<(), Fail> {
             .ok()
             .ok_or("no memory")?;
         assert_eq!(rt; parse.children().len(), children);
+    }
+    Ok(())
+}
+
+// The tree of a text by a grammar of children.
+fn tree_by<G: ChildGrammar>(alloc: Global, text: &str, grammar: &G) -> Result<Parse, FrontError> {
+    let lexed = LexedStr::new_in(alloc, text, Strings::Standard)?;
+    parse_children(alloc, &lexed, Division::Flat, grammar)
+}
+
+#[test]
+fn grammar_of_children(rt: HostRuntime) -> Result<(), Fail> {
+    for row in ROWS {
+        let parse = tree_by(rt.alloc(), row.text, &PlainChildren)
+            .ok()
+            .ok_or(row.name)?;
+        let lines = render(rt.alloc(), &parse, row.text)?;
+        assert_eq!(rt; lines.as_str(), row.lines);
+    }
+    Ok(())
+}
+
+#[test]
+fn tokens_have_trees(rt: HostRuntime) -> Result<(), Fail> {
+    for row in ROWS {
+        let lexed = LexedStr::new_in(rt.alloc(), row.text, Strings::Standard)
+            .ok()
+            .ok_or(row.name)?;
+        let parse = parse_statements(rt.alloc(), &lexed, Division::Flat)
+            .ok()
+            .ok_or(row.name)?;
+        let lines = render(rt.alloc(), &parse, row.text)?;
+        assert_eq!(rt; lines.as_str(), row.lines);
     }
     Ok(())
 }

@@ -6,13 +6,13 @@ use Rattle.squawk_tree.proofs.child_steps.emit_children.Given as goal
 
 -- what was emitted, and what the children of the tokens that are left have, are all
 abbrev pub invariant-loop-at : goal.invariant-loop-at
-invariant-loop-at l = record {
-  children : ChildrenSoFar l.division l.lexed.tokens l.at l.error l.tree.steps.items
-      l.children.items l.errors.items;
+invariant-loop-at g l = record {
+  children : ChildrenSoFar (g.G.ChildGrammar.child l.grammar l.division) l.division
+      l.lexed.tokens l.at l.error l.tree.steps.items l.children.items l.errors.items;
   built : IsBuilt l.tree;
   within : l.at ≤ length l.lexed.tokens;
   error_within : l.error ≤ length (errors_of 0 l.lexed.tokens);
 }
 
 abbrev pub decreases-loop-at : goal.decreases-loop-at
-decreases-loop-at l = length l.lexed.tokens - l.at
+decreases-loop-at g l = length l.lexed.tokens - l.at

@@ -1,5 +1,5 @@
 use Rattle.squawk_tree.proofs.ChildLoopLemmas.{node_emitted}
-use Rattle.squawk_tree.proofs.child_steps.emit_node.Goals as goal
+use Rattle.squawk_tree.proofs.child_steps.emit_plain_node.Goals as goal
 
 pub returns-clause-steps : goal.returns-clause-steps
 returns-clause-steps c =
