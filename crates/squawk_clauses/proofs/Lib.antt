@@ -5,3 +5,5 @@ mod WeaveWithout
 mod TreeWithout
 mod RootsWithout
 mod Divided
+mod SelectLemmas
+mod ChildEmitted

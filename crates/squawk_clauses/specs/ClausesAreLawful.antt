@@ -82,7 +82,7 @@ closes_select_kind d n m kind Open b xs = closes_other d n m kind Open b xs
 closes_select_kind d n m kind Close b xs = closes_other d n m kind Close b xs
 closes_select_kind d n m kind Other b xs = closes_other d n m kind Other b xs
 
-closes_select : (d : Division) (in_clause : Bool) (n m : ℕ) (kinds : List ℕ) (xs : List Step)
+pub closes_select : (d : Division) (in_clause : Bool) (n m : ℕ) (kinds : List ℕ) (xs : List Step)
     → closes (raised n (suc (depth_with_clause in_clause m)))
     (select_steps d in_clause n kinds ++ xs) ≡ closes (suc m) xs
 closes_select d in_clause n m [] xs =
@@ -125,7 +125,7 @@ either : (P : List Step → Type 0) (b : Bool) (xs ys : List Step) → P xs → 
 either P true xs ys first second = first
 either P false xs ys first second = second
 
-tokens_without : (nodes : List Bool) (xs : List Step)
+pub tokens_without : (nodes : List Bool) (xs : List Step)
     → token_kinds (without_clauses_from nodes xs) ≡ token_kinds xs
 tokens_without nodes [] = refl
 tokens_without nodes (Enter kind ∷ xs) =

@@ -8,5 +8,7 @@ pub mod Divided
 pub mod ClauseNodes
 pub mod PlainWithoutClauses
 pub mod ClausesAreLawful
+pub mod ClauseChildren
 -- What private functions need besides.
 pub mod Depth
+pub mod SelectTokens

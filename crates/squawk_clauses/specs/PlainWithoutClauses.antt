@@ -221,7 +221,7 @@ without_select_child d kinds nodes xs =
     ∙ without_select d false 0 kinds (false ∷ nodes) (Exit ∷ xs)
     ∙ sym (append_assoc (body_steps d 0 kinds) (Exit ∷ []) (without_clauses_from nodes xs))))
 
-without_child : (d : Division) (kinds : List ℕ) (nodes : List Bool) (xs : List Step)
+pub without_child : (d : Division) (kinds : List ℕ) (nodes : List Bool) (xs : List Step)
     → without_clauses_from nodes (clause_child_steps d kinds ++ xs)
     ≡ child_steps d kinds ++ without_clauses_from nodes xs
 without_child d kinds nodes xs =

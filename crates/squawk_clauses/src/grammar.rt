@@ -19,16 +19,16 @@ use std::marker::Model;
 
 // What is open at a token of a `SELECT` statement, in the node of the statement.
 #[derive(Clone, Copy)]
-struct OpenNodes {
+pub(crate) struct OpenNodes {
     // Whether a clause is open.
-    in_clause: bool,
+    pub(crate) in_clause: bool,
     // The number of open groups. They are in the clause, if there is one.
-    groups: usize,
+    pub(crate) groups: usize,
 }
 
 // The node of the clause that a kind inside `groups` groups begins, if it begins one.
 #[tactic(auto, unfolding(crate::specs::Clauses::clause_rows))]
-fn clause_begun(groups: usize, kind: SyntaxKind) -> Option<SyntaxKind>
+pub(crate) fn clause_begun(groups: usize, kind: SyntaxKind) -> Option<SyntaxKind>
     ensures { result ≡ clause_begun groups kind }
 {
     if groups > 0 {
@@ -156,7 +156,7 @@ fn emit_select(
 }
 
 // Whether a child with this node is divided into clauses.
-fn has_clauses(node: Option<SyntaxKind>) -> bool
+pub(crate) fn has_clauses(node: Option<SyntaxKind>) -> bool
     ensures { result ≡ (unwrap_or node ERROR == SELECT) }
 {
     matches!(node, Some(SyntaxKind::SELECT))

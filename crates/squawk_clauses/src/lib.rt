@@ -3,7 +3,9 @@
 
 mod grammar;
 pub mod laws;
+mod parse;
 #[cfg(test)]
 mod tests;
 
 pub use grammar::ClauseGrammar;
+pub use parse::parse_clauses;

@@ -2,9 +2,10 @@
 ghost use Rattle.std.specs.Prelude.{IfOk, IsTrue};
 ghost use Rattle.squawk_events.specs.Kinds.{has_no_trivia};
 
-use crate::ClauseGrammar;
+use crate::{ClauseGrammar, parse_clauses};
 use squawk_events::{EntryPoint, FrontError, Input, Step, StrStep};
 use squawk_kinds::SyntaxKind;
+use squawk_lexed::LexedStr;
 use squawk_lexer::Strings;
 use squawk_statements::Division;
 use squawk_tree::{Parse, parse_with_in};
@@ -320,6 +321,30 @@ fn lines_of(alloc: Global, text: &str, division: Division) -> Result<String, Fro
     Ok(render(alloc, &parse, text)?)
 }
 
+// The lines of the tree of the tokens of a text by this division.
+fn lines_of_tokens(alloc: Global, text: &str, division: Division) -> Result<String, FrontError> {
+    let lexed = LexedStr::new_in(alloc, text, Strings::Standard)?;
+    let parse = parse_clauses(alloc, &lexed, division)?;
+    Ok(render(alloc, &parse, text)?)
+}
+
+#[test]
+fn tokens_have_clauses(rt: HostRuntime) -> Result<(), Fail> {
+    for row in ROWS {
+        let lines = lines_of_tokens(rt.alloc(), row.text, Division::Flat)
+            .ok()
+            .ok_or(row.name)?;
+        assert_eq!(rt; lines.as_str(), row.lines);
+    }
+    for row in OTHER_ROWS {
+        let lines = lines_of_tokens(rt.alloc(), row.text, Division::Flat)
+            .ok()
+            .ok_or(row.name)?;
+        assert_eq!(rt; lines.as_str(), row.lines);
+    }
+    Ok(())
+}
+
 #[test]
 fn texts_have_clauses(rt: HostRuntime) -> Result<(), Fail> {
     for row in ROWS {
@@ -337,32 +362,35 @@ fn texts_have_clauses(rt: HostRuntime) -> Result<(), Fail> {
     Ok(())
 }
 
+const SEMICOLON_IN_GROUP: &str = "+ source file 0..21\n\
+    + select 0..21\n\
+    + select clause 0..14\n\
+    \"select\" `select` 0..6\n\
+    + paren expr 6..14\n\
+    \"(\" `(` 6..7\n\
+    \"a\" identifier 7..8\n\
+    \";\" `;` 8..9\n\
+    \"from\" `from` 9..13\n\
+    \")\" `)` 13..14\n\
+    -\n\
+    -\n\
+    + from clause 14..20\n\
+    \"from\" `from` 14..18\n\
+    \" \" whitespace 18..19\n\
+    \"b\" identifier 19..20\n\
+    -\n\
+    \";\" `;` 20..21\n\
+    -\n\
+    -\n";
+
 #[test]
 fn semicolon_in_group(rt: HostRuntime) -> Result<(), Fail> {
-    let lines = lines_of(rt.alloc(), "select(a;from)from b;", Division::Grouped)?;
-    assert_eq!(rt;
-        lines.as_str(),
-        "+ source file 0..21\n\
-        + select 0..21\n\
-        + select clause 0..14\n\
-        \"select\" `select` 0..6\n\
-        + paren expr 6..14\n\
-        \"(\" `(` 6..7\n\
-        \"a\" identifier 7..8\n\
-        \";\" `;` 8..9\n\
-        \"from\" `from` 9..13\n\
-        \")\" `)` 13..14\n\
-        -\n\
-        -\n\
-        + from clause 14..20\n\
-        \"from\" `from` 14..18\n\
-        \" \" whitespace 18..19\n\
-        \"b\" identifier 19..20\n\
-        -\n\
-        \";\" `;` 20..21\n\
-        -\n\
-        -\n"
-    );
+    for lines in [
+        lines_of(rt.alloc(), "select(a;from)from b;", Division::Grouped)?,
+        lines_of_tokens(rt.alloc(), "select(a;from)from b;", Division::Grouped)?,
+    ] {
+        assert_eq!(rt; lines.as_str(), SEMICOLON_IN_GROUP);
+    }
     Ok(())
 }
 
