@@ -4,11 +4,11 @@ use Rattle.std.proofs.lemmas.Str.{IsUtf8-drop}
 use Rattle.squawk_lexed.specs.LexedToken.{LexedToken}
 use Rattle.squawk_lexer.specs.LookAhead.{TextsProgress, TextsRestart}
 use Rattle.squawk_lexer.specs.declared.token.Strings.{Strings}
-use Rattle.squawk_split.specs.PieceLaws.{AreChildrenWithoutData, has_data, is_data, child_pieces}
+use Rattle.squawk_split.specs.PieceLaws.{PiecesTile, joined, AreChildrenOrData, AreChildrenWithoutData, has_data, is_data, child_pieces}
 use Rattle.squawk_split.specs.Pieces.{role_of, tokens_of, first_part, child_kind, first_piece, piece_at, pieces_from, pieces_of}
 use Rattle.squawk_split.specs.declared.pieces.Piece.{Piece}
 use Rattle.squawk_split.proofs.FitLemmas.{first_fits, first_len_some}
-use Rattle.squawk_split.proofs.PieceLemmas.{one_piece}
+use Rattle.squawk_split.proofs.PieceLemmas.{one_piece, pieces_tile, pieces_joined, pieces_are_cut}
 use Rattle.squawk_split.proofs.TokenSteps.{is_start_after, after, begins, not_at_start, tokens_none}
 use Rattle.squawk_statements.specs.Children.{first_child_len, parts_from, parts}
 use Rattle.squawk_statements.specs.declared.division.Division.{Division}
@@ -105,3 +105,21 @@ pub pieces_are_children : TextsProgress → TextsRestart → (s : Strings) (d : 
     (text : List ℕ) → IsUtf8 text → AreChildrenWithoutData s d text (pieces_of s d text)
 pieces_are_children progress restart s d text utf8 none =
     children_from progress restart (length text) s d 0 text utf8 (omega arith) none
+
+-- ---- the laws together
+
+-- what holds of the pieces of a script
+pub record PiecesMeet (s : Strings) (d : Division) (text : List ℕ) (ps : List Piece) : Type 0 where
+  pub tiles : PiecesTile text 0 ps
+  pub joined_is : joined text ps ≡ text
+  pub cuts : AreChildrenOrData s d text ps
+  pub children : AreChildrenWithoutData s d text ps
+
+pub pieces_meet : TextsProgress → TextsRestart → (s : Strings) (d : Division) (text : List ℕ)
+    (ps : List Piece) → IsUtf8 text → ps ≡ pieces_of s d text → PiecesMeet s d text ps
+pieces_meet progress restart s d text ps utf8 is = subst (PiecesMeet s d text) (sym is) (record {
+  tiles = pieces_tile progress restart s d text utf8;
+  joined_is = pieces_joined progress restart s d text utf8;
+  cuts = pieces_are_cut progress restart s d text utf8;
+  children = pieces_are_children progress restart s d text utf8;
+})

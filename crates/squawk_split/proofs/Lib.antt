@@ -2,6 +2,7 @@ pub mod DataLaws
 pub mod FromStdinLaws
 pub mod KindLemmas
 pub mod TokenSteps
+pub mod ReaderLemmas
 pub mod StatementLemmas
 pub mod FitLemmas
 pub mod PieceLemmas

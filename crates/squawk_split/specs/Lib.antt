@@ -5,3 +5,4 @@ pub mod Pieces
 pub mod PieceLaws
 -- For private functions.
 pub mod StatementEnds
+pub mod Reader

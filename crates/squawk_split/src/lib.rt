@@ -6,10 +6,11 @@ mod data;
 /// Laws of the definitions of COPY statements and their data: for proofs.
 pub mod laws;
 mod pieces;
+mod reader;
 mod statements;
 
 pub use data::copy_data_len;
-pub use pieces::{Piece, PieceKind, Pieces, split};
+pub use pieces::{Piece, PieceKind, Pieces, split, split_lexed};
 
 #[cfg(test)]
 mod tests;

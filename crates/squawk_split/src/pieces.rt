@@ -2,19 +2,21 @@
 ghost use Rattle.std.specs.Prelude.{◌≡◌, ◌==◌, ◌<◌, ◌≤◌, ◌^◌, ◌↔◌, drop, length, IfOk, IfErr, IsErrOf};
 ghost use Rattle.std.specs.Str.{IsCharBoundary};
 ghost use Rattle.squawk_events.specs.Limit.{limit};
-ghost use Rattle.squawk_events.specs.Refusals.{MayRefuse};
+ghost use Rattle.squawk_events.specs.Refusals.{IsOutOfMemory, MayRefuse};
 ghost use Rattle.squawk_kinds.specs.Role.{role};
+ghost use Rattle.squawk_lexed.specs.LexedText.{lexed_text};
 ghost use Rattle.squawk_split.specs.Pieces as spec;
 ghost use Rattle.squawk_split.specs.PieceLaws as law;
 ghost use Rattle.squawk_split.specs.StatementEnds.{single_piece, next_at};
 
 use crate::copy_data_len;
+use crate::reader::TokenReader;
 use crate::statements::statement_end;
 use squawk_events::{FrontError, LIMIT};
 use squawk_kinds::SyntaxKind;
-use squawk_lexed::kind_of;
+use squawk_lexed::LexedStr;
+use squawk_lexer::Strings;
 use squawk_lexer::laws::{tokens_progress, tokens_restart};
-use squawk_lexer::{Strings, cut_at_in};
 use squawk_statements::Division;
 use std::alloc::Global;
 use std::marker::Model;
@@ -91,28 +93,26 @@ fn single_piece(kind: SyntaxKind) -> Option<PieceKind>
 }
 
 // The child of the root that begins at `at`.
-fn next_child(text: &str, at: usize, strings: Strings, division: Division) -> NextPiece
-    requires inside { at < length text.now }
-    requires boundary { IsCharBoundary text.now at }
-    requires fits { length text.now < 2 ^ 32 }
-    ensures { result ≡ next_at at (spec.child_piece division
-        (spec.tokens_of strings (at == 0) (drop at text.now))) }
+fn next_child(reader: &mut TokenReader<'_>, at: usize, division: Division) -> NextPiece
+    requires inside { at < length reader.old.text }
+    requires boundary { IsCharBoundary reader.old.text at }
+    ensures same { reader.new ≡ reader.old }
+    ensures piece { result ≡ next_at at (spec.child_piece division
+        (spec.tokens_of reader.old.strings (at == 0) (drop at reader.old.text))) }
 {
-    let token = cut_at_in(text, at, strings);
-    let end = at + token.len as usize;
-    let first = kind_of(token.kind, &text[at..end]);
-    match single_piece(first) {
+    let first = reader.token_at(at);
+    match single_piece(first.kind) {
         Some(kind) => NextPiece {
             kind,
-            end,
+            end: first.end,
             data_follows: false,
         },
         None => {
-            let rest = statement_end(text, end, first, strings, division);
+            let rest = statement_end(reader, first.end, first.kind, division);
             NextPiece {
                 kind: PieceKind::Statement,
                 end: rest.end,
-                data_follows: first == SyntaxKind::COPY_KW && rest.from_stdin,
+                data_follows: first.kind == SyntaxKind::COPY_KW && rest.from_stdin,
             }
         }
     }
@@ -120,47 +120,74 @@ fn next_child(text: &str, at: usize, strings: Strings, division: Division) -> Ne
 
 // The piece that begins at `at`: COPY data, if `is_data` says so, or else a child of the root.
 fn data_or_child(
-    text: &str,
+    reader: &mut TokenReader<'_>,
     at: usize,
     is_data: bool,
-    strings: Strings,
     division: Division,
 ) -> NextPiece
-    requires inside { at < length text.now }
-    requires boundary { IsCharBoundary text.now at }
-    requires fits { length text.now < 2 ^ 32 }
-    ensures { result ≡ next_at at
-        (spec.first_piece strings division (at == 0) is_data (drop at text.now)) }
+    requires inside { at < length reader.old.text }
+    requires boundary { IsCharBoundary reader.old.text at }
+    ensures same { reader.new ≡ reader.old }
+    ensures piece { result ≡ next_at at (spec.first_piece reader.old.strings division (at == 0)
+        is_data (drop at reader.old.text)) }
 {
     if is_data {
         return NextPiece {
             kind: PieceKind::CopyData,
-            end: at + copy_data_len(&text.as_bytes()[at..]),
+            end: at + copy_data_len(&reader.text().as_bytes()[at..]),
             data_follows: false,
         };
     }
-    next_child(text, at, strings, division)
+    next_child(reader, at, division)
 }
 
 // The piece that begins at `at`. It has at least one byte and ends at a character boundary.
 fn next_piece(
-    text: &str,
+    reader: &mut TokenReader<'_>,
     at: usize,
     is_data: bool,
-    strings: Strings,
     division: Division,
 ) -> NextPiece
-    requires inside { at < length text.now }
-    requires boundary { IsCharBoundary text.now at }
-    requires fits { length text.now < 2 ^ 32 }
-    ensures piece { result ≡ next_at at
-        (spec.first_piece strings division (at == 0) is_data (drop at text.now)) }
+    requires inside { at < length reader.old.text }
+    requires boundary { IsCharBoundary reader.old.text at }
+    ensures same { reader.new ≡ reader.old }
+    ensures piece { result ≡ next_at at (spec.first_piece reader.old.strings division (at == 0)
+        is_data (drop at reader.old.text)) }
     ensures progress { at < result.end }
-    ensures ends_between { IsCharBoundary text.now result.end }
+    ensures ends_between { IsCharBoundary reader.old.text result.end }
 {
     tokens_progress();
     tokens_restart();
-    data_or_child(text, at, is_data, strings, division)
+    // The text is UTF-8: the call says so to the prover.
+    let _ = reader.text();
+    data_or_child(reader, at, is_data, division)
+}
+
+// The pieces of the script whose tokens the reader reads.
+fn read_pieces(
+    alloc: Global,
+    mut reader: TokenReader<'_>,
+    division: Division,
+) -> Result<Pieces, FrontError>
+    ensures pieces { IfOk result (λ pieces.
+        pieces ≡ spec.pieces_of reader.entry.strings division reader.entry.text) }
+    ensures refusals { IfErr result IsOutOfMemory }
+{
+    let len = reader.text().len();
+    let mut pieces = Vec::new(alloc);
+    let mut is_data = false;
+    let mut at = 0;
+    while at < len {
+        let next = next_piece(&mut reader, at, is_data, division);
+        pieces.push(Piece {
+            kind: next.kind,
+            start: at as u32,
+            end: next.end as u32,
+        })?;
+        is_data = next.data_follows;
+        at = next.end;
+    }
+    Ok(Pieces { pieces })
 }
 
 /// Splits a script of SQL and psql commands into pieces that can be run one by one. `strings` says
@@ -198,18 +225,36 @@ pub fn split(
     }
     tokens_progress();
     tokens_restart();
-    let mut pieces = Vec::new(alloc);
-    let mut is_data = false;
-    let mut at = 0;
-    while at < text.len() {
-        let next = next_piece(text, at, is_data, strings, division);
-        pieces.push(Piece {
-            kind: next.kind,
-            start: at as u32,
-            end: next.end as u32,
-        })?;
-        is_data = next.data_follows;
-        at = next.end;
-    }
-    Ok(Pieces { pieces })
+    let pieces = read_pieces(alloc, TokenReader::of_text(text, strings), division)?;
+    Ok(pieces)
+}
+
+/// Splits a script as [`split`] does, where its tokens were cut before: `lexed` is the script, cut
+/// with the same `strings`. Only the tokens after COPY data that the list does not have, and the
+/// trivia after a statement without an end, are cut again.
+///
+/// # Errors
+///
+/// `OutOfMemory` if there is not enough memory for the list.
+pub fn split_lexed(
+    alloc: Global,
+    lexed: &LexedStr<'_>,
+    strings: Strings,
+    division: Division,
+) -> Result<Pieces, FrontError>
+    requires lexed { lexed.now ≡ lexed_text strings lexed.now.text }
+    ensures pieces { IfOk result (λ pieces.
+        pieces ≡ spec.pieces_of strings division lexed.now.text) }
+    ensures tiles { IfOk result (law.PiecesTile lexed.now.text 0) }
+    ensures joined { IfOk result (λ pieces. law.joined lexed.now.text pieces ≡ lexed.now.text) }
+    ensures cuts { IfOk result (law.AreChildrenOrData strings division lexed.now.text) }
+    ensures children { IfOk result (law.AreChildrenWithoutData strings division lexed.now.text) }
+    ensures refusals { IfErr result IsOutOfMemory }
+{
+    tokens_progress();
+    tokens_restart();
+    // The text is UTF-8: the call says so to the prover.
+    let _ = lexed.as_str();
+    let pieces = read_pieces(alloc, TokenReader::of_lexed(lexed, strings), division)?;
+    Ok(pieces)
 }

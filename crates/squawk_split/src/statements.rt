@@ -6,10 +6,9 @@ ghost use Rattle.squawk_split.specs.Pieces.{tokens_of};
 ghost use Rattle.squawk_split.specs.StatementEnds.{start_state, state_after, end_from};
 ghost use Rattle.squawk_statements.specs.Children.{open_groups_after};
 
+use crate::reader::TokenReader;
 use squawk_events::is_trivia;
 use squawk_kinds::SyntaxKind;
-use squawk_lexed::kind_of;
-use squawk_lexer::{Strings, cut_at_in};
 use squawk_statements::{Division, ends_statement};
 
 // What was read of a statement: how many groups are open, whether its last kind is a FROM outside
@@ -69,34 +68,35 @@ pub(crate) struct StatementEnd {
 // Reads the rest of a statement whose first token has this kind and ends at `at`. Without a token
 // that ends it, it extends to the last token that is not trivia.
 pub(crate) fn statement_end(
-    text: &str,
+    reader: &mut TokenReader<'_>,
     at: usize,
     first: SyntaxKind,
-    strings: Strings,
     division: Division,
 ) -> StatementEnd
     requires some { 0 < at }
-    requires boundary { IsCharBoundary text.now at }
-    requires fits { length text.now < 2 ^ 32 }
-    ensures { result ≡ end_from division (state_after start_state first) at at
-        (tokens_of strings false (drop at text.now)) }
+    requires boundary { IsCharBoundary reader.old.text at }
+    ensures same { reader.new ≡ reader.old }
+    ensures end { result ≡ end_from division (state_after start_state first) at at
+        (tokens_of reader.old.strings false (drop at reader.old.text)) }
 {
+    let len = reader.text().len();
     let mut state = StatementState::start().after(first);
     let mut trimmed = at;
     let mut from = at;
-    while from < text.len() {
-        let token = cut_at_in(text, from, strings);
-        let end = from + token.len as usize;
-        let kind = kind_of(token.kind, &text[from..end]);
-        if ends_statement(division, state.groups, kind) {
-            let from_stdin = state.from_stdin && kind == SyntaxKind::SEMICOLON;
-            return StatementEnd { end, from_stdin };
+    while from < len {
+        let token = reader.token_at(from);
+        if ends_statement(division, state.groups, token.kind) {
+            let from_stdin = state.from_stdin && token.kind == SyntaxKind::SEMICOLON;
+            return StatementEnd {
+                end: token.end,
+                from_stdin,
+            };
         }
-        if !is_trivia(kind) {
-            state = state.after(kind);
-            trimmed = end;
+        if !is_trivia(token.kind) {
+            state = state.after(token.kind);
+            trimmed = token.end;
         }
-        from = end;
+        from = token.end;
     }
     StatementEnd {
         end: trimmed,

@@ -1,6 +1,7 @@
 //! Worked examples of COPY data and of scripts.
 use crate::PieceKind::{Command, CopyData, Gap, Statement};
-use crate::{PieceKind, copy_data_len, split};
+use crate::{PieceKind, Pieces, copy_data_len, split, split_lexed};
+use squawk_lexed::LexedStr;
 use squawk_lexer::Strings;
 use squawk_statements::Division;
 use std::alloc::Global;
@@ -147,6 +148,58 @@ const SCRIPTS: &[(&str, &str, &[(PieceKind, &str)])] = &[
         ],
     ),
     (
+        "data with a quote that the next statement closes",
+        "copy t from stdin;\nit's\n\\.\nselect 'a', 1; x;",
+        &[
+            (Statement, "copy t from stdin;"),
+            (CopyData, "\nit's\n\\.\n"),
+            (Statement, "select 'a', 1;"),
+            (Gap, " "),
+            (Statement, "x;"),
+        ],
+    ),
+    (
+        "data with a comment that is not closed",
+        "copy t from stdin;\n/* 1\n\\.\nselect 1;\n-- */\nx;",
+        &[
+            (Statement, "copy t from stdin;"),
+            (CopyData, "\n/* 1\n\\.\n"),
+            (Statement, "select 1;"),
+            (Gap, "\n"),
+            (Gap, "-- */"),
+            (Gap, "\n"),
+            (Statement, "x;"),
+        ],
+    ),
+    (
+        "data that ends in white space",
+        "copy t from stdin;\n\\.\n \n x",
+        &[
+            (Statement, "copy t from stdin;"),
+            (CopyData, "\n\\.\n"),
+            (Gap, " \n "),
+            (Statement, "x"),
+        ],
+    ),
+    (
+        "data that ends in a quoted name",
+        "copy t from stdin;\n\"\n\\.\n a \";\" b",
+        &[
+            (Statement, "copy t from stdin;"),
+            (CopyData, "\n\"\n\\.\n"),
+            (Gap, " "),
+            (Statement, "a \";\" b"),
+        ],
+    ),
+    (
+        "data up to the end, and a quote in it",
+        "copy t from stdin;\r\nit's\r\n\\.",
+        &[
+            (Statement, "copy t from stdin;"),
+            (CopyData, "\r\nit's\r\n\\."),
+        ],
+    ),
+    (
         "quote after a backslash",
         "select 'a\\';'",
         &[(Statement, "select 'a\\';"), (Statement, "'")],
@@ -209,6 +262,26 @@ const BACKSLASH: &[(&str, &str, &[(PieceKind, &str)])] = &[(
     &[(Statement, "select 'a\\';'")],
 )];
 
+// Compares the pieces of a script with those of a row.
+fn check_pieces(
+    rt: &impl Abort,
+    alloc: Global,
+    pieces: &Pieces,
+    row: (&str, &str, &[(PieceKind, &str)]),
+) -> Result<(), Fail> {
+    let (name, script, expected) = row;
+    let mut found = Vec::new(alloc);
+    for piece in pieces.pieces() {
+        let (start, end) = (piece.start as usize, piece.end as usize);
+        assert!(rt; start <= end);
+        assert!(rt; script.is_char_boundary(start) && script.is_char_boundary(end));
+        found.push((piece.kind, &script[start..end]))?;
+    }
+    assert_eq!(rt; found.as_slice(), expected, "{name}");
+    Ok(())
+}
+
+// Splits each script by itself, and by the tokens that were cut of it before.
 fn check_scripts(
     rt: &impl Abort,
     alloc: Global,
@@ -217,15 +290,12 @@ fn check_scripts(
     rows: &[(&str, &str, &[(PieceKind, &str)])],
 ) -> Result<(), Fail> {
     for &(name, script, expected) in rows {
+        let row = (name, script, expected);
         let pieces = split(alloc, script, strings, division)?;
-        let mut found = Vec::new(alloc);
-        for piece in pieces.pieces() {
-            let (start, end) = (piece.start as usize, piece.end as usize);
-            assert!(rt; start <= end);
-            assert!(rt; script.is_char_boundary(start) && script.is_char_boundary(end));
-            found.push((piece.kind, &script[start..end]))?;
-        }
-        assert_eq!(rt; found.as_slice(), expected, "{name}");
+        check_pieces(rt, alloc, &pieces, row)?;
+        let lexed = LexedStr::new_in(alloc, script, strings)?;
+        let pieces = split_lexed(alloc, &lexed, strings, division)?;
+        check_pieces(rt, alloc, &pieces, row)?;
     }
     Ok(())
 }
