@@ -1,9 +1,9 @@
 -- Laws of the values and of the texts that spell them.
 use Rattle.std.specs.Prelude.{◌≡◌, ◌<◌, ℕ, true, false, not, List, ◌∷◌, length, Some, None}
-use Rattle.squawk_lexer.specs.declared.token.TokenKind.TheVariants.{Literal}
-use Rattle.squawk_lexer.specs.declared.token.LiteralKind.TheVariants.{DollarQuotedString}
+use Rattle.squawk_lexer.specs.declared.token.TokenKind.TheVariants.{Literal, QuotedIdent}
+use Rattle.squawk_lexer.specs.declared.token.LiteralKind.TheVariants.{Str, DollarQuotedString}
 use Rattle.squawk_lexer.specs.Quoted.{quoted_len}
-use Rattle.squawk_quote.specs.Values.{escape_quotes, unescape_quotes, strip_ends, quoted_text, value_of, IsOneToken, dollar_constant, delimiter_fits, shortest_tag, has_tag}
+use Rattle.squawk_quote.specs.Values.{escape_quotes, unescape_quotes, strip_ends, quoted_text, value_of, IsOneToken, string_constant, quoted_identifier, dollar_constant, delimiter_fits, shortest_tag, has_tag}
 
 -- doubling the quotes of a value loses nothing
 abbrev pub EscapesAreUndone : Type 0
@@ -14,6 +14,25 @@ EscapesAreUndone = (q : ℕ) (value : List ℕ) → unescape_quotes q (escape_qu
 abbrev pub SpellingIsUnique : Type 0
 SpellingIsUnique = (q : ℕ) (rest : List ℕ) → quoted_len false q rest ≡ Some (length rest)
     → quoted_text q (unescape_quotes q (strip_ends 1 (q ∷ rest))) ≡ q ∷ rest
+
+-- the string constant of a value is one terminated token
+abbrev pub StringConstantsAreTokens : Type 0
+StringConstantsAreTokens =
+    (value : List ℕ) → IsOneToken (Literal (Str true)) (string_constant value)
+
+-- and has this value
+abbrev pub StringConstantsHaveTheirValue : Type 0
+StringConstantsHaveTheirValue = (value : List ℕ) → value_of (string_constant value) ≡ Some value
+
+-- the quoted identifier of a value is one terminated token, without Unicode escapes
+abbrev pub QuotedIdentifiersAreTokens : Type 0
+QuotedIdentifiersAreTokens =
+    (value : List ℕ) → IsOneToken (QuotedIdent true false) (quoted_identifier value)
+
+-- and has this value
+abbrev pub QuotedIdentifiersHaveTheirValue : Type 0
+QuotedIdentifiersHaveTheirValue =
+    (value : List ℕ) → value_of (quoted_identifier value) ≡ Some value
 
 -- the dollar-quoted string of a value is one terminated token
 abbrev pub DollarConstantsAreTokens : Type 0

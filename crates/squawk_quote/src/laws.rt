@@ -8,6 +8,18 @@ pub fn quotes_are_read_back()
     ensures spelling { spec.SpellingIsUnique }
 {}
 
+/// The string constant of a value is one terminated token, and has this value.
+pub fn string_constants_are_read_back()
+    ensures token { spec.StringConstantsAreTokens }
+    ensures value { spec.StringConstantsHaveTheirValue }
+{}
+
+/// The quoted identifier of a value is one terminated token, and has this value.
+pub fn quoted_identifiers_are_read_back()
+    ensures token { spec.QuotedIdentifiersAreTokens }
+    ensures value { spec.QuotedIdentifiersHaveTheirValue }
+{}
+
 /// The dollar-quoted string of a value is one terminated token, and has this value.
 pub fn dollar_constants_are_read_back()
     ensures token { spec.DollarConstantsAreTokens }

@@ -1,0 +1,8 @@
+use Rattle.squawk_quote.proofs.QuotedLaws as q
+use Rattle.squawk_quote.proofs.laws.string_constants_are_read_back.Goals as goal
+
+pub returns-clause-token : goal.returns-clause-token
+returns-clause-token c = q.string_token
+
+pub returns-clause-value : goal.returns-clause-value
+returns-clause-value c = q.string_value
