@@ -2,3 +2,4 @@ pub mod TokenLists
 pub mod TokenLaws
 pub mod SqueezeLaws
 pub mod SqueezeBytes
+pub mod LexedSteps

@@ -1,20 +1,25 @@
--- The squeezed text in bytes: one step of the loop of `squeeze`.
-use Rattle.std.proofs.Common.{◌≡◌, ℕ, ◌+◌, ◌<◌, ◌≤◌, true, false, List, [], ◌∷◌, ◌++◌, length, take, drop, Some, None, length-drop, length-append, append_assoc, refl, sym, ap, ◌∙◌, arith, IsUtf8}
-use Rattle.std.proofs.lemmas.Str.{chars-nil, chars_from_encodes, encodes-chars, encodes-append, IsUtf8-drop, length-encode}
-use Rattle.std.proofs.lemmas.List.{take-append-drop, drop-drop, length-take-le}
-use Rattle.std.proofs.lemmas.List.Sums.{sum_by-cons}
+-- The squeezed text in bytes: one step of a loop over tokens, and what holds of a result.
+use Rattle.std.proofs.Common.{◌≡◌, ℕ, zero, suc, ◌+◌, ◌-◌, ◌<◌, ◌≤◌, Bool, true, false, List, [], ◌∷◌, ◌++◌, length, take, drop, Some, None, length-drop, length-append, append_assoc, refl, sym, ap, ◌∙◌, cond, arith, IsUtf8}
+use Rattle.std.proofs.lemmas.Str.{len_utf8_bounds, chars-nil, chars_from_encodes, encodes-chars, encodes-append, IsUtf8-drop, length-encode}
+use Rattle.std.proofs.lemmas.List.{take-append-drop, drop-drop}
+use Rattle.std.proofs.lemmas.List.Sums.{sum_by-cons, sum_by-append}
 use Rattle.std.proofs.Math.Seq.{take-append_seam, drop-append_seam}
 use Rattle.std.proofs.lemmas.Bool.Decides.{nat_tests}
 use Rattle.std.specs.Bool.{◌==◌}
+use Rattle.std.specs.Prelude.{⊤}
 use Rattle.squawk_lexer.specs.Laws.{TokensProgress}
 use Rattle.std.specs.Char.{len_utf8, encode_utf8}
 use Rattle.std.specs.Str.{chars, encode_utf8_all, IsCharBoundary}
+use Rattle.std.specs.String.{string_bytes}
 use Rattle.squawk_lexer.specs.declared.token.Token.{Token}
 use Rattle.squawk_lexer.specs.declared.token.Strings.{Strings}
+use Rattle.squawk_lexer.specs.declared.token.TokenKind.{TokenKind}
 use Rattle.squawk_lexer.specs.Text.{utf8_len}
 use Rattle.squawk_lexer.specs.Token.{lexeme_at, token_at}
 use Rattle.squawk_lexer.specs.Cut.{is_trivia}
-use Rattle.squawk_squeeze.specs.Squeezed.{TextToken, text_token, text_tokens_from, TriviaRun, extend_run, prepend_separator, squeeze_tokens, text_of, squeezed_rest, separator_bytes, separator_len, squeezed_text, without_trivia, text_tokens, IsSqueezed, KeepsTokens, IsUnchangedBySqueezing}
+use Rattle.squawk_squeeze.specs.declared.text.Squeezer.{Squeezer}
+use Rattle.squawk_squeeze.specs.Squeezed.{TextToken, text_token, text_tokens_from, TriviaRun, extend_run, prepend_separator, squeeze_tokens, text_of, tokens_after, separator_bytes, squeezed_bytes, IsPushed, squeezed_text, without_trivia, text_tokens, IsSqueezed, KeepsTokens, IsUnchangedBySqueezing}
+use Rattle.squawk_squeeze.proofs.TokenLaws.{texts_add_up}
 use Rattle.squawk_squeeze.proofs.TokenLists.{text_tokens_first}
 use Rattle.squawk_squeeze.proofs.SqueezeLaws.{LexerLaws, keeps_tokens, squeeze_idempotent}
 
@@ -65,19 +70,13 @@ some_chars bs utf8 h = by (chars bs) (encodes-chars bs utf8)
     by [] e = absurd (let none : length bs ≡ 0 = ap length (sym e) in omega arith)
     by (c ∷ cs) e = omega arith
 
-record IsStep (strings : Strings) (text : List ℕ) (at : ℕ) (t : Token) (part : List ℕ) : Type 0
-  where
-    text_tokens : text_tokens_from strings 0 (at == 0) (chars (drop at text))
-        ≡ text_token t.kind (chars part) ∷ text_tokens_from strings 0 (at + t.len == 0)
-        (chars (drop (at + t.len) text))
-    spelt : encode_utf8_all (chars part) ≡ part
-
-step : TokensProgress → (strings : Strings) (text : List ℕ) (at : ℕ) (t : Token) (part : List ℕ)
+pub step : TokensProgress → (strings : Strings) (text : List ℕ) (at : ℕ) (t : Token) (part : List ℕ)
     → IsUtf8 text → IsCharBoundary text at → at < length text
     → IsCharBoundary text (at + t.len) → 0 < t.len
     → t ≡ token_at strings (at == 0) (chars (drop at text)) → part ≡ take t.len (drop at text)
     → IsUtf8 part
-    → IsStep strings text at t part
+    → tokens_after strings text at
+    ≡ text_token t.kind (chars part) ∷ tokens_after strings text (at + t.len)
 step some strings text at t part utf8 here within there long is e part_utf8 =
     let bs = drop at text in
     let u = chars bs in
@@ -96,33 +95,24 @@ step some strings text at t part utf8 here within there long is e part_utf8 =
     (IsUtf8-drop text (at + t.len) utf8 there) rest_is in
     let more : (at + t.len == 0) ≡ false = grind (arith, nat_tests) in
     let full : 1 ≤ length u = some_chars bs bs_utf8 (omega (arith, length-drop at text)) in
-    record {
-      text_tokens = text_tokens_first some strings s u full
-          ∙ ap (λ y. text_token (lexeme_at strings s u).kind y
-          ∷ text_tokens_from strings 0 false (drop k u)) front
-          ∙ ap (λ y. text_token y (chars part) ∷ text_tokens_from strings 0 false (drop k u))
-          (sym kind)
-          ∙ ap (λ y. text_token t.kind (chars part) ∷ text_tokens_from strings 0 false y) rest
-          ∙ ap (λ b. text_token t.kind (chars part)
-          ∷ text_tokens_from strings 0 b (chars (drop (at + t.len) text))) (sym more);
-      spelt = encodes-chars part part_utf8;
-    }
+    text_tokens_first some strings s u full
+    ∙ ap (λ y. text_token (lexeme_at strings s u).kind y
+    ∷ text_tokens_from strings 0 false (drop k u)) front
+    ∙ ap (λ y. text_token y (chars part) ∷ text_tokens_from strings 0 false (drop k u))
+    (sym kind)
+    ∙ ap (λ y. text_token t.kind (chars part) ∷ text_tokens_from strings 0 false y) rest
+    ∙ ap (λ b. text_token t.kind (chars part)
+    ∷ text_tokens_from strings 0 b (chars (drop (at + t.len) text))) (sym more)
 
--- a token of trivia extends the run
-pub rest_after_trivia : TokensProgress
-    → (strings : Strings) (text : List ℕ) (at : ℕ) (t : Token) (part : List ℕ) → IsUtf8 text
-    → IsCharBoundary text at → at < length text
-    → IsCharBoundary text (at + t.len) → 0 < t.len
-    → t ≡ token_at strings (at == 0) (chars (drop at text)) → part ≡ take t.len (drop at text)
-    → IsUtf8 part
-    → (run : TriviaRun) → is_trivia t.kind ≡ true
-    → squeezed_rest strings run text at
-    ≡ squeezed_rest strings (extend_run run (chars part)) text (at + t.len)
-rest_after_trivia some strings text at t part utf8 here within there long is e part_utf8 run
-    gap_is =
-    let x = step some strings text at t part utf8 here within there long is e part_utf8 in
-    ap (λ ps. text_of (squeeze_tokens run ps)) x.text_tokens ∙ rw gap_is refl
+-- at the end of the text there is no token
+tokens_end : (strings : Strings) (text : List ℕ) (at : ℕ) → length text ≤ at
+    → tokens_after strings text at ≡ []
+tokens_end strings text at h = ap (text_tokens_from strings 0 (at == 0))
+    (chars_none (drop at text) (omega (arith, length-drop at text)))
 
+-- ---- one more token
+
+-- the separator of a run, and then tokens
 separator_spelling : (run : TriviaRun) (p : TextToken) (ps : List TextToken)
     → encode_utf8_all (text_of (prepend_separator run (p ∷ ps)))
     ≡ separator_bytes run ++ (encode_utf8_all p.text ++ encode_utf8_all (text_of ps))
@@ -131,43 +121,57 @@ separator_spelling None p ps = encodes-append p.text (text_of ps)
 separator_spelling (Some true) p ps = ap (λ w. 10 ∷ w) (encodes-append p.text (text_of ps))
 separator_spelling (Some false) p ps = ap (λ w. 32 ∷ w) (encodes-append p.text (text_of ps))
 
+-- output that grew by a separator and a token, before what follows them
+put_kept : (new mid out sep part rest whole : List ℕ) → new ≡ mid ++ part → mid ≡ out ++ sep
+    → whole ≡ sep ++ (part ++ rest) → new ++ rest ≡ out ++ whole
+put_kept new mid out sep part rest whole e f g =
+    ap (λ w. w ++ rest) (e ∙ ap (λ w. w ++ part) f) ∙ append_assoc (out ++ sep) part rest
+    ∙ append_assoc out sep (part ++ rest) ∙ ap (λ w. out ++ w) (sym g)
+
 -- any other token follows the separator of the run
-pub rest_after_token : TokensProgress
-    → (strings : Strings) (text : List ℕ) (at : ℕ) (t : Token) (part : List ℕ) → IsUtf8 text
-    → IsCharBoundary text at → at < length text
-    → IsCharBoundary text (at + t.len) → 0 < t.len
-    → t ≡ token_at strings (at == 0) (chars (drop at text)) → part ≡ take t.len (drop at text)
-    → IsUtf8 part
-    → (run : TriviaRun) → is_trivia t.kind ≡ false
-    → encode_utf8_all (squeezed_rest strings run text at)
-    ≡ separator_bytes run
-    ++ (part ++ encode_utf8_all (squeezed_rest strings None text (at + t.len)))
-rest_after_token some strings text at t part utf8 here within there long is e part_utf8 run gap_is =
-    let x = step some strings text at t part utf8 here within there long is e part_utf8 in
-    let rest = squeeze_tokens None (text_tokens_from strings 0 (at + t.len == 0)
-    (chars (drop (at + t.len) text))) in
-    ap (λ ps. encode_utf8_all (text_of (squeeze_tokens run ps))) x.text_tokens
-    ∙ rw gap_is (separator_spelling run (text_token t.kind (chars part)) rest
-    ∙ ap (λ w. separator_bytes run ++ (w ++ encode_utf8_all (text_of rest))) x.spelt)
+pub push_other : (new mid out : List ℕ) (run : TriviaRun) (part : List ℕ) (kind : TokenKind)
+    (ts : List TextToken) → IsUtf8 part → new ≡ mid ++ part → mid ≡ out ++ separator_bytes run
+    → is_trivia kind ≡ false
+    → new ++ encode_utf8_all (text_of (squeeze_tokens None ts))
+    ≡ out ++ encode_utf8_all (text_of (squeeze_tokens run (text_token kind (chars part) ∷ ts)))
+push_other new mid out run part kind ts utf8 e f h =
+    let rest = squeeze_tokens None ts in
+    put_kept new mid out (separator_bytes run) part (encode_utf8_all (text_of rest)) _ e f
+    (rw h (separator_spelling run (text_token kind (chars part)) rest
+    ∙ ap (λ w. separator_bytes run ++ (w ++ encode_utf8_all (text_of rest)))
+    (encodes-chars part utf8)))
 
--- at the end of the text, the separator of the run is left
-pub rest_at_end : (strings : Strings) (text : List ℕ) (at : ℕ) (run : TriviaRun) → length text ≤ at
-    → encode_utf8_all (squeezed_rest strings run text at) ≡ separator_bytes run
+-- after the last token, the separator of the run is left
+pub push_last : (new out : List ℕ) (run : TriviaRun) → new ≡ out ++ separator_bytes run
+    → new ≡ out ++ encode_utf8_all (text_of (squeeze_tokens run []))
 unfolding encode_utf8
-rest_at_end strings text at run h =
-    by (chars (drop at text)) (chars_none (drop at text) (omega (arith, length-drop at text)))
-  where
-    alone : (o : TriviaRun) → encode_utf8_all (text_of (prepend_separator o [])) ≡ separator_bytes o
-    alone None = refl
-    alone (Some true) = refl
-    alone (Some false) = refl
+push_last new out None e = e
+push_last new out (Some true) e = e
+push_last new out (Some false) e = e
 
-    by : (u : List ℕ) → u ≡ []
-        → encode_utf8_all (text_of (squeeze_tokens run (text_tokens_from strings 0 (at == 0) u)))
-        ≡ separator_bytes run
-    by u e = ap (λ w.
-        encode_utf8_all (text_of (squeeze_tokens run (text_tokens_from strings 0 (at == 0) w)))) e
-        ∙ alone run
+-- before the first token
+pub no_tokens : (s : Squeezer) (ts : List TextToken) → string_bytes s.out ≡ [] → s.run ≡ None
+    → squeezed_bytes s ts ≡ encode_utf8_all (text_of (squeeze_tokens None ts))
+no_tokens s ts e f =
+    ap (λ w. w ++ encode_utf8_all (text_of (squeeze_tokens s.run ts))) e
+    ∙ ap (λ run. encode_utf8_all (text_of (squeeze_tokens run ts))) f
+
+-- a token joins what was squeezed before
+pub pushed : (trivia : Bool) (part : List ℕ) (old new : Squeezer) (kind : TokenKind)
+    (us ts : List TextToken) (whole : List ℕ) → IsPushed trivia (chars part) old new
+    → is_trivia kind ≡ trivia → us ≡ text_token kind (chars part) ∷ ts
+    → squeezed_bytes old us ≡ whole → squeezed_bytes new ts ≡ whole
+pushed trivia part old new kind us ts whole is h e inv =
+    is kind ts h ∙ ap (squeezed_bytes old) (sym e) ∙ inv
+
+-- the output of all tokens
+pub output_is : (s : Squeezer) (strings : Strings) (text : List ℕ) (at : ℕ) (out whole : List ℕ)
+    → out ≡ squeezed_bytes s [] → length text ≤ at
+    → squeezed_bytes s (tokens_after strings text at) ≡ whole → out ≡ whole
+output_is s strings text at out whole e h inv =
+    e ∙ ap (squeezed_bytes s) (sym (tokens_end strings text at h)) ∙ inv
+
+-- ---- what holds of a result
 
 -- a result that is the squeezed text has the tokens of the text, trivia left out
 pub result_keeps_tokens : LexerLaws → (strings : Strings) (text out : List ℕ) → IsUtf8 out
@@ -185,35 +189,96 @@ result_is_unchanged laws strings text out utf8 is =
     chars_from_encodes (squeezed_text strings (chars text)) out utf8 (sym is) in
     ap (squeezed_text strings) (sym same) ∙ squeeze_idempotent laws strings (chars text) ∙ same
 
--- what a step appends to the output, and how long it is then
-pub separator_bytes_len : (run : TriviaRun) → length (separator_bytes run) ≡ separator_len run
-separator_bytes_len None = refl
-separator_bytes_len (Some b) = refl
+-- ---- the squeezed text is no longer than the text
 
-pub separator_len_one : (run : TriviaRun) → separator_len run ≤ 1
-separator_len_one None = omega arith
-separator_len_one (Some b) = omega arith
+-- each token has a character
+abbrev AreFull : List TextToken → Type 0
+AreFull [] = ⊤
+AreFull (t ∷ ts) = (1 ≤ utf8_len t.text) × AreFull ts
 
-pub put_kept : (new mid out sep part rest whole : List ℕ) → new ≡ mid ++ part → mid ≡ out ++ sep
-    → whole ≡ sep ++ (part ++ rest) → new ++ rest ≡ out ++ whole
-put_kept new mid out sep part rest whole e f g =
-    ap (λ w. w ++ rest) (e ∙ ap (λ w. w ++ part) f) ∙ append_assoc (out ++ sep) part rest
-    ∙ append_assoc out sep (part ++ rest) ∙ ap (λ w. out ++ w) (sym g)
+-- so it has a byte
+some_bytes : (n c : ℕ) (cs : List ℕ) → 1 ≤ n → 1 ≤ utf8_len (take n (c ∷ cs))
+some_bytes zero c cs h = absurd (omega arith)
+some_bytes (suc n) c cs h =
+    omega (arith, sum_by-cons len_utf8 c (take n cs), (len_utf8_bounds c).0)
 
-pub put_len : (new mid out sep part : List ℕ) → new ≡ mid ++ part → mid ≡ out ++ sep
-    → length new ≡ length out + length sep + length part
-put_len new mid out sep part e f =
-    ap length e ∙ length-append mid part ∙ ap (λ w. length w + length part) f
-    ∙ ap (λ n. n + length part) (length-append out sep)
+are_full : TokensProgress → (strings : Strings) (inside : ℕ) (s : Bool) (u : List ℕ)
+    → AreFull (text_tokens_from strings inside s u)
+are_full some strings zero s [] = tt
+are_full some strings (suc n) s [] = tt
+are_full some strings zero s (c ∷ cs) =
+    let n = (lexeme_at strings s (c ∷ cs)).end in
+    let own = some_bytes n c cs (some strings s (c ∷ cs) (omega arith)) in
+    (own, are_full some strings (n - 1) false cs)
+are_full some strings (suc n) s (c ∷ cs) = are_full some strings n s cs
 
-pub put_last : (strings : Strings) (text : List ℕ) (at : ℕ) (run : TriviaRun)
-    (new out whole : List ℕ)
-    → new ≡ out ++ separator_bytes run → length text ≤ at
-    → out ++ encode_utf8_all (squeezed_rest strings run text at) ≡ whole → new ≡ whole
-put_last strings text at run new out whole e h inv = e
-    ∙ ap (λ w. out ++ w) (sym (rest_at_end strings text at run h)) ∙ inv
+-- lengths of two texts, and of a text after the separator of a run
+utf8_append : (u v : List ℕ) → utf8_len (u ++ v) ≡ utf8_len u + utf8_len v
+utf8_append u v = sum_by-append len_utf8 u v
 
-pub part_len : (part text : List ℕ) (at n : ℕ) → part ≡ take n (drop at text) → at + n ≤ length text
-    → length part ≡ n
-part_len part text at n e h = ap length e
-    ∙ length-take-le n (drop at text) (omega (arith, length-drop at text))
+-- the number of bytes that a run becomes
+abbrev separator_len : TriviaRun → ℕ
+separator_len None = 0
+separator_len (Some b) = 1
+
+run_len : (run : TriviaRun) → separator_len run ≤ 1
+run_len None = omega arith
+run_len (Some b) = omega arith
+
+prepend_len : (run : TriviaRun) (ts : List TextToken)
+    → utf8_len (text_of (prepend_separator run ts)) ≡ separator_len run + utf8_len (text_of ts)
+prepend_len None ts = omega arith
+prepend_len (Some true) ts = omega (arith, sum_by-cons len_utf8 10 (text_of ts))
+prepend_len (Some false) ts = omega (arith, sum_by-cons len_utf8 32 (text_of ts))
+
+-- a run becomes at most as many bytes as it had
+squeezed_len : (run : TriviaRun) (ts : List TextToken) → AreFull ts
+    → utf8_len (text_of (squeeze_tokens run ts)) ≤ separator_len run + utf8_len (text_of ts)
+squeezed_len run [] full = omega (arith, prepend_len run [])
+squeezed_len run (t ∷ ts) full =
+    by (is_trivia t.kind) (squeezed_len (extend_run run t.text) ts full.1)
+    (squeezed_len None ts full.1)
+  where
+    by : (b : Bool)
+        → utf8_len (text_of (squeeze_tokens (extend_run run t.text) ts))
+        ≤ separator_len (extend_run run t.text) + utf8_len (text_of ts)
+        → utf8_len (text_of (squeeze_tokens None ts)) ≤ separator_len None + utf8_len (text_of ts)
+        → utf8_len (text_of (cond b (squeeze_tokens (extend_run run t.text) ts)
+        (prepend_separator run (t ∷ squeeze_tokens None ts))))
+        ≤ separator_len run + utf8_len (t.text ++ text_of ts)
+    by true more next = omega (
+      arith,
+      more,
+      full.0,
+      run_len (extend_run run t.text),
+      utf8_append t.text (text_of ts),
+    )
+    by false more next = omega (
+      arith,
+      next,
+      prepend_len run (t ∷ squeeze_tokens None ts),
+      utf8_append t.text (text_of (squeeze_tokens None ts)),
+      utf8_append t.text (text_of ts),
+    )
+
+-- the squeezed text is no longer than the text
+pub squeezed_is_no_longer : TokensProgress → (strings : Strings) (text : List ℕ)
+    → utf8_len (squeezed_text strings text) ≤ utf8_len text
+squeezed_is_no_longer some strings text =
+    let ts = text_tokens strings text in
+    let all : utf8_len (text_of ts) ≡ utf8_len text = ap utf8_len (texts_add_up some strings text)
+    in
+    omega (arith, squeezed_len None ts (are_full some strings 0 true text), all)
+
+-- nor is a result that is the squeezed text
+pub result_is_no_longer : TokensProgress → (strings : Strings) (text out : List ℕ) → IsUtf8 text
+    → IsSqueezed strings text out → length out ≤ length text
+result_is_no_longer some strings text out utf8 is =
+    omega (
+      arith,
+      ap length is,
+      length_encodes (squeezed_text strings (chars text)),
+      squeezed_is_no_longer some strings (chars text),
+      length_encodes (chars text),
+      ap length (encodes-chars text utf8),
+    )

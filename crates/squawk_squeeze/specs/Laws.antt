@@ -1,12 +1,12 @@
 -- Laws of the definitions of squeezing, in the words of the subject.
-use Rattle.std.specs.Prelude.{◌≡◌, ◌<◌, ℕ, Bool, true, false, ◌&&◌, List, [], ◌∷◌, ◌++◌, length, None}
+use Rattle.std.specs.Prelude.{◌≡◌, ◌<◌, ◌≤◌, ℕ, Bool, true, false, ◌&&◌, List, [], ◌∷◌, ◌++◌, length, None}
 use Rattle.std.specs.List.{list_any}
 use Rattle.squawk_lexer.specs.declared.token.Token.{Token}
 use Rattle.squawk_lexer.specs.declared.token.Strings.{Strings}
 use Rattle.squawk_lexer.specs.Classes.{is_line_end}
 use Rattle.squawk_lexer.specs.Cut.{is_trivia, tokens}
 use Rattle.squawk_lexer.specs.Text.{utf8_len}
-use Rattle.squawk_squeeze.specs.Squeezed.{TextToken, text_tokens, text_of, squeeze_tokens, separator_token}
+use Rattle.squawk_squeeze.specs.Squeezed.{TextToken, text_tokens, text_of, without_trivia, squeeze_tokens, squeezed_text, separator_token}
 
 -- the tokens as the lexer returns them: kinds, and lengths in bytes
 abbrev pub lengths_of : List TextToken → List Token
@@ -45,3 +45,19 @@ RunsBecomeOneCharacter =
 abbrev pub OtherTokensAreKept : Type 0
 OtherTokensAreKept = (t : TextToken) (rest : List TextToken) → is_trivia t.kind ≡ false
     → squeeze_tokens None (t ∷ rest) ≡ t ∷ squeeze_tokens None rest
+
+-- the squeezed text has the tokens of the text, with their kinds and texts, but for trivia
+abbrev pub SqueezingKeepsTokens : Type 0
+SqueezingKeepsTokens = (strings : Strings) (text : List ℕ)
+    → without_trivia (text_tokens strings (squeezed_text strings text))
+    ≡ without_trivia (text_tokens strings text)
+
+-- squeezing twice is squeezing once
+abbrev pub SqueezingTwiceIsOnce : Type 0
+SqueezingTwiceIsOnce = (strings : Strings) (text : List ℕ)
+    → squeezed_text strings (squeezed_text strings text) ≡ squeezed_text strings text
+
+-- the squeezed text has no more bytes than the text
+abbrev pub SqueezedIsNoLonger : Type 0
+SqueezedIsNoLonger = (strings : Strings) (text : List ℕ)
+    → utf8_len (squeezed_text strings text) ≤ utf8_len text

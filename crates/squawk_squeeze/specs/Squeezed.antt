@@ -2,12 +2,14 @@
 use Rattle.std.specs.Prelude.{◌≡◌, ℕ, zero, suc, ◌-◌, Bool, true, false, ◌||◌, List, [], ◌∷◌, ◌++◌, ◌==◌, take, drop, Option, Some, None, if◌then◌else◌}
 use Rattle.std.specs.List.{list_any}
 use Rattle.std.specs.Str.{chars, encode_utf8_all}
+use Rattle.std.specs.String.{string_bytes}
 use Rattle.squawk_lexer.specs.declared.token.TokenKind.{TokenKind}
 use Rattle.squawk_lexer.specs.declared.token.TokenKind.TheVariants.{Whitespace}
 use Rattle.squawk_lexer.specs.declared.token.Strings.{Strings}
 use Rattle.squawk_lexer.specs.Classes.{is_line_end, line_feed}
 use Rattle.squawk_lexer.specs.Token.{lexeme_at}
 use Rattle.squawk_lexer.specs.Cut.{is_trivia}
+use Rattle.squawk_squeeze.specs.declared.text.Squeezer.{Squeezer}
 
 -- ---- tokens with their texts
 
@@ -98,17 +100,20 @@ IsUnchangedBySqueezing strings out = squeezed_text strings (chars out) ≡ chars
 
 -- ---- for private functions
 
--- the squeezed text of the tokens from byte `at` on, where `run` precedes them
-abbrev pub squeezed_rest : Strings → TriviaRun → List ℕ → ℕ → List ℕ
-squeezed_rest strings run text at =
-    text_of (squeeze_tokens run (text_tokens_from strings 0 (at == 0) (chars (drop at text))))
-
--- the number of bytes that a run becomes
-abbrev pub separator_len : TriviaRun → ℕ
-separator_len None = 0
-separator_len (Some line_end) = 1
+-- the tokens of a text from byte `at` on
+abbrev pub tokens_after : Strings → List ℕ → ℕ → List TextToken
+tokens_after strings text at = text_tokens_from strings 0 (at == 0) (chars (drop at text))
 
 -- the bytes that a run becomes
 abbrev pub separator_bytes : TriviaRun → List ℕ
 separator_bytes None = []
 separator_bytes (Some line_end) = separator line_end ∷ []
+
+-- the output where these tokens follow those so far
+abbrev pub squeezed_bytes : Squeezer → List TextToken → List ℕ
+squeezed_bytes s ts = string_bytes s.out ++ encode_utf8_all (text_of (squeeze_tokens s.run ts))
+
+-- a token that is trivia or not, with this text, joined those so far, whatever tokens follow
+abbrev pub IsPushed : Bool → List ℕ → Squeezer → Squeezer → Type 0
+IsPushed trivia text old new = (kind : TokenKind) (ts : List TextToken) → is_trivia kind ≡ trivia
+    → squeezed_bytes new ts ≡ squeezed_bytes old (text_token kind text ∷ ts)

@@ -5,7 +5,7 @@
 pub mod laws;
 mod text;
 
-pub use text::squeeze;
+pub use text::{squeeze, squeeze_lexed};
 
 #[cfg(test)]
 mod tests;

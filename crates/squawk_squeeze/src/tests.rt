@@ -1,5 +1,6 @@
 //! Worked examples of squeezing.
-use crate::squeeze;
+use crate::{squeeze, squeeze_lexed};
+use squawk_lexed::LexedStr;
 use squawk_lexer::Strings;
 use std::alloc::Global;
 use std::process::Abort;
@@ -40,6 +41,9 @@ fn check_rows(
     for &(name, text, squeezed) in rows {
         let got = squeeze(alloc, text, strings)?;
         assert_eq!(rt; got.as_str(), squeezed, "{name}");
+        let lexed = LexedStr::new_in(alloc, text, strings)?;
+        let got = squeeze_lexed(alloc, &lexed)?;
+        assert_eq!(rt; got.as_str(), squeezed, "{name}, cut before");
     }
     Ok(())
 }

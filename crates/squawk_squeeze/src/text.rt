@@ -1,15 +1,18 @@
 //! Replaces each run of white space and comments by one character.
-ghost use Rattle.std.specs.Prelude.{◌≡◌, ◌++◌, ◌≤◌, ◌<◌, ◌↔◌, length, IfOk, IfErr, OnOk, IsErrOf};
+ghost use Rattle.std.specs.Prelude.{◌≡◌, ◌++◌, ◌≤◌, ◌<◌, ◌↔◌, ℕ, List, [], length, None, IfOk, IfErr, OnOk, IsErrOf};
 ghost use Rattle.std.specs.List.{list_any};
 ghost use Rattle.std.specs.Str.{chars};
 ghost use Rattle.std.specs.String.{string_bytes};
 ghost use Rattle.squawk_events.specs.Limit.{limit};
-ghost use Rattle.squawk_events.specs.Refusals.{MayRefuse};
+ghost use Rattle.squawk_events.specs.Refusals.{IsOutOfMemory, MayRefuse};
+ghost use Rattle.squawk_lexed.specs.LexedText.{lexed_text};
 ghost use Rattle.squawk_lexer.specs.Classes.{is_line_end};
 ghost use Rattle.squawk_lexer.specs.Cut.{is_trivia};
 ghost use Rattle.squawk_squeeze.specs.Squeezed as spec;
 
 use squawk_events::{FrontError, LIMIT};
+use squawk_lexed::LexedStr;
+use squawk_lexed::laws::{leaves_keep_roles, tokens_are_cut_at_their_starts};
 use squawk_lexer::laws::{tokens_look_ahead, tokens_progress, tokens_stay};
 use squawk_lexer::{Strings, TokenKind, cut_at_in};
 use std::alloc::{AllocError, Global};
@@ -66,6 +69,51 @@ fn push_separator(out: &mut String, run: Option<bool>) -> Result<(), AllocError>
     }
 }
 
+// A text that is squeezed token by token: the output so far, and the run of trivia after it.
+#[derive(Drop)]
+struct Squeezer {
+    out: String,
+    run: Option<bool>,
+}
+
+impl Squeezer {
+    // No tokens yet, and room for so many bytes of output. If that much memory cannot be had, the
+    // output grows as needed.
+    fn with_room(alloc: Global, bytes: usize) -> Squeezer
+        ensures out { string_bytes result.out ≡ [] }
+        ensures run { result.run ≡ None }
+    {
+        let mut out = String::new(alloc);
+        let _ = out.reserve(bytes);
+        Squeezer { out, run: None }
+    }
+
+    // Adds a token: trivia extends the run, any other token follows the separator of the run.
+    // Inlined into every loop over tokens, however many there are: a call costs more than its work.
+    #[inline(always)]
+    fn push(&mut self, trivia: bool, text: &str) -> Result<(), AllocError>
+        ensures { OnOk result (spec.IsPushed trivia (chars text.now) self.old self.new) }
+    {
+        if trivia {
+            self.run = extend_run(self.run, text);
+            return Ok(());
+        }
+        push_separator(&mut self.out, self.run)?;
+        self.run = None;
+        self.out.push_str(text)?;
+        Ok(())
+    }
+
+    // Ends the text: the last run becomes its separator.
+    fn finish(self) -> Result<String, AllocError>
+        ensures { IfOk result (λ out. string_bytes out ≡ spec.squeezed_bytes self []) }
+    {
+        let Squeezer { mut out, run } = self;
+        push_separator(&mut out, run)?;
+        Ok(out)
+    }
+}
+
 /// Replaces each longest run of white space and comments by one character: LF if the run contains
 /// an LF or a CR, or else a space. All other tokens keep their kinds and texts.
 ///
@@ -94,22 +142,45 @@ pub fn squeeze(alloc: Global, text: &str, strings: Strings) -> Result<String, Fr
     tokens_progress();
     tokens_look_ahead();
     tokens_stay();
-    let mut out = String::new(alloc);
-    let mut run = None;
+    let mut squeezer = Squeezer::with_room(alloc, text.len());
     let mut at = 0;
     while at < text.len() {
         let token = cut_at_in(text, at, strings);
         let end = at + token.len as usize;
-        let part = &text[at..end];
-        if is_trivia(token.kind) {
-            run = extend_run(run, part);
-        } else {
-            push_separator(&mut out, run)?;
-            run = None;
-            out.push_str(part)?;
-        }
+        squeezer.push(is_trivia(token.kind), &text[at..end])?;
         at = end;
     }
-    push_separator(&mut out, run)?;
+    let out = squeezer.finish()?;
+    Ok(out)
+}
+
+/// As [`squeeze`], for a text whose tokens were cut before: no token is cut again. The result is
+/// that of `squeeze` for the reading of strings with which the text was cut.
+///
+/// # Errors
+///
+/// `OutOfMemory` if there is not enough memory for the result.
+pub fn squeeze_lexed(alloc: Global, lexed: &LexedStr<'_>) -> Result<String, FrontError>
+    ensures text { (strings : Strings) (text : List ℕ) → lexed.now ≡ lexed_text strings text
+        → IfOk result (λ out. spec.IsSqueezed strings text (string_bytes out)) }
+    ensures keeps_tokens { (strings : Strings) (text : List ℕ)
+        → lexed.now ≡ lexed_text strings text
+        → IfOk result (λ out. spec.KeepsTokens strings text (string_bytes out)) }
+    ensures idempotent { (strings : Strings) (text : List ℕ) → lexed.now ≡ lexed_text strings text
+        → IfOk result (λ out. spec.IsUnchangedBySqueezing strings (string_bytes out)) }
+    ensures no_longer { (strings : Strings) (text : List ℕ) → lexed.now ≡ lexed_text strings text
+        → IfOk result (λ out. length (string_bytes out) ≤ length text) }
+    ensures refusals { IfErr result IsOutOfMemory }
+{
+    tokens_progress();
+    tokens_look_ahead();
+    tokens_stay();
+    leaves_keep_roles();
+    tokens_are_cut_at_their_starts();
+    let mut squeezer = Squeezer::with_room(alloc, lexed.as_str().len());
+    for i in 0..lexed.len() {
+        squeezer.push(squawk_events::is_trivia(lexed.kind(i)), lexed.text(i))?;
+    }
+    let out = squeezer.finish()?;
     Ok(out)
 }
