@@ -2,6 +2,7 @@
 ghost use Rattle.std.specs.Prelude.{◌≡◌, ◌≢◌, ◌≤◌, ◌++◌, length, string_bytes, Err, IfOk, IfErr, OnOk};
 ghost use Rattle.squawk_events.specs.Limit.{limit};
 ghost use Rattle.squawk_events.specs.Refusals.{IsOutOfMemory};
+ghost use Rattle.squawk_lexed.specs.LexedText.{lexed_text};
 ghost use Rattle.squawk_show.specs.Command.{asks};
 ghost use Rattle.squawk_show.specs.Edge.{TakesAtMost};
 ghost use Rattle.squawk_show.specs.Forms.{clause_tree_of, form_tree, piece_letter, piece_line, piece_lines, quotes_of, AreQuotesWithin, IsQuoteRefusal};
@@ -12,40 +13,67 @@ ghost use Rattle.squawk_tree.specs.Tree.{IsTree};
 use crate::program::Prepared;
 use crate::{Command, Form, Reading, ReportMemory, RunError, Source, read_all};
 use itoa::Buffer;
-use squawk_clauses::ClauseGrammar;
 use squawk_clauses::laws::clause_parses_are_plain;
+use squawk_clauses::parse_clauses;
 use squawk_events::{FrontError, LIMIT};
+use squawk_lexed::LexedStr;
 use squawk_quote::{quote_dollar, quote_ident, quote_string};
-use squawk_split::{Piece, PieceKind, split};
-use squawk_squeeze::squeeze;
+use squawk_split::{Piece, PieceKind, split_lexed};
+use squawk_squeeze::squeeze_lexed;
 use squawk_tree::laws::parses_have_the_tokens;
-use squawk_tree::{Parse, parse_divided, parse_with_in};
+use squawk_tree::{Parse, parse_statements};
 use std::alloc::{AllocError, Global};
 
-// Makes the tree of a text with the clauses of its `SELECT` statements.
-fn parse_clauses(alloc: Global, text: &str, reading: Reading) -> Result<Parse, FrontError>
-    requires { length text.now ≤ limit }
-    ensures parsed { IfOk result (spec.IsParsedBy clause_tree_of reading text.now) }
+// Makes the tree of a text with these tokens.
+fn parse_plain(alloc: Global, lexed: &LexedStr<'_>, reading: Reading) -> Result<Parse, FrontError>
+    requires lexed { lexed.now ≡ lexed_text reading.strings lexed.now.text }
+    requires within { length lexed.now.text ≤ limit }
+    ensures parsed { IfOk result (spec.IsParsed reading lexed.now.text) }
+    ensures balanced { IfOk result IsTree }
+    ensures refusals { IfErr result IsOutOfMemory }
+{
+    parses_have_the_tokens();
+    // The text is UTF-8: the call says so to the prover.
+    let _text = lexed.as_str();
+    parse_statements(alloc, lexed, reading.division)
+}
+
+// Makes the tree of a text with these tokens, with the clauses of its `SELECT` statements.
+fn parse_with_clauses(
+    alloc: Global,
+    lexed: &LexedStr<'_>,
+    reading: Reading,
+) -> Result<Parse, FrontError>
+    requires lexed { lexed.now ≡ lexed_text reading.strings lexed.now.text }
+    requires within { length lexed.now.text ≤ limit }
+    ensures parsed { IfOk result (spec.IsParsedBy clause_tree_of reading lexed.now.text) }
     ensures balanced { IfOk result IsTree }
     ensures refusals { IfErr result IsOutOfMemory }
 {
     parses_have_the_tokens();
     clause_parses_are_plain();
-    let grammar = ClauseGrammar::new(reading.division);
-    parse_with_in(alloc, text, reading.strings, &grammar)
+    // The text is UTF-8: the call says so to the prover.
+    let _text = lexed.as_str();
+    parse_clauses(alloc, lexed, reading.division)
 }
 
-// Makes the tree of a text that goes with a form.
-fn parse_form(alloc: Global, text: &str, reading: Reading, form: Form) -> Result<Parse, FrontError>
-    requires { length text.now ≤ limit }
-    ensures parsed { IfOk result (spec.IsParsedBy (form_tree form) reading text.now) }
+// Makes the tree that goes with a form of a text with these tokens.
+fn parse_form(
+    alloc: Global,
+    lexed: &LexedStr<'_>,
+    reading: Reading,
+    form: Form,
+) -> Result<Parse, FrontError>
+    requires lexed { lexed.now ≡ lexed_text reading.strings lexed.now.text }
+    requires within { length lexed.now.text ≤ limit }
+    ensures parsed { IfOk result (spec.IsParsedBy (form_tree form) reading lexed.now.text) }
     ensures balanced { IfOk result IsTree }
     ensures refusals { IfErr result IsOutOfMemory }
 {
     match form {
-        Form::Clauses => parse_clauses(alloc, text, reading),
+        Form::Clauses => parse_with_clauses(alloc, lexed, reading),
         Form::Report | Form::Pieces | Form::Quotes | Form::Squeezed => {
-            parse_divided(alloc, text, reading.strings, reading.division)
+            parse_plain(alloc, lexed, reading)
         }
     }
 }
@@ -74,13 +102,14 @@ fn push_piece_line(lines: &mut String, piece: Piece) -> Result<(), AllocError>
     lines.push_str("\n")
 }
 
-// Makes the lines of the pieces of a script.
-fn list_pieces(alloc: Global, text: &str, reading: Reading) -> Result<String, FrontError>
-    requires { length text.now ≤ limit }
-    ensures lines { IfOk result (λ lines. string_bytes lines ≡ piece_lines reading text.now) }
+// Makes the lines of the pieces of a script with these tokens.
+fn list_pieces(alloc: Global, lexed: &LexedStr<'_>, reading: Reading) -> Result<String, FrontError>
+    requires { lexed.now ≡ lexed_text reading.strings lexed.now.text }
+    ensures lines { IfOk result (λ lines.
+        string_bytes lines ≡ piece_lines reading lexed.now.text) }
     ensures refusals { IfErr result IsOutOfMemory }
 {
-    let pieces = split(alloc, text, reading.strings, reading.division)?;
+    let pieces = split_lexed(alloc, lexed, reading.strings, reading.division)?;
     let mut lines = String::new(alloc);
     for piece in pieces.pieces() {
         push_piece_line(&mut lines, *piece)?;
@@ -88,8 +117,8 @@ fn list_pieces(alloc: Global, text: &str, reading: Reading) -> Result<String, Fr
     Ok(lines)
 }
 
-// Makes a string constant, a dollar-quoted string and a quoted identifier of a value, each on a
-// line.
+// Makes a string constant, a dollar-quoted string and a quoted identifier of a value, each before
+// an LF.
 fn quote(alloc: Global, value: &str) -> Result<String, FrontError>
     ensures quotes { IfOk result (λ out. string_bytes out ≡ quotes_of value.now) }
     ensures within { IfOk result (λ _. AreQuotesWithin value.now) }
@@ -104,16 +133,20 @@ fn quote(alloc: Global, value: &str) -> Result<String, FrontError>
     Ok(out)
 }
 
-// A tree, of which the report is written.
-fn with_report(alloc: Global, parse: Parse) -> Result<Prepared, AllocError>
+// A tree, of which the report is written, after a text.
+pub(crate) fn with_report(
+    alloc: Global,
+    parse: Parse,
+    text: Vec<u8>,
+) -> Result<Prepared, AllocError>
     ensures parse { IfOk result (λ p. p.parse ≡ parse) }
     ensures output { IfOk result (λ p.
-        spec.prepared_output p.text.items p.memory p.parse ≡ report_of parse) }
+        spec.prepared_output p.text.items p.memory p.parse ≡ text.items ++ report_of parse) }
 {
     let memory = ReportMemory::new(alloc, parse.steps().len())?;
     Ok(Prepared {
         parse,
-        text: Vec::new(alloc),
+        text,
         memory: Some(memory),
     })
 }
@@ -137,12 +170,17 @@ fn make_form(alloc: Global, text: &str, reading: Reading, form: Form) -> Result<
     ensures formed { IfOk result (spec.IsFormed reading form text.now) }
     ensures refusals { IfErr result (spec.IsFormRefusal form text.now) }
 {
-    let parse = parse_form(alloc, text, reading, form)?;
+    let lexed = LexedStr::new_in(alloc, text, reading.strings)?;
+    let parse = parse_form(alloc, &lexed, reading, form)?;
     match form {
-        Form::Report | Form::Clauses => Ok(with_report(alloc, parse)?),
-        Form::Pieces => Ok(with_text(parse, list_pieces(alloc, text, reading)?)),
-        Form::Quotes => Ok(with_text(parse, quote(alloc, text)?)),
-        Form::Squeezed => Ok(with_text(parse, squeeze(alloc, text, reading.strings)?)),
+        Form::Report | Form::Clauses => Ok(with_report(alloc, parse, Vec::new(alloc))?),
+        Form::Pieces => Ok(with_text(parse, list_pieces(alloc, &lexed, reading)?)),
+        Form::Quotes => {
+            // The three texts are longer than the tokens, which they do not need.
+            drop(lexed);
+            Ok(with_text(parse, quote(alloc, text)?))
+        }
+        Form::Squeezed => Ok(with_text(parse, squeeze_lexed(alloc, &lexed)?)),
     }
 }
 

@@ -9,8 +9,9 @@ ghost use Rattle.squawk_show.specs.Edge.{TakesAtMost};
 ghost use Rattle.squawk_show.specs.Run as spec;
 ghost use Rattle.squawk_tree.specs.Tree.{IsTree};
 
+use crate::forms::with_report;
 use crate::program::Prepared;
-use crate::{Command, Reading, ReportMemory, RunError, Source, read_all};
+use crate::{Command, Reading, RunError, Source, read_all};
 use squawk_cut::PlainFront;
 use squawk_cut::laws::plain_fronts_parse;
 use squawk_document::Document;
@@ -88,10 +89,5 @@ pub(crate) fn prepare_replay<S: Source>(
 {
     let bytes = read_all(alloc, source, LIMIT)?;
     let (parse, text) = replay_bytes(alloc, reading, &bytes)?;
-    let memory = ReportMemory::new(alloc, parse.steps().len())?;
-    Ok(Prepared {
-        parse,
-        text,
-        memory: Some(memory),
-    })
+    Ok(with_report(alloc, parse, text)?)
 }
