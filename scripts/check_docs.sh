@@ -3,7 +3,7 @@
 #
 # - README.md shows crates/squawk_example/src/main.rt and its output word for word.
 # - Each file that README.md or a page of docs/ names in backquotes is there.
-# - Each clause of `run` has its row in docs/PROGRAM.md, and each row its clause.
+# - Each clause of `run` has its row in docs/RUN.md, and each row its clause.
 # - `./run --help` lists the statuses of docs/PROGRAM.md with their error lines, and besides them its own status 1.
 set -u
 CDPATH='' cd -- "$(dirname -- "${BASH_SOURCE[0]}")/.." || exit 1
@@ -36,11 +36,11 @@ for page in README.md docs/*.md; do
   done
 done
 
-rows=$(sed -n '/^## The clauses of `run`/,/^## Sources/p' docs/PROGRAM.md |
+rows=$(sed -n '/^## The clauses of `run`/,/^## Sources/p' docs/RUN.md |
   sed -nE 's/^\| `([a-z_0-9]+)` \|.*/\1/p' | sort)
 clauses=$(sed -n '/^pub fn run</,/^{/p' crates/squawk_show/src/program.rt |
   sed -nE 's/^ *ensures ([a-z_0-9]+) .*/\1/p' | sort)
-diff <(echo "$rows") <(echo "$clauses") >&2 || differs "docs/PROGRAM.md does not list the clauses of run"
+diff <(echo "$rows") <(echo "$clauses") >&2 || differs "docs/RUN.md does not list the clauses of run"
 
 listed=$(sed -n '/^## Statuses/,/^## The report/p' docs/PROGRAM.md |
   awk -F ' *[|] *' '$2 ~ /^[0-9]+$/ { gsub(/`/, "", $3); print $2, $3 == "none" ? "" : $3 }')

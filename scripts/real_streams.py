@@ -5,7 +5,7 @@ Use: real_streams.py [--program PROGRAM] [--huge]
 
 The program is the one that ./run builds, which is built first if need be; PROGRAM is any other. For each case the
 script prints the status, the error line and how much of the output was written: all of it, a part from its beginning,
-or none. The cases and their ends are those of the table in docs/PROGRAM.md, "Real streams". The last line has the
+or none. The cases and their ends are those of the table in docs/RUN.md, "Real streams". The last line has the
 numbers of cases and of wrong ends. The status is 0 if there are no wrong ends, and the table and the script have the
 same cases, else 1.
 
@@ -27,7 +27,7 @@ import time
 
 TOP = pathlib.Path(__file__).resolve().parent.parent
 BUILT = TOP / "crates/squawk_show/out/squawk_show"
-PAGE = TOP / "docs/PROGRAM.md"
+PAGE = TOP / "docs/RUN.md"
 
 MB = 1000000
 
