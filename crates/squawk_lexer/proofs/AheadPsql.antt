@@ -9,7 +9,7 @@ use Rattle.squawk_lexer.specs.Kind.{Lexeme, lexeme_until}
 use Rattle.squawk_lexer.specs.Classes.{is_line_end, is_not_line_end, is_blank, is_command_char}
 use Rattle.squawk_lexer.specs.Runs.{run_end, line_end}
 use Rattle.squawk_lexer.specs.PsqlWords.{is_among, query_ending_words, pipe_words, option_words, takes_line}
-use Rattle.squawk_lexer.specs.PsqlParts.{is_quote, is_escape, close_len, quote_len, last_inside, ends_arguments, part_rest, arguments_len, arguments_end, mark_after, is_parenthesis, marked_len, marked_len_at}
+use Rattle.squawk_lexer.specs.PsqlParts.{is_psql_quote, is_escape, close_len, quote_len, last_inside, ends_arguments, part_rest, arguments_len, arguments_end, mark_after, is_parenthesis, marked_len, marked_len_at}
 use Rattle.squawk_lexer.specs.Psql.{psql, command_word, word_end, options_end, output_start, output_end, command_end}
 use Rattle.squawk_lexer.proofs.TokenLaws.{output_start_on, output_end_on, psql_on}
 use Rattle.squawk_lexer.proofs.PsqlArgumentLaws.{pair_plain, rest_in}
@@ -32,7 +32,7 @@ pub record AsksPsql (tests : Tests) : Type 0 where
 -- ---- quotes
 
 -- A quote is not a line end.
-quote_plain : (q : ℕ) → is_quote q ≡ true → is_line_end q ≡ false
+quote_plain : (q : ℕ) → is_psql_quote q ≡ true → is_line_end q ≡ false
 quote_plain q t = grind (arith, nat_tests)
 
 -- A line end closes no quote.
@@ -122,7 +122,7 @@ quote_looks w q plain xs c d r s f h =
 part_looks : {tests : Tests} {pairs : PairTests} → AsksPsql tests
     → (x : ℕ) → Looks tests pairs (part_rest x) (part_rest x)
 part_looks w x xs c d r s f h =
-    branch (λ n. n) (is_quote x) (quote_len x (xs ++ c ∷ r)) 0 (quote_len x (xs ++ d ∷ s)) 0
+    branch (λ n. n) (is_psql_quote x) (quote_len x (xs ++ c ∷ r)) 0 (quote_len x (xs ++ d ∷ s)) 0
     (length xs) (λ t k. quote_looks w x (quote_plain x t) xs c d r s f k) (λ t k. refl) h
 
 -- The arguments reach past the part that they begin inside.
@@ -179,7 +179,7 @@ mark_same w mark x xs c d r s f h = by (eqb x 39) refl
     quoted : eqb x 39 ≡ true → last_inside (xs ++ d ∷ s) (close_len x (xs ++ d ∷ s))
         ≡ last_inside (xs ++ c ∷ r) (close_len x (xs ++ c ∷ r))
     quoted t =
-        let is : is_quote x ≡ true = grind (arith, nat_tests) in
+        let is : is_psql_quote x ≡ true = grind (arith, nat_tests) in
         let short : quote_len x (xs ++ c ∷ r) ≤ length xs = rw is at h in
         ap (last_inside (xs ++ d ∷ s)) (close_looks w x (quote_plain x is) xs c d r s f short)
         ∙ inside_same xs (c ∷ r) (d ∷ s) (close_len x (xs ++ c ∷ r)) _ short

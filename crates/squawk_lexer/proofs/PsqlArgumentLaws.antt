@@ -6,7 +6,7 @@ use Rattle.std.proofs.lemmas.List.{length-drop, get_or-drop}
 use Rattle.std.proofs.lemmas.List.Sums.{prefix_len-le-length}
 use Rattle.std.proofs.lemmas.Bool.Decides.{nat_tests}
 use Rattle.squawk_lexer.specs.Classes.{is_blank, is_line_end, is_not_line_end}
-use Rattle.squawk_lexer.specs.PsqlParts.{is_quote, is_escape, close_len, ends_arguments, part_rest, arguments_len, mark_after, is_parenthesis, marked_len}
+use Rattle.squawk_lexer.specs.PsqlParts.{is_psql_quote, is_escape, close_len, ends_arguments, part_rest, arguments_len, mark_after, is_parenthesis, marked_len}
 use Rattle.squawk_lexer.specs.PsqlArguments.{begins_escape, IsPieces, NoPiece, OnePiece, EscapePiece, QuotesCloseFirst, OpenQuotesStayOpen, IsParts, NoPart, OnePart, IsLongest, ArgumentsAreLongest, ArgumentsAreUnique, ends_argument, argument_len, ArgumentIsLongest, ArgumentIsUnique, mark_from, first_marked, MarkedIsFirst}
 use Rattle.squawk_lexer.proofs.Steps.{within_some}
 
@@ -89,7 +89,7 @@ open_quotes_stay_open q cs e = subst (Closes q cs) e (closes q cs)
 
 -- A part ends within its text.
 pub rest_in : (c : ℕ) (cs : List ℕ) → part_rest c cs ≤ length cs
-rest_in c cs = by (is_quote c) (close_len c cs) (closes c cs)
+rest_in c cs = by (is_psql_quote c) (close_len c cs) (closes c cs)
   where
     by : (b : Bool) (o : Option ℕ) → Closes c cs o
         → cond b (unwrap_or o (prefix_len is_not_line_end cs)) 0 ≤ length cs

@@ -13,7 +13,7 @@ use Rattle.squawk_lexer.specs.Text.{utf8_len}
 use Rattle.squawk_lexer.proofs.PsqlArgumentLaws.{rest_in}
 use Rattle.squawk_lexer.proofs.StopSteps.{some_read, run_kept, other_not, inside_on}
 use Rattle.squawk_lexer.proofs.CursorRest.{fewer_bytes}
-use Rattle.squawk_lexer.specs.PsqlParts.{is_quote, is_escape, close_len, quote_len, last_inside, ends_arguments, part_rest, arguments_len, arguments_end, mark_after, is_parenthesis, marked_len, marked_len_at}
+use Rattle.squawk_lexer.specs.PsqlParts.{is_psql_quote, is_escape, close_len, quote_len, last_inside, ends_arguments, part_rest, arguments_len, arguments_end, mark_after, is_parenthesis, marked_len, marked_len_at}
 use Rattle.squawk_lexer.proofs.Steps.{drop_some, drop_none, drop_read, drop_past, within_some, within_read, after_some, after_none, after_within, after_past, after_on, ne_eqb, run_more, run_stop, run_at_end}
 
 -- ---- a quote, from an index inside it
@@ -94,11 +94,11 @@ quote_close q u i c s plain same = rw (after_some u i c s, drop_some u i c s) (a
     at (d ∷ r) = rw (plain, eq-eqb c q same) refl
 
 -- A line end is not a quote.
-quote_is_plain : (q c : ℕ) → is_quote q ≡ true → is_line_end c ≡ true → eqb c q ≡ false
+quote_is_plain : (q c : ℕ) → is_psql_quote q ≡ true → is_line_end c ≡ true → eqb c q ≡ false
 quote_is_plain q c h e = grind (arith, nat_tests)
 
 -- A line end, and the end of the text, leave the quote open.
-pub quote_stop : (q : ℕ) (u : List ℕ) (i c : ℕ) → is_quote q ≡ true → Some c ≡ slice_get u i
+pub quote_stop : (q : ℕ) (u : List ℕ) (i c : ℕ) → is_psql_quote q ≡ true → Some c ≡ slice_get u i
     → is_line_end c ≡ true → (close_end q u i ≡ None) × (line_end u i ≡ i)
 quote_stop q u i c quote s ends =
     (rw (drop_some u i c s) (at (drop (i + 1) u)), run_stop is_not_line_end u i c s (rw ends refl))
@@ -316,7 +316,7 @@ args_none u i s = rw (drop_none u i s) (omega arith)
 
 -- The end of a part that is a quote.
 pub part_quote : (u : List ℕ) (i c : ℕ) (v : List ℕ) (j k : ℕ) → Some c ≡ slice_get u i
-    → is_quote c ≡ true → v ≡ u → j ≡ position_after u i → k ≡ j + quote_len c (drop j v)
+    → is_psql_quote c ≡ true → v ≡ u → j ≡ position_after u i → k ≡ j + quote_len c (drop j v)
     → k ≡ i + 1 + part_rest c (drop (i + 1) u)
 part_quote u i c v j k s quote same to past = rw (quote, ← after_some u i c s, ← to, ← same) past
 
@@ -370,7 +370,7 @@ marked_part mark u i c s more no_blank =
     ∙ map_past (marked_len 0 m (drop (i + 1 + p) u)) i p)
 
 -- A blank is not a quote.
-pub blank_is_plain : (c : ℕ) → is_blank c ≡ true → is_quote c ≡ false
+pub blank_is_plain : (c : ℕ) → is_blank c ≡ true → is_psql_quote c ≡ false
 blank_is_plain c e = grind (arith, nat_tests)
 
 -- A blank ends an argument: with another mark, and with the mark.

@@ -8,8 +8,10 @@ use Rattle.std.proofs.lemmas.List.Sums.{prefix_len_stops}
 use Rattle.std.specs.List.{prefix_len}
 use Rattle.squawk_lexer.specs.Position.{position_after}
 use Rattle.squawk_lexer.specs.Runs.{run_end}
+use Rattle.squawk_lexer.specs.Bytes.{first_byte, IsAsciiRun}
 use Rattle.squawk_lexer.specs.Stops.{is_neither, stop_at, is_neither_on_line, stop_on_line}
 use Rattle.squawk_lexer.proofs.ByteRuns.{IsUniform}
+use Rattle.squawk_lexer.proofs.ByteReads.{lead_ascii, lead_high}
 use Rattle.squawk_lexer.proofs.Steps.{drop_read, drop_past, after_some, within_some, get_some}
 
 -- The class of all characters but two of ASCII holds all characters beyond ASCII.
@@ -52,6 +54,26 @@ pub run_kept : {X : Type 0} (F : ℕ → X) (p : ℕ → Bool) (u : List ℕ)
     → ((i c : ℕ) → Some c ≡ slice_get u i → p c ≡ true → F i ≡ F (i + 1))
     → (i : ℕ) → F i ≡ F (run_end p u i)
 run_kept F p u step i = kept F p u step (prefix_len p (drop i u)) i refl
+
+-- A search ends where it begins if the next byte is one of the two characters.
+pub stops_on_byte : (a b s x : ℕ) (u : List ℕ) (i : ℕ) → s < 128 → is_neither a b s ≡ false
+    → (IsAsciiRun u i 0 → x ≡ first_byte (get_or u (i + 0) 0)) → x ≡ s → stop_at a b u i ≡ i
+unfolding stop_at
+stops_on_byte a b s x u i small stops read e =
+    by (cases_lt (get_or u i 0) 128) (cases_lt i (length u))
+  where
+    byte : first_byte (get_or u i 0) ≡ s
+    byte = ap (λ k. first_byte (get_or u k 0)) (sym (add-zero i))
+        ∙ sym (read (λ k below. absurd (omega arith))) ∙ e
+
+    by : (get_or u i 0 < 128) ⊎ (128 ≤ get_or u i 0) → (i < length u) ⊎ (length u ≤ i)
+        → i + prefix_len (is_neither a b) (drop i u) ≡ i
+    by (inl low) (inl h) =
+        let c : get_or u i 0 ≡ s = sym (lead_ascii (get_or u i 0) low) ∙ byte in
+        rw (drop_read u i h, c, stops) (add-zero i)
+    by (inl low) (inr h) = rw (drop_past u i h) (add-zero i)
+    by (inr high) h =
+        absurd (omega (arith, byte, lead_high (get_or u i 0) high))
 
 -- A search ends at or after its start.
 pub stop_on : (a b : ℕ) (u : List ℕ) (i : ℕ) → i ≤ stop_at a b u i

@@ -7,8 +7,8 @@ use Rattle.std.specs.Option.{option_or}
 use Rattle.squawk_lexer.specs.Classes.{is_line_end, is_not_line_end, is_blank, apostrophe, quotation_mark, backquote, backslash, close_paren}
 
 -- Whether c opens a quote.
-abbrev pub is_quote : ℕ → Bool
-is_quote c = (c == apostrophe || c == quotation_mark) || c == backquote
+abbrev pub is_psql_quote : ℕ → Bool
+is_psql_quote c = (c == apostrophe || c == quotation_mark) || c == backquote
 
 -- Whether c and d, within a quote in q, are an escape: within `'` alone, a backslash and a
 -- character after it on the same line.
@@ -42,7 +42,7 @@ ends_arguments c = is_line_end c || c == backslash
 
 -- The number of characters of a part after its first, which is c.
 abbrev pub part_rest : ℕ → List ℕ → ℕ
-part_rest c cs = if is_quote c then quote_len c cs else 0
+part_rest c cs = if is_psql_quote c then quote_len c cs else 0
 
 -- The number of characters of the longest sequence of parts. The first `inside` characters belong
 -- to a part that began before.

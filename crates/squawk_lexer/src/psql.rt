@@ -278,7 +278,7 @@ impl<'a> Cursor<'a> {
     // of the line. Returns the last character inside, if there is one and the quote is closed.
     #[tactic(auto, using(crate::proofs::PsqlSteps::quote_steps))]
     fn psql_quoted_arg(&mut self, quote: char) -> Option<char>
-        requires { parts.is_quote quote ≡ true }
+        requires { parts.is_psql_quote quote ≡ true }
         ensures text { self.new.text ≡ self.old.text }
         ensures at { self.new.at ≡ self.old.at
             + parts.quote_len quote (drop self.old.at self.old.text) }
@@ -305,7 +305,7 @@ impl<'a> Cursor<'a> {
     // Skips to the next character that can close the quote or escape one, or to the end of the
     // line.
     fn eat_psql_quoted_text(&mut self, quote: char)
-        requires { parts.is_quote quote ≡ true }
+        requires { parts.is_psql_quote quote ≡ true }
         ensures text { self.new.text ≡ self.old.text }
         ensures at { self.new.at ≡ piece_stop quote self.old.text self.old.at }
     {

@@ -111,15 +111,14 @@ pub(crate) fn len_until2(a: u8, b: u8, bytes: &[u8]) -> usize
     len + memchr_len_until2(a, b, &bytes[len..])
 }
 
-// The same within the first `LANES` bytes. An empty run is found without a vector, since texts of
-// many escapes have one at every step.
+// The same within the first `LANES` bytes.
 fn near_len_until2(a: u8, b: u8, bytes: &[u8]) -> usize
     ensures within { result ≤ length bytes.now }
     ensures prefix { result + prefix_len (is_neither a b) (drop result bytes.now)
         ≡ prefix_len (is_neither a b) bytes.now }
     ensures whole { result < LANES → result ≡ prefix_len (is_neither a b) bytes.now }
 {
-    if bytes.len() < LANES || bytes[0] == a || bytes[0] == b {
+    if bytes.len() < LANES {
         return short_len_until2(a, b, bytes);
     }
     run_until2(a, b, bytes)
