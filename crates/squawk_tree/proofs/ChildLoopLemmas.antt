@@ -19,7 +19,7 @@ use Rattle.squawk_statements.specs.First.{first_shape}
 use Rattle.squawk_statements.specs.Plain.{child_steps}
 use Rattle.squawk_statements.specs.declared.division.Division.{Division}
 use Rattle.squawk_statements.specs.declared.first.ChildShape.{ChildShape}
-use Rattle.squawk_tree.specs.ChildSteps.{unknown_error, exit_steps, steps_in_groups, nested_steps, body_len, steps_of_node, node_steps, child_error, child_steps_by, shape_span}
+use Rattle.squawk_tree.specs.ChildSteps.{unknown_error, exit_steps, steps_in_groups, nested_steps, body_len, steps_of_node, node_steps, child_error, child_steps_by}
 use Rattle.squawk_tree.specs.ChildSpans.{child_spans, child_spans_from}
 use Rattle.squawk_tree.specs.ChildGrammar.{AreChildSteps, IsFirstNode, IsGrammarOf, child_at, woven_by, woven_children_by, woven_text}
 use Rattle.squawk_tree.specs.ParseOf.{lexed_role, token_steps}
@@ -210,28 +210,23 @@ abbrev left_children : (List ℕ → List Step) → Division → List LexedToken
 left_children c d ts at =
     woven_children_by c (token_start ts at) (parts lexed_role d (drop at ts))
 
--- the steps that were emitted under the root, the children and the errors that were appended, and
--- what those of the children that are left add to them, are all; the next token and the next
--- lexical error have these indices
+-- the steps that were emitted under the root and the errors that were appended, and what those of
+-- the children that are left add to them, are all; the next token and the next lexical error have
+-- these indices
 pub record ChildrenSoFar (c : List ℕ → List Step) (d : Division) (ts : List LexedToken)
-    (at error : ℕ) (steps : List StrStep) (children : List ChildSpan) (errors : List ParseError)
-    : Type 0 where
+    (at error : ℕ) (steps : List StrStep) (errors : List ParseError) : Type 0 where
   pub steps_are : steps ++ without_errors (left_children c d ts at)
       ≡ out.Enter SOURCE_FILE ∷ without_errors (left_children c d ts 0)
-  pub children_are : children ++ child_spans_from 0 (length steps) (token_start ts at)
-      (without_errors (left_children c d ts at) ++ out.Exit ∷ [])
-      ≡ child_spans_from 0 1 0 (without_errors (left_children c d ts 0) ++ out.Exit ∷ [])
   pub errors_are : errors ++ merged_from ts at error (left_children c d ts at ++ out.Exit ∷ [])
       ≡ merged_errors 0 ts (errors_of 0 ts) (left_children c d ts 0 ++ out.Exit ∷ [])
 
 -- before the first child
-pub children_start : (c : List ℕ → List Step) (d : Division) (ts : List LexedToken) (steps before : List StrStep)
-    (children : List ChildSpan) (errors : List ParseError)
-    → steps ≡ before ++ out.Enter SOURCE_FILE ∷ [] → before ≡ [] → children ≡ [] → errors ≡ []
-    → ChildrenSoFar c d ts 0 0 steps children errors
-children_start c d ts steps before children errors is none no_children no_errors =
-    rw (is, none, no_children, no_errors)
-    (record { steps_are = refl; children_are = refl; errors_are = refl })
+pub children_start : (c : List ℕ → List Step) (d : Division) (ts : List LexedToken)
+    (steps before : List StrStep) (errors : List ParseError)
+    → steps ≡ before ++ out.Enter SOURCE_FILE ∷ [] → before ≡ [] → errors ≡ []
+    → ChildrenSoFar c d ts 0 0 steps errors
+children_start c d ts steps before errors is none no_errors =
+    rw (is, none, no_errors) (record { steps_are = refl; errors_are = refl })
 
 -- the first child of the tokens that are left
 record FirstLeft (c : List ℕ → List Step) (d : Division) (ts : List LexedToken) (at : ℕ) (shape : ChildShape)
@@ -324,48 +319,6 @@ steps_more own left steps steps' start all all_is so_far more =
     ∙ ap (λ ys. steps ++ ys) (sym (ap without_errors all_is ∙ without_errors_append own left))
     ∙ so_far
 
--- the child itself
-span_more : (c : List ℕ → List Step) → AreChildSteps c → (d : Division) (ts : List LexedToken) (at end : ℕ) (shape : ChildShape)
-    (steps steps' : List StrStep) (children children' start : List ChildSpan)
-    → FirstLeft c d ts at shape end → end ≡ at + shape.tokens → end ≤ length ts
-    → steps' ≡ steps
-    ++ child_at c ts at shape.tokens
-    → children' ≡ children ++ shape_span ts at shape (length steps) ∷ []
-    → children ++ child_spans_from 0 (length steps) (token_start ts at)
-    (without_errors (left_children c d ts at) ++ out.Exit ∷ []) ≡ start
-    → children' ++ child_spans_from 0 (length steps') (token_start ts end)
-    (without_errors (left_children c d ts end) ++ out.Exit ∷ []) ≡ start
-span_more c law d ts at end shape steps steps' children children' start left end_is within steps_is is
-    so_far =
-    let all = drop at ts in
-    let from = token_start ts at in
-    let part = take shape.tokens all in
-    let own = woven_by c from part in
-    let rest = without_errors (left_children c d ts end) ++ out.Exit ∷ [] in
-    let size = length-drop at ts in
-    let some = left.some in
-    let len : length part ≡ shape.tokens = length-take-le shape.tokens all (omega arith) in
-    let next = ap (token_start ts) (sym end_is) ∙ left.start in
-    let after = child_spans_from 0 (length steps + length (without_errors own))
-    (from + total_len part) rest in
-    let count : length steps' ≡ length steps + length (without_errors own) =
-    ap length steps_is ∙ length-append steps (without_errors own) in
-    let span : shape_span ts at shape (length steps)
-    ≡ span_of shape.node (length steps) from part = rw (len, next) refl in
-    let first = span_first c law d (length steps) from all shape rest some left.is in
-    let joined : without_errors (left_children c d ts at) ++ out.Exit ∷ []
-    ≡ without_errors own ++ rest =
-    ap (λ ys. without_errors ys ++ out.Exit ∷ []) left.first
-    ∙ ap (λ ys. ys ++ out.Exit ∷ []) (without_errors_append own (left_children c d ts end))
-    ∙ append_assoc (without_errors own) (without_errors (left_children c d ts end))
-    (out.Exit ∷ []) in
-    rw (is, span, count)
-    (ap (λ m. (children ++ span_of shape.node (length steps) from part ∷ [])
-    ++ child_spans_from 0 (length steps + length (without_errors own)) m rest) left.start
-    ∙ append_assoc children (span_of shape.node (length steps) from part ∷ []) after)
-    ∙ ap (λ cs. children ++ cs)
-    (sym (ap (child_spans_from 0 (length steps) from) joined ∙ first)) ∙ so_far
-
 -- and its error
 error_more : (c : List ℕ → List Step) → AreChildSteps c → (d : Division) (ts : List LexedToken) (at end error next : ℕ) (shape : ChildShape)
     (errors errors' start : List ParseError) → FirstLeft c d ts at shape end
@@ -397,47 +350,39 @@ error_more c law d ts at end error next shape errors errors' start left more so_
     ∙ append_assoc own (left_children c d ts end) (out.Exit ∷ []))) ∙ so_far
 
 -- one more child
-pub children_more : (c : List ℕ → List Step) → AreChildSteps c → (d : Division) (ts : List LexedToken) (kinds rest : List ℕ)
-    (at end error next step : ℕ) (shape : ChildShape) (steps steps' : List StrStep)
-    (children children' : List ChildSpan) (errors errors' : List ParseError)
-    → step ≡ length steps → kinds ≡ kinds_of ts → at < length kinds
-    → rest ≡ take (length kinds - at) (drop at kinds) → shape ≡ first_shape d rest
-    → end ≡ at + shape.tokens → end ≤ length ts
+pub children_more : (c : List ℕ → List Step) → AreChildSteps c → (d : Division)
+    (ts : List LexedToken) (kinds rest : List ℕ) (at end error next : ℕ) (shape : ChildShape)
+    (steps steps' : List StrStep) (errors errors' : List ParseError)
+    → kinds ≡ kinds_of ts → at < length kinds → rest ≡ take (length kinds - at) (drop at kinds)
+    → shape ≡ first_shape d rest → end ≡ at + shape.tokens
     → steps' ≡ steps ++ child_at c ts at shape.tokens
-    → children' ≡ children ++ shape_span ts at shape step ∷ []
     → ((offset : ℕ) (ys : List StrStep) → errors' ++ merged_from ts at next ys
     ≡ errors ++ merged_from ts at error (child_error offset shape.node ++ ys))
-    → ChildrenSoFar c d ts at error steps children errors
-    → ChildrenSoFar c d ts end next steps' children' errors'
-children_more c law d ts kinds rest at end error next step shape steps steps' children children'
-    errors errors' step_is ks some rest_is shape_of end_is within steps_is children_is errors_is so_far =
+    → ChildrenSoFar c d ts at error steps errors → ChildrenSoFar c d ts end next steps' errors'
+children_more c law d ts kinds rest at end error next shape steps steps' errors errors' ks some
+    rest_is shape_of end_is steps_is errors_is so_far =
     let left = first_left c d ts kinds rest at end shape ks some rest_is shape_of end_is in
     let own = woven_by c (token_start ts at) (take shape.tokens (drop at ts)) in
     record {
       steps_are = steps_more own (left_children c d ts end) steps steps' _ _ left.first
           so_far.steps_are steps_is;
-      children_are = span_more c law d ts at end shape steps steps' children children' _ left end_is
-          within steps_is (children_is
-          ∙ ap (λ i. children ++ shape_span ts at shape i ∷ []) step_is) so_far.children_are;
       errors_are = error_more c law d ts at end error next shape errors errors' _ left errors_is
           so_far.errors_are;
     }
 
 -- the root with all of its children
 pub record ChildrenDone (told : List ℕ → List Step) (ts : List LexedToken) (error : ℕ)
-    (steps : List StrStep) (children : List ChildSpan) (errors : List ParseError) : Type 0 where
+    (steps : List StrStep) (errors : List ParseError) : Type 0 where
   pub steps_are : steps ≡ without_errors (woven_text told ts)
-  pub children_are : children ≡ child_spans steps
   pub errors_are : errors ++ drop error (errors_of 0 ts)
       ≡ merged_errors 0 ts (errors_of 0 ts) (woven_text told ts)
 
 pub children_done : (c told : List ℕ → List Step) (d : Division) → IsGrammarOf d c told
-    → (ts : List LexedToken) (kinds : List ℕ) (at error : ℕ)
-    (steps steps' : List StrStep) (children : List ChildSpan) (errors : List ParseError)
-    → kinds ≡ kinds_of ts → length kinds ≤ at
-    → ChildrenSoFar c d ts at error steps children errors → steps' ≡ steps ++ out.Exit ∷ []
-    → ChildrenDone told ts error steps' children errors
-children_done c told d law ts kinds at error steps steps' children errors ks past so_far more =
+    → (ts : List LexedToken) (kinds : List ℕ) (at error : ℕ) (steps steps' : List StrStep)
+    (errors : List ParseError) → kinds ≡ kinds_of ts → length kinds ≤ at
+    → ChildrenSoFar c d ts at error steps errors → steps' ≡ steps ++ out.Exit ∷ []
+    → ChildrenDone told ts error steps' errors
+children_done c told d law ts kinds at error steps steps' errors ks past so_far more =
     let count = ap length ks ∙ kinds_len ts in
     let none = drop_all at ts (omega arith) in
     let no_left : left_children c d ts at ≡ [] =
@@ -456,10 +401,6 @@ children_done c told d law ts kinds at error steps steps' children errors ks pas
       steps_are = steps_is
           ∙ ap (λ ys. out.Enter SOURCE_FILE ∷ ys) (sym (without_errors_append all (out.Exit ∷ [])))
           ∙ ap without_errors (sym weave_is);
-      children_are = sym (append-nil children)
-          ∙ ap (λ ys. children ++ child_spans_from 0 (length steps) (token_start ts at)
-          (without_errors ys ++ out.Exit ∷ [])) (sym no_left)
-          ∙ so_far.children_are ∙ ap child_spans (sym steps_is);
       errors_are = ap (λ ys. errors ++ merged_from ts at error (ys ++ out.Exit ∷ []))
           (sym no_left) ∙ so_far.errors_are
           ∙ ap (merged_errors 0 ts (errors_of 0 ts)) (sym weave_is);

@@ -94,16 +94,6 @@ abbrev pub child_error : ℕ → Option ℕ → List StrStep
 child_error at None = []
 child_error at (Some node) = unknown_error at node
 
--- the child of this shape, whose first token and whose first step have these indices
-abbrev pub shape_span : List LexedToken → (from : ℕ) → ChildShape → (step : ℕ) → ChildSpan
-shape_span ts from shape step = record {
-  step = step;
-  tokens = shape.tokens;
-  start = token_start ts from;
-  end = token_start ts (from + shape.tokens);
-  node = shape.node;
-}
-
 -- the steps are the weave of these tokens and the lawful steps of a grammar
 pub record IsWeaveOf (ts : List LexedToken) (output : List Step) (steps : List StrStep)
     : Type 0 where

@@ -3,11 +3,10 @@ ghost use Rattle.std.specs.Prelude.{◌≡◌, ◌<◌, ◌*◌, ◌++◌, ◌�
 ghost use Rattle.squawk_events.specs.Refusals.{IsOutOfMemory};
 ghost use Rattle.squawk_events.specs.declared.steps.StrStep.{StrStep as Given};
 ghost use Rattle.squawk_tree.specs.Built.{end_of_last, AreCountsSoFar, IsBuilt, emitted};
-ghost use Rattle.squawk_tree.specs.ChildSpans.{child_spans};
 ghost use Rattle.squawk_tree.specs.NodeRanges.{node_step_count, stride};
 ghost use Rattle.squawk_tree.specs.Tree.{IsTree};
 
-use crate::children::ChildSpan;
+use crate::children::children_of;
 use crate::parse::{Parse, TreeParts};
 use crate::spans::{STRIDE, add_step};
 use crate::tables::Tables;
@@ -122,15 +121,14 @@ impl TreeBuilder {
         }
     }
 
-    // The parse with these steps, whose root has these children, and with these errors.
+    // The parse with these steps and these errors. The children of its root are listed here.
     pub(crate) fn finish(
         self,
-        children: Vec<ChildSpan>,
+        alloc: Global,
         errors: Vec<ParseError>,
         len: u32,
     ) -> Result<Parse, FrontError>
         requires built { IsBuilt self }
-        requires children { children.items ≡ child_spans self.steps.items }
         requires tree { IsTree (record {
           steps = self.steps.items;
           errors = errors.items;
@@ -145,6 +143,7 @@ impl TreeBuilder {
     {
         let mut counts = self.counts;
         fill_counts(&mut counts, self.steps.len(), self.spans.len())?;
+        let children = children_of(alloc, &self.steps, self.spans.len())?;
         let parts = TreeParts {
             steps: self.steps,
             errors,

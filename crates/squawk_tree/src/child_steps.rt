@@ -10,9 +10,8 @@ ghost use Rattle.squawk_statements.specs.Children.{open_groups_after, trimmed_le
 ghost use Rattle.squawk_statements.specs.First.{first_shape};
 ghost use Rattle.squawk_statements.specs.Plain.{plain};
 ghost use Rattle.squawk_tree.specs.Built.{IsBuilt, emitted};
-ghost use Rattle.squawk_tree.specs.ChildSpans.{child_spans};
 ghost use Rattle.squawk_tree.specs.ChildGrammar.{child_at, woven_text};
-ghost use Rattle.squawk_tree.specs.ChildSteps.{exit_steps, nested_steps, node_steps, shape_span, steps_in_groups};
+ghost use Rattle.squawk_tree.specs.ChildSteps.{exit_steps, nested_steps, node_steps, steps_in_groups};
 ghost use Rattle.squawk_tree.specs.ParseOf.{token_steps};
 ghost use Rattle.squawk_tree.specs.Parses.{ParsesTokens};
 ghost use Rattle.squawk_tree.specs.Steps.{without_errors};
@@ -20,18 +19,13 @@ ghost use Rattle.squawk_tree.specs.Walk.{merged_errors};
 
 use crate::builder::TreeBuilder;
 use crate::child_grammar::{ChildGrammar, PlainChildren};
-use crate::children::ChildSpan;
 use crate::errors::{Walk, push_child_errors, push_lexical_errors};
 use crate::parse::Parse;
-use crate::tables::children_with_room;
 use squawk_events::{FrontError, ParseError, StrStep, is_trivia};
 use squawk_kinds::SyntaxKind;
 use squawk_lexed::LexedStr;
 use squawk_statements::{ChildShape, Division, first_child_in};
 use std::alloc::Global;
-
-// In most SQL a child of the root has more tokens: room is reserved for one for so many.
-const TOKENS_PER_CHILD: usize = 8;
 
 /// Emits an `Exit` for each of `groups` open groups.
 ///
@@ -212,51 +206,22 @@ fn emit_child<G: ChildGrammar>(
     }
 }
 
-// Appends the child of this shape whose first token is that at `from`, and whose first step is that
-// at `step`.
-fn push_child(
-    children: &mut Vec<ChildSpan>,
-    lexed: &LexedStr<'_>,
-    from: usize,
-    shape: &ChildShape,
-    step: usize,
-) -> Result<(), FrontError>
-    requires { from + shape.now.tokens ≤ length lexed.now.tokens }
-    ensures children { OnOk result (children.new.items
-        ≡ children.old.items ++ shape_span lexed.now.tokens from shape.now step ∷ []) }
-    ensures refusals { IfErr result IsOutOfMemory }
-{
-    // The length bounds the offsets.
-    let _ = lexed.len();
-    children.push(ChildSpan {
-        step,
-        tokens: shape.tokens,
-        start: lexed.text_start(from) as u32,
-        end: lexed.text_start(from + shape.tokens) as u32,
-        node: shape.node,
-    })?;
-    Ok(())
-}
-
-// Emits the steps of a text that is divided into statements, and appends the children of the root
-// and the errors up to the last unknown statement. Returns the index of the next lexical error.
+// Emits the steps of a text that is divided into statements, and appends the errors up to the last
+// unknown statement. Returns the index of the next lexical error.
 #[tactic(auto, using(crate::proofs::ChildTokenLemmas::kinds_len))]
 fn emit_children<G: ChildGrammar>(
     grammar: &G,
     lexed: &LexedStr<'_>,
     division: Division,
     tree: &mut TreeBuilder,
-    children: &mut Vec<ChildSpan>,
     errors: &mut Vec<ParseError>,
 ) -> Result<usize, FrontError>
     requires built { IsBuilt tree.old }
     requires no_steps { tree.old.steps.items ≡ [] }
-    requires no_children { children.old.items ≡ [] }
     requires no_errors { errors.old.items ≡ [] }
     ensures steps { OnOk result (tree.new.steps.items
         ≡ without_errors (woven_text (G.told grammar.now division) lexed.now.tokens)) }
     ensures built { OnOk result (IsBuilt tree.new) }
-    ensures children { OnOk result (children.new.items ≡ child_spans tree.new.steps.items) }
     ensures errors { IfOk result (λ next. errors.new.items
         ++ drop next (errors_of 0 lexed.now.tokens)
         ≡ merged_errors 0 lexed.now.tokens (errors_of 0 lexed.now.tokens)
@@ -271,7 +236,6 @@ fn emit_children<G: ChildGrammar>(
     let (mut at, mut error) = (0, 0);
     while at < kinds.len() {
         let shape = first_child_in(&kinds[at..], division);
-        push_child(children, lexed, at, &shape, tree.steps.len())?;
         error = push_child_errors(errors, lexed, Walk { token: at, error }, &shape)?;
         emit_child(grammar, lexed, division, at, shape, tree)?;
         at += shape.tokens;
@@ -282,41 +246,38 @@ fn emit_children<G: ChildGrammar>(
 
 /// Parses the tokens of a text by a grammar of children, where `division` divides them into the
 /// children of the root. The only error is `OutOfMemory`.
+///
+/// Takes the tokens, so that they are freed before the children of the root are listed.
 pub fn parse_children<G: ChildGrammar>(
     alloc: Global,
-    lexed: &LexedStr<'_>,
+    lexed: LexedStr<'_>,
     division: Division,
     grammar: &G,
 ) -> Result<Parse, FrontError>
-    ensures parse { ParsesTokens (G.told grammar.now division) lexed.now result }
-    ensures sound { IsTrue (are_sound lexed.now.tokens) }
+    ensures parse { ParsesTokens (G.told grammar.now division) lexed.entry result }
+    ensures sound { IsTrue (are_sound lexed.entry.tokens) }
     ensures refusals { IfErr result IsOutOfMemory }
 {
     let mut tree = TreeBuilder::with_room(alloc, lexed.len());
-    let mut children = children_with_room(alloc, lexed.len() / TOKENS_PER_CHILD);
     let mut errors = Vec::new(alloc);
-    let next = emit_children(
-        grammar,
-        lexed,
-        division,
-        &mut tree,
-        &mut children,
-        &mut errors,
-    )?;
+    let next = emit_children(grammar, &lexed, division, &mut tree, &mut errors)?;
     let len = lexed.text_start(lexed.len());
-    push_lexical_errors(&mut errors, lexed, next, len)?;
-    tree.finish(children, errors, len as u32)
+    push_lexical_errors(&mut errors, &lexed, next, len)?;
+    drop(lexed);
+    tree.finish(alloc, errors, len as u32)
 }
 
 /// Parses the tokens of a text into statements, as `parse_divided` parses the text. The only error
 /// is `OutOfMemory`.
+///
+/// Takes the tokens, as `parse_children` does.
 pub fn parse_statements(
     alloc: Global,
-    lexed: &LexedStr<'_>,
+    lexed: LexedStr<'_>,
     division: Division,
 ) -> Result<Parse, FrontError>
-    ensures parse { ParsesTokens (plain division) lexed.now result }
-    ensures sound { IsTrue (are_sound lexed.now.tokens) }
+    ensures parse { ParsesTokens (plain division) lexed.entry result }
+    ensures sound { IsTrue (are_sound lexed.entry.tokens) }
     ensures refusals { IfErr result IsOutOfMemory }
 {
     parse_children(alloc, lexed, division, &PlainChildren)

@@ -2,13 +2,14 @@
 ghost use Rattle.std.specs.Prelude.{◌≡◌, ◌≤◌, ◌<◌, ◌+◌, ◌++◌, ◌^◌, ◌∷◌, [], ℕ, List, IfOk, IsTrue};
 ghost use Rattle.squawk_events.specs.declared.steps.StrStep.{StrStep as Given};
 ghost use Rattle.squawk_tree.specs.ChildPass.{remaining, depth, IsCounted};
+ghost use Rattle.squawk_tree.specs.ChildSpans.{child_spans};
 ghost use Rattle.squawk_tree.specs.Spans.{offset_after};
 ghost use Rattle.squawk_tree.specs.declared.children.PassState.TheVariants.{UnderRoot, InChild};
-ghost use Rattle.squawk_tree.specs.Steps.{closes};
+ghost use Rattle.squawk_tree.specs.Steps.{closes, is_balanced};
 
 use squawk_events::StrStep;
 use squawk_kinds::SyntaxKind;
-use std::alloc::AllocError;
+use std::alloc::{AllocError, Global};
 
 /// A child of the root: a leaf, or a node with all of its descendants.
 #[derive(Clone, Copy, Debug, PartialEq, Eq)]
@@ -28,7 +29,7 @@ pub struct ChildSpan {
 // A child of the root whose `Exit` was not read yet: its first step, the number of its tokens that
 // were read, its start, its kind, and the number of nodes that are open inside it.
 #[derive(Clone, Copy)]
-pub(crate) struct OpenChild {
+struct OpenChild {
     step: usize,
     tokens: usize,
     start: u32,
@@ -38,7 +39,7 @@ pub(crate) struct OpenChild {
 
 // The state of a pass over the steps: after the root, directly inside it, or in a child of it.
 #[derive(Clone, Copy)]
-pub(crate) enum PassState {
+enum PassState {
     Outside,
     UnderRoot,
     InChild { child: OpenChild },
@@ -126,7 +127,7 @@ fn pass_in_child(
 
 // Reads a step. Returns the next state.
 #[inline(always)]
-pub(crate) fn pass_step(
+fn pass_step(
     children: &mut Vec<ChildSpan>,
     state: PassState,
     at: u32,
@@ -148,4 +149,45 @@ pub(crate) fn pass_step(
         PassState::UnderRoot => pass_under_root(children, at, index, step),
         PassState::InChild { child } => pass_in_child(children, child, at, step),
     }
+}
+
+// The end of the last token after a step, if before it that is `at`.
+fn offset_after(at: u32, step: StrStep) -> u32
+    ensures { result ≡ offset_after at step }
+{
+    match step {
+        StrStep::Token { end, .. } => end,
+        _ => at,
+    }
+}
+
+// An empty list of children with room for this many. If that much memory cannot be had, it grows as
+// needed.
+fn children_with_room(alloc: Global, room: usize) -> Vec<ChildSpan>
+    ensures { result.items ≡ [] }
+{
+    let mut children = Vec::new(alloc);
+    let _ = children.reserve(room);
+    children
+}
+
+// The root's children, in a list that has room for `room` of them from the start.
+pub(crate) fn children_of(
+    alloc: Global,
+    steps: &[StrStep],
+    room: usize,
+) -> Result<Vec<ChildSpan>, AllocError>
+    requires { IsTrue (is_balanced steps.now) }
+    ensures { IfOk result (λ children. children.items ≡ child_spans steps.now) }
+{
+    let mut children = children_with_room(alloc, room);
+    // The first step enters the root.
+    let (mut state, mut at) = (PassState::UnderRoot, 0);
+    for i in 1..steps.len() {
+        // The prover takes a step that is passed twice by reference.
+        let step = &steps[i];
+        state = pass_step(&mut children, state, at, i, *step)?;
+        at = offset_after(at, *step);
+    }
+    Ok(children)
 }

@@ -171,7 +171,7 @@ pub fn parse_divided(
     children_join();
     parses_are_trees();
     let lexed = LexedStr::new_in(alloc, text, strings)?;
-    parse_statements(alloc, &lexed, division)
+    parse_statements(alloc, lexed, division)
 }
 
 /// Parses a text into statements, where each semicolon ends one; `strings` says how plain

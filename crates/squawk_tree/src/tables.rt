@@ -1,11 +1,11 @@
-//! What a tree keeps beside its steps, found in one pass over them.
+//! What a tree keeps beside its steps, found in passes over them.
 ghost use Rattle.std.specs.Prelude.{◌≡◌, ◌+◌, ◌<◌, ◌^◌, ℕ, List, OnOk, IfOk, IsTrue, [], take};
 ghost use Rattle.squawk_events.specs.declared.steps.StrStep.{StrStep as Given};
 ghost use Rattle.squawk_tree.specs.ChildSpans.{child_spans};
 ghost use Rattle.squawk_tree.specs.NodeRanges.{node_step_count, node_ranges, AreNodeStepCounts, AreCountsUpTo};
 ghost use Rattle.squawk_tree.specs.Steps.{is_balanced};
 
-use crate::children::{ChildSpan, PassState, pass_step};
+use crate::children::{ChildSpan, children_of};
 use crate::spans::{STRIDE, add_step};
 use squawk_events::StrStep;
 use std::alloc::{AllocError, Global};
@@ -31,16 +31,6 @@ fn push_count(counts: &mut Vec<usize>, i: usize, node_steps: usize) -> Result<()
     Ok(())
 }
 
-// An empty list of children with room for this many. If that much memory cannot be had, it grows as
-// needed.
-pub(crate) fn children_with_room(alloc: Global, room: usize) -> Vec<ChildSpan>
-    ensures { result.items ≡ [] }
-{
-    let mut children = Vec::new(alloc);
-    let _ = children.reserve(room);
-    children
-}
-
 // The tables of a tree with these steps. `node_steps` is the number of `Enter` and `Exit` steps, or
 // 0 if unknown: room for as many ranges and children is reserved.
 pub(crate) fn tables_of(
@@ -56,16 +46,12 @@ pub(crate) fn tables_of(
     let mut spans = Vec::with_capacity(alloc, node_steps)?;
     let mut counts = Vec::with_capacity(alloc, steps.len() / STRIDE + 1)?;
     let mut open_nodes = Vec::new(alloc);
-    let mut children = children_with_room(alloc, node_steps);
-    // The first step enters the root.
-    push_count(&mut counts, 0, 0)?;
-    let mut at = add_step(&mut spans, &mut open_nodes, 0, steps[0])?;
-    let mut state = PassState::UnderRoot;
-    for i in 1..steps.len() {
+    let mut at = 0;
+    for i in 0..steps.len() {
         push_count(&mut counts, i, spans.len())?;
-        state = pass_step(&mut children, state, at, i, steps[i])?;
         at = add_step(&mut spans, &mut open_nodes, at, steps[i])?;
     }
+    let children = children_of(alloc, steps, node_steps)?;
     Ok(Tables {
         spans,
         counts,

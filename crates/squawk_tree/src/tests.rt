@@ -202,7 +202,7 @@ fn divisions(rt: HostRuntime) -> Result<(), Fail> {
 // The tree of a text by a grammar of children.
 fn tree_by<G: ChildGrammar>(alloc: Global, text: &str, grammar: &G) -> Result<Parse, FrontError> {
     let lexed = LexedStr::new_in(alloc, text, Strings::Standard)?;
-    parse_children(alloc, &lexed, Division::Flat, grammar)
+    parse_children(alloc, lexed, Division::Flat, grammar)
 }
 
 #[test]
@@ -223,7 +223,7 @@ fn tokens_have_trees(rt: HostRuntime) -> Result<(), Fail> {
         let lexed = LexedStr::new_in(rt.alloc(), row.text, Strings::Standard)
             .ok()
             .ok_or(row.name)?;
-        let parse = parse_statements(rt.alloc(), &lexed, Division::Flat)
+        let parse = parse_statements(rt.alloc(), lexed, Division::Flat)
             .ok()
             .ok_or(row.name)?;
         let lines = render(rt.alloc(), &parse, row.text)?;

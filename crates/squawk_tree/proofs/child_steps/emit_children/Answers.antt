@@ -5,8 +5,8 @@ use Rattle.squawk_tree.proofs.child_steps.emit_children.Goals as goal
 
 pub loop-at-init : goal.loop-at-init
 loop-at-init g c = record {
-  children = children_start _ c.args.division c.args.lexed.now.tokens _ _ _ _
-      c.in_ok-push.ensures.steps c.requires.no_steps c.requires.no_children c.requires.no_errors;
+  children = children_start _ c.args.division c.args.lexed.now.tokens _ _ _
+      c.in_ok-push.ensures.steps c.requires.no_steps c.requires.no_errors;
   built = c.in_ok-push.ensures.built;
   within = omega arith;
   error_within = omega arith;
@@ -24,12 +24,9 @@ loop-at-preserved g c =
     c.loop-at-test.true refl c.first_child_in-shape.ensures.within in
     record {
       children = children_more _ (g.met.G.ChildGrammar.lawful c.args.grammar.now c.args.division).children
-          c.args.division c.args.lexed.now.tokens _ _ c.loop-at.at _ _ _
-          _ _ _ _ _ _ _ _ (c.len.ensures ∙ c.loop-at.tree.steps.ok.0) c.kinds-kinds.ensures
-          c.loop-at-test.true refl
-          c.first_child_in-shape.ensures.shape refl within c.in_ok-emit_child.ensures.steps
-          c.in_ok-push_child.ensures.children c.in_ok-error.ensures.ok
-          c.loop-at.invariant.children;
+          c.args.division c.args.lexed.now.tokens _ _ c.loop-at.at _ _ _ _ _ _ _ _
+          c.kinds-kinds.ensures c.loop-at-test.true refl c.first_child_in-shape.ensures.shape refl
+          c.in_ok-emit_child.ensures.steps c.in_ok-error.ensures.ok c.loop-at.invariant.children;
       built = c.in_ok-emit_child.ensures.built;
       within = within;
       error_within = c.in_ok-error.ensures.within;
@@ -38,20 +35,13 @@ loop-at-preserved g c =
 pub returns-clause-steps : goal.returns-clause-steps
 returns-clause-steps g c =
     (children_done _ _ c.args.division (g.met.G.ChildGrammar.lawful c.args.grammar.now c.args.division)
-    c.args.lexed.now.tokens _ c.loop-at.at c.loop-at.error _ _ _ _
+    c.args.lexed.now.tokens _ c.loop-at.at c.loop-at.error _ _ _
     c.kinds-kinds.ensures (omega (arith, c.loop-at-test.false)) c.loop-at.invariant.children
     c.in_ok-push-2.ensures.steps).steps_are
-
-pub returns-clause-children : goal.returns-clause-children
-returns-clause-children g c =
-    (children_done _ _ c.args.division (g.met.G.ChildGrammar.lawful c.args.grammar.now c.args.division)
-    c.args.lexed.now.tokens _ c.loop-at.at c.loop-at.error _ _ _ _
-    c.kinds-kinds.ensures (omega (arith, c.loop-at-test.false)) c.loop-at.invariant.children
-    c.in_ok-push-2.ensures.steps).children_are
 
 pub returns-clause-errors : goal.returns-clause-errors
 returns-clause-errors g c =
     (children_done _ _ c.args.division (g.met.G.ChildGrammar.lawful c.args.grammar.now c.args.division)
-    c.args.lexed.now.tokens _ c.loop-at.at c.loop-at.error _ _ _ _
+    c.args.lexed.now.tokens _ c.loop-at.at c.loop-at.error _ _ _
     c.kinds-kinds.ensures (omega (arith, c.loop-at-test.false)) c.loop-at.invariant.children
     c.in_ok-push-2.ensures.steps).errors_are

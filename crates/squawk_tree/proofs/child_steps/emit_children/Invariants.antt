@@ -8,7 +8,7 @@ use Rattle.squawk_tree.proofs.child_steps.emit_children.Given as goal
 abbrev pub invariant-loop-at : goal.invariant-loop-at
 invariant-loop-at g l = record {
   children : ChildrenSoFar (g.G.ChildGrammar.child l.grammar l.division) l.division
-      l.lexed.tokens l.at l.error l.tree.steps.items l.children.items l.errors.items;
+      l.lexed.tokens l.at l.error l.tree.steps.items l.errors.items;
   built : IsBuilt l.tree;
   within : l.at ≤ length l.lexed.tokens;
   error_within : l.error ≤ length (errors_of 0 l.lexed.tokens);

@@ -1,9 +1,5 @@
-use Rattle.std.proofs.Common.{◌≡◌, ◌++◌, drop, length, reverse, take}
-use Rattle.std.specs.Prelude.{IsTrue}
-use Rattle.squawk_tree.specs.ChildPass.{remaining, depth, IsCounted}
-use Rattle.squawk_tree.specs.ChildSpans.{child_spans}
+use Rattle.std.proofs.Common.{◌≡◌, drop, length, reverse, take}
 use Rattle.squawk_tree.specs.NodeRanges.{node_ranges, node_step_count, AreCountsUpTo}
-use Rattle.squawk_tree.specs.Steps.{closes}
 use Rattle.squawk_tree.proofs.SpanLemmas.{SpansSoFar}
 use Rattle.squawk_tree.proofs.tables.tables_of.Given as goal
 
@@ -14,8 +10,4 @@ invariant-loop-i l = record {
       (node_ranges l.steps);
   nodes : length l.spans.items ≡ node_step_count (take l.i l.steps);
   counts : AreCountsUpTo l.steps l.i l.counts.items;
-  children : l.children.items ++ remaining l.state l.at l.i (drop l.i l.steps)
-      ≡ child_spans l.steps;
-  closes : IsTrue (closes (depth l.state) (drop l.i l.steps));
-  counted : IsCounted l.i l.state;
 }
