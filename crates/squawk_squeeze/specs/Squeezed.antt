@@ -101,8 +101,8 @@ IsUnchangedBySqueezing strings out = squeezed_text strings (chars out) ≡ chars
 -- ---- for private functions
 
 -- the tokens of a text from byte `at` on
-abbrev pub tokens_after : Strings → List ℕ → ℕ → List TextToken
-tokens_after strings text at = text_tokens_from strings 0 (at == 0) (chars (drop at text))
+abbrev pub text_tokens_at : Strings → List ℕ → ℕ → List TextToken
+text_tokens_at strings text at = text_tokens_from strings 0 (at == 0) (chars (drop at text))
 
 -- the bytes that a run becomes
 abbrev pub separator_bytes : TriviaRun → List ℕ
@@ -110,10 +110,10 @@ separator_bytes None = []
 separator_bytes (Some line_end) = separator line_end ∷ []
 
 -- the output where these tokens follow those so far
-abbrev pub squeezed_bytes : Squeezer → List TextToken → List ℕ
-squeezed_bytes s ts = string_bytes s.out ++ encode_utf8_all (text_of (squeeze_tokens s.run ts))
+abbrev pub output_with_rest : Squeezer → List TextToken → List ℕ
+output_with_rest s ts = string_bytes s.out ++ encode_utf8_all (text_of (squeeze_tokens s.run ts))
 
 -- a token that is trivia or not, with this text, joined those so far, whatever tokens follow
 abbrev pub IsPushed : Bool → List ℕ → Squeezer → Squeezer → Type 0
 IsPushed trivia text old new = (kind : TokenKind) (ts : List TextToken) → is_trivia kind ≡ trivia
-    → squeezed_bytes new ts ≡ squeezed_bytes old (text_token kind text ∷ ts)
+    → output_with_rest new ts ≡ output_with_rest old (text_token kind text ∷ ts)

@@ -106,7 +106,7 @@ impl Squeezer {
 
     // Ends the text: the last run becomes its separator.
     fn finish(self) -> Result<String, AllocError>
-        ensures { IfOk result (λ out. string_bytes out ≡ spec.squeezed_bytes self []) }
+        ensures { IfOk result (λ out. string_bytes out ≡ spec.output_with_rest self []) }
     {
         let Squeezer { mut out, run } = self;
         push_separator(&mut out, run)?;

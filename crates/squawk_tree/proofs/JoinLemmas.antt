@@ -16,14 +16,14 @@ use Rattle.squawk_lexed.specs.LexedText.{total_len}
 use Rattle.squawk_lexed.specs.LexedToken.{LexedToken}
 use Rattle.squawk_statements.specs.Children.{ends_statement, parts}
 use Rattle.squawk_tree.proofs.FirstPart.{more, more_of, first_part}
-use Rattle.squawk_statements.specs.Plain.{body_steps, exits, kind_steps, groups_open_after, enters_before, exits_after, unknown_statement_error, child_steps, children_steps, plain}
+use Rattle.squawk_statements.specs.Plain.{body_steps, exits, kind_steps, groups_open_after, enters_before, exits_after, unknown_statement_error, child_steps, children_by, plain}
 use Rattle.squawk_statements.specs.declared.division.Division.{Division}
 use Rattle.squawk_statements.specs.declared.division.Division.TheVariants.{Flat, Grouped}
 use Rattle.squawk_tree.specs.Errors.{errors}
 use Rattle.squawk_tree.specs.Join.{woven_child, shifted_step, shifted_error, child_of, children_len}
 use Rattle.squawk_tree.specs.ParseOf.{lexed_role}
 use Rattle.squawk_tree.specs.ChildSteps.{woven_children}
-use Rattle.squawk_tree.specs.ChildGrammar.{AreChildSteps, children_by, woven_by, woven_children_by}
+use Rattle.squawk_tree.specs.ChildGrammar.{AreChildSteps, woven_by, woven_children_by}
 use Rattle.squawk_tree.specs.PlainChildren.{plain_child, plain_children}
 use Rattle.squawk_tree.proofs.CutLemmas.{trivia_role, first_cut}
 use Rattle.squawk_tree.proofs.FitsLemmas.{append_woven, fits, fits_steps}
@@ -184,7 +184,7 @@ placed_by c law (suc n) d at (t ∷ ts) h =
 
 -- in the parse into statements
 pub placed : (n : ℕ) (d : Division) (at : ℕ) (ts : List LexedToken) → length ts ≤ n
-    → weave_from at ts (children_steps d (parts role d (kinds_without_trivia ts)) ++ Exit ∷ [])
+    → weave_from at ts (children_by (child_steps d) (parts role d (kinds_without_trivia ts)) ++ Exit ∷ [])
     ≡ woven_children d at (parts lexed_role d ts) ++ out.Exit ∷ []
 placed n d at ts h =
     ap (λ xs. weave_from at ts (xs ++ Exit ∷ []))
