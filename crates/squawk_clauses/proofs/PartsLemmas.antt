@@ -41,7 +41,8 @@ pub steps_more : (before after start : List Step) (d : Division) (kinds rest par
     → part ≡ take (at + shape.tokens - at) (drop at kinds)
     → before ++ children_by (clause_child_steps d) (parts role d (drop at kinds)) ≡ start
     → after ≡ before ++ clause_child_steps d part
-    → after ++ children_by (clause_child_steps d) (parts role d (drop (at + shape.tokens) kinds)) ≡ start
+    → after ++ children_by (clause_child_steps d) (parts role d (drop (at + shape.tokens) kinds))
+    ≡ start
 steps_more before after start d kinds rest part at shape some rest_is shape_is part_is so_far more =
     let n = shape.tokens in
     let n_is : n ≡ (first_child d (map role rest)).tokens =
@@ -55,7 +56,8 @@ steps_more before after start d kinds rest part at shape some rest_is shape_is p
     let there : drop n (drop at kinds) ≡ drop (at + n) kinds = drop-drop n at kinds in
     rw more (append_assoc before (clause_child_steps d part)
     (children_by (clause_child_steps d) (parts role d (drop (at + n) kinds)))
-    ∙ rw (here, ← there) (ap (λ ps. before ++ children_by (clause_child_steps d) ps) (sym step)) ∙ so_far)
+    ∙ rw (here, ← there) (ap (λ ps. before ++ children_by (clause_child_steps d) ps) (sym step))
+    ∙ so_far)
 
 -- the node of the first child, by its own kinds
 pub node_of_part : (d : Division) (kinds rest : List ℕ) (at : ℕ) (shape : ChildShape)

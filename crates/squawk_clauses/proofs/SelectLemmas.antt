@@ -189,7 +189,8 @@ other_woven n f b (Some node) at ws t ts z zs none is =
     ap (woven at (ws ++ t ∷ ts)) (append_assoc (clause_end b ++ Enter node ∷ []) kinds (z ∷ zs)
     ∙ append_assoc (clause_end b) (Enter node ∷ []) own)
     ∙ clause_first b at (ws ++ t ∷ ts) (Enter node) own
-    ∙ ap (λ ys. exit_steps (open_nodes b 0) ++ ys) (trivia_woven at ws (t ∷ ts) (Enter node ∷ own) none refl
+    ∙ ap (λ ys. exit_steps (open_nodes b 0) ++ ys)
+    (trivia_woven at ws (t ∷ ts) (Enter node ∷ own) none refl
     ∙ ap (λ ys. trivia ++ ys) (enter_first m node t ts own is
     ∙ ap (λ ys. out.Enter node ∷ ys) (group_first n m f t ts z zs is)))
     ∙ sym (append_assoc (exit_steps (open_nodes b 0)) trivia (out.Enter node ∷ group ++ rest))
@@ -434,7 +435,8 @@ select_end d b n ts from i to s0 s1 s2 s3 s4 start last none_left e1 e2 e3 e4 so
     let none : kinds_without_trivia (slice_range ts from to) ≡ [] =
     ap (λ m. kinds_without_trivia (slice_range ts from m)) (sym last) ∙ none_left in
     rw (e4, e3, e2, e1)
-    (ap (λ ys. (ys ++ trivia) ++ out.Exit ∷ []) (append_assoc s0 (exit_steps n) (exit_steps (open_nodes b 0)))
+    (ap (λ ys. (ys ++ trivia) ++ out.Exit ∷ [])
+    (append_assoc s0 (exit_steps n) (exit_steps (open_nodes b 0)))
     ∙ ap (λ ys. ys ++ out.Exit ∷ []) (append_assoc s0 ends trivia)
     ∙ append_assoc s0 (ends ++ trivia) (out.Exit ∷ [])
     ∙ ap (λ ys. s0 ++ ys)

@@ -124,7 +124,8 @@ begins_or_none None xs = true
 begins_or_none (Some node) xs = begins_with_token xs
 
 begins_by_role : (d : Division) (n kind : ℕ) (f : Role) (next_clause : Option ℕ) (xs : List Step)
-    → is_other_or_none f next_clause ≡ true → begins_or_none next_clause (steps_by d n kind f ++ xs) ≡ true
+    → is_other_or_none f next_clause ≡ true
+    → begins_or_none next_clause (steps_by d n kind f ++ xs) ≡ true
 begins_by_role d n kind f None xs h = refl
 begins_by_role d n kind Trivia (Some node) xs h = absurd (cc h)
 begins_by_role d n kind Semicolon (Some node) xs h = absurd (cc h)
@@ -138,7 +139,8 @@ begins_by_role d n kind Other (Some node) xs h = refl
 
 stays_start : (in_clause : Bool) (next_clause : Option ℕ) (nodes : List Bool) (xs : List Step)
     → is_clause_or_none next_clause ≡ true → begins_or_none next_clause xs ≡ true
-    → stays (with_clause in_clause (false ∷ false ∷ nodes)) (clause_start in_clause next_clause ++ xs)
+    → stays (with_clause in_clause (false ∷ false ∷ nodes))
+    (clause_start in_clause next_clause ++ xs)
     ≡ stays (with_clause (in_clause || is_some next_clause) (false ∷ false ∷ nodes)) xs
 stays_start true None nodes xs h t = refl
 stays_start false None nodes xs h t = refl
@@ -280,5 +282,6 @@ stays_children d (p ∷ ps) nodes xs =
 
 -- what stands in the root
 pub children_stay : (d : Division) (kinds : List ℕ)
-    → stays (false ∷ []) (children_by (clause_child_steps d) (parts role d kinds) ++ Exit ∷ []) ≡ true
+    → stays (false ∷ []) (children_by (clause_child_steps d) (parts role d kinds) ++ Exit ∷ [])
+    ≡ true
 children_stay d kinds = stays_children d (parts role d kinds) [] (Exit ∷ [])

@@ -113,7 +113,8 @@ closes_clause_children : (d : Division) (m : ℕ) (ps : List (List ℕ)) (xs : L
     → closes (suc m) (children_by (clause_child_steps d) ps ++ xs) ≡ closes (suc m) xs
 closes_clause_children d m [] xs = refl
 closes_clause_children d m (p ∷ ps) xs =
-    ap (closes (suc m)) (append_assoc (clause_child_steps d p) (children_by (clause_child_steps d) ps) xs)
+    ap (closes (suc m))
+    (append_assoc (clause_child_steps d p) (children_by (clause_child_steps d) ps) xs)
     ∙ closes_clause_child d m p (children_by (clause_child_steps d) ps ++ xs)
     ∙ closes_clause_children d m ps xs
 

@@ -244,7 +244,8 @@ without_children d (p ∷ ps) nodes xs =
     (children_by (clause_child_steps d) ps) xs)
     ∙ without_child d p nodes (children_by (clause_child_steps d) ps ++ xs)
     ∙ ap (λ ys. child_steps d p ++ ys) (without_children d ps nodes xs)
-    ∙ sym (append_assoc (child_steps d p) (children_by (child_steps d) ps) (without_clauses_from nodes xs))
+    ∙ sym (append_assoc (child_steps d p) (children_by (child_steps d) ps)
+    (without_clauses_from nodes xs))
 
 -- the steps of a list of kinds
 root_is_no_clause : is_clause_node kind.SOURCE_FILE ≡ false

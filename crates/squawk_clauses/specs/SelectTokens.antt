@@ -24,7 +24,8 @@ select_left d in_clause n ts from to = without_errors (weave_from (token_start t
 -- trivia, and the start of a clause after it, if one begins: the clause before it ends first
 abbrev pub clause_enter : Bool → Option ℕ → List StrStep → List StrStep
 clause_enter in_clause None trivia = trivia
-clause_enter in_clause (Some node) trivia = (exit_steps (open_nodes in_clause 0) ++ trivia) ++ Enter node ∷ []
+clause_enter in_clause (Some node) trivia =
+    (exit_steps (open_nodes in_clause 0) ++ trivia) ++ Enter node ∷ []
 
 -- the steps of a token of this kind, after trivia
 abbrev pub select_token : Division → Bool → ℕ → ℕ → List StrStep → StrStep → List StrStep

@@ -29,7 +29,8 @@ use std::alloc::Global;
 // Emits the end of the clause that is open, if one is.
 fn emit_clause_exit(in_clause: bool, tree: &mut TreeBuilder) -> Result<(), FrontError>
     requires { IsBuilt tree.old }
-    ensures steps { OnOk result (emitted tree.new ≡ emitted tree.old ++ exit_steps (open_nodes in_clause 0)) }
+    ensures steps { OnOk result (emitted tree.new
+        ≡ emitted tree.old ++ exit_steps (open_nodes in_clause 0)) }
     ensures built { OnOk result (IsBuilt tree.new) }
     ensures refusals { IfErr result IsOutOfMemory }
 {

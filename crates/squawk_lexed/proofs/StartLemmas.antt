@@ -33,7 +33,8 @@ lexed text at t = record {
 -- the first of these tokens is the one that is cut there, and the others are those after it
 record Begins (strings : Strings) (text : List ℕ) (at : ℕ) (t : Token) : Type 0 where
   boundary : IsCharBoundary text (at + t.len)
-  tokens : lexed_tokens_at strings text at ≡ lexed text at t ∷ lexed_tokens_at strings text (at + t.len)
+  tokens : lexed_tokens_at strings text at
+      ≡ lexed text at t ∷ lexed_tokens_at strings text (at + t.len)
 
 not_at_start : (at n : ℕ) → 1 ≤ n → false ≡ (at + n == 0)
 not_at_start at n h = sym (let e : (at + n == 0) ≡ false = grind (arith, nat_tests) in e)

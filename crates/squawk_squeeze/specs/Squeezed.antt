@@ -1,8 +1,11 @@
 -- The text in which one character stands for each run of trivia. Texts are lists of characters.
-use Rattle.std.specs.Prelude.{◌≡◌, ℕ, zero, suc, ◌-◌, Bool, true, false, ◌||◌, List, [], ◌∷◌, ◌++◌, ◌==◌, take, drop, Option, Some, None, if◌then◌else◌}
+use Rattle.std.specs.Prelude.{◌≡◌, ℕ, zero, suc, ◌-◌, Bool, true, false, ◌||◌, List, [], ◌∷◌, ◌++◌, ◌==◌, take, drop, Option, Some, None, String, Result, IfOk, if◌then◌else◌}
 use Rattle.std.specs.List.{list_any}
 use Rattle.std.specs.Str.{chars, encode_utf8_all}
 use Rattle.std.specs.String.{string_bytes}
+use Rattle.std.specs.declared.alloc.Global.{Global}
+use Rattle.squawk_events.specs.declared.error.FrontError.{FrontError}
+use Rattle.squawk_lexed.specs.LexedText.{LexedText, lexed_text}
 use Rattle.squawk_lexer.specs.declared.token.TokenKind.{TokenKind}
 use Rattle.squawk_lexer.specs.declared.token.TokenKind.TheVariants.{Whitespace}
 use Rattle.squawk_lexer.specs.declared.token.Strings.{Strings}
@@ -97,6 +100,15 @@ KeepsTokens strings text out =
 -- nothing is left to squeeze in `out`
 abbrev pub IsUnchangedBySqueezing : Strings → List ℕ → Type 0
 IsUnchangedBySqueezing strings out = squeezed_text strings (chars out) ≡ chars out
+
+-- ---- what `squeeze_lexed` returns
+
+-- what holds of the output is `Holds`, for each text that has these tokens by a reading of strings
+abbrev pub OfItsText : LexedText → Result (String Global) FrontError
+    → (Strings → List ℕ → List ℕ → Type 0) → Type 0
+OfItsText lexed result Holds =
+    (strings : Strings) (text : List ℕ) → lexed ≡ lexed_text strings text
+    → IfOk result (λ out. Holds strings text (string_bytes out))
 
 -- ---- for private functions
 

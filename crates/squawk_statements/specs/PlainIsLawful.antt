@@ -276,12 +276,12 @@ child_balanced d kinds =
     ∙ closes_unknown (node_of kinds == ERROR) 0 (body_steps d 0 kinds ++ Exit ∷ [])
     ∙ closes_body d 0 0 kinds (Exit ∷ [])
 
--- and its tokens have these kinds in order
+-- the tokens of a child's steps have its kinds, in order
 pub child_tokens : (d : Division) (kinds : List ℕ) → token_kinds (child_steps d kinds) ≡ kinds
 child_tokens d kinds = ap token_kinds (sym (append-nil (child_steps d kinds)))
     ∙ tokens_child d kinds [] ∙ append-nil kinds
 
--- and the numbers of its errors are lawful
+-- the errors in a child's steps have lawful numbers
 pub child_numbers : (d : Division) (kinds : List ℕ)
     → has_lawful_numbers (child_steps d kinds) ≡ true
 child_numbers d kinds = ap has_lawful_numbers (sym (append-nil (child_steps d kinds)))

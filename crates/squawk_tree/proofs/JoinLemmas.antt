@@ -24,7 +24,7 @@ use Rattle.squawk_tree.specs.Join.{woven_child, shifted_step, shifted_error, chi
 use Rattle.squawk_tree.specs.ParseOf.{lexed_role}
 use Rattle.squawk_tree.specs.ChildSteps.{woven_children}
 use Rattle.squawk_tree.specs.ChildGrammar.{AreChildSteps, woven_by, woven_children_by}
-use Rattle.squawk_tree.specs.PlainChildren.{plain_child, plain_children}
+use Rattle.squawk_tree.specs.PlainChildren.{plain_child}
 use Rattle.squawk_tree.proofs.CutLemmas.{trivia_role, first_cut}
 use Rattle.squawk_tree.proofs.FitsLemmas.{append_woven, fits, fits_steps}
 
@@ -184,12 +184,10 @@ placed_by c law (suc n) d at (t ∷ ts) h =
 
 -- in the parse into statements
 pub placed : (n : ℕ) (d : Division) (at : ℕ) (ts : List LexedToken) → length ts ≤ n
-    → weave_from at ts (children_by (child_steps d) (parts role d (kinds_without_trivia ts)) ++ Exit ∷ [])
+    → weave_from at ts (children_by (child_steps d) (parts role d (kinds_without_trivia ts))
+    ++ Exit ∷ [])
     ≡ woven_children d at (parts lexed_role d ts) ++ out.Exit ∷ []
-placed n d at ts h =
-    ap (λ xs. weave_from at ts (xs ++ Exit ∷ []))
-    (plain_children d (parts role d (kinds_without_trivia ts)))
-    ∙ placed_by (child_steps d) (plain_child d) n d at ts h
+placed n d at ts h = placed_by (child_steps d) (plain_child d) n d at ts h
 
 -- ---- shifts
 

@@ -13,15 +13,17 @@ use squawk_kinds::SyntaxKind;
 use squawk_lexed::LexedStr;
 use squawk_statements::{ChildShape, Division};
 
-/// Emits the node of each child of the root from the tokens of the child. The rest of a tree is made
-/// by `parse_children`: the division into children, the root with its leaves, and the errors.
+/// Emits the node of each child of the root from the tokens of the child. `parse_children` makes
+/// the rest of a tree: it divides the tokens, and emits the root, its leaves and the errors.
 ///
-/// In contracts, an implementation stands for two functions on kinds without trivia. `told` has the
-/// steps of a whole text, and `child` those of one child of the root. It proves two things. By the
-/// clauses of `emit_node`, the child gets the steps of `child`, woven with its trivia. By `lawful`,
-/// the two functions are a grammar: the steps of a text are a root over those of its children. Those
-/// of a child are its node, with the error of an unknown statement and no other, and inside it a
-/// tree of its kinds in which each node has a token.
+/// In contracts, an implementation stands for two functions on kinds without trivia: `told` returns
+/// the steps of a text, and `child` those of one child of the root. It proves that `emit_node`
+/// emits the steps of `child`, woven with the trivia of the child, and that the two functions are a
+/// grammar (`lawful`):
+///
+/// - the steps of a text are a root over the steps of its children, and a lawful tree of its kinds;
+/// - the steps of a child are its node, with the error of an unknown statement and no other, and a
+///   tree of its kinds in which each inner node has a token.
 pub trait ChildGrammar {
     /// The steps of a text, by its kinds without trivia.
     ghost told: { Self → divisions.Division → List ℕ → List steps.Step };
@@ -29,12 +31,11 @@ pub trait ChildGrammar {
     /// The steps of a child of the root, by its kinds without trivia.
     ghost child: { Self → divisions.Division → List ℕ → List steps.Step };
 
-    /// Appends the steps of a child that is a node to `tree`, with the trivia in it, but without its
-    /// error.
+    /// Appends the steps of a child that is a node to `tree`, trivia included, but not its error.
     ///
-    /// `from` is the index of the child's first token in `lexed`, where trivia counts. `shape` is
-    /// that of the child, by `division`: it has the `shape.tokens` tokens from `from` on. `node` is
-    /// the kind of its node, as in `shape.node`.
+    /// `from` is the index in `lexed` of the first token of the child. `shape` is what `division`
+    /// makes of the tokens from there on: the next `shape.tokens` of them, trivia included, are the
+    /// child. `node` is the kind in `shape.node`.
     ///
     /// Fails only if memory runs out; what `tree` then holds is unspecified.
     fn emit_node(

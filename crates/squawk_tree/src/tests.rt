@@ -5,8 +5,8 @@ mod ranges;
 mod sink;
 
 use crate::{
-    ChildSpan, Division, Parse, PlainChildren, Strings, parse_children,
-    parse_divided, parse_source, parse_statements, parse_with,
+    ChildSpan, Division, Parse, PlainChildren, Strings, parse_children, parse_divided,
+    parse_source, parse_statements, parse_with,
 };
 use squawk_events::{ParseError, StrStep};
 use squawk_kinds::SyntaxKind;
@@ -206,7 +206,7 @@ fn divisions(rt: HostRuntime) -> Result<(), Fail> {
     Ok(())
 }
 
-// The tokens of a row's text have its tree, by the plain grammar and by it as a grammar of children.
+// Compares with a row the trees of its tokens, by both functions that take tokens.
 fn check_tokens(rt: &impl Abort, alloc: Global, row: &Row) -> Result<(), Fail> {
     let lexed = LexedStr::new_in(alloc, row.text, Strings::Standard)
         .ok()

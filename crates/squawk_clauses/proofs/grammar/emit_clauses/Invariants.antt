@@ -8,8 +8,10 @@ use Rattle.squawk_clauses.proofs.grammar.emit_clauses.Given as goal
 
 abbrev pub invariant-loop-at : goal.invariant-loop-at
 invariant-loop-at l = record {
-  steps : l.output ++ children_by (clause_child_steps l.division) (parts role l.division (drop l.at l.kinds))
-      ≡ l.initial.output ++ children_by (clause_child_steps l.division) (parts role l.division l.kinds);
+  steps : l.output ++ children_by (clause_child_steps l.division)
+      (parts role l.division (drop l.at l.kinds))
+      ≡ l.initial.output ++ children_by (clause_child_steps l.division)
+      (parts role l.division l.kinds);
   depth : depth_of l.output ≡ depth_of l.initial.output;
   within : l.at ≤ length l.kinds;
 }

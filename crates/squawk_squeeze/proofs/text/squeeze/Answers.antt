@@ -23,7 +23,8 @@ loop-at-preserved c =
     ∙ ap (λ n. take n (drop at text)) (let e : at + t.len - at ≡ t.len = omega arith in e) in
     record {
       text = pushed c.is_trivia.result part c.loop-at.squeezer c.push.new.self t.kind
-          (text_tokens_at c.args.strings text at) (text_tokens_at c.args.strings text (at + t.len)) _
+          (text_tokens_at c.args.strings text at)
+          (text_tokens_at c.args.strings text (at + t.len)) _
           c.in_ok-push.ensures (sym c.is_trivia.ensures)
           (step c.tokens_progress.ensures.some c.args.strings text at t part c.utf8.text
           c.loop-at.invariant.boundary c.loop-at-test.true c.cut_at_in-token.ensures.ends_between

@@ -7,7 +7,8 @@ use Rattle.squawk_statements.proofs.plain.emit_plain.Given as goal
 
 abbrev pub invariant-loop-at : goal.invariant-loop-at
 invariant-loop-at l = record {
-  steps : l.output ++ children_by (child_steps l.division) (parts role l.division (drop l.at l.kinds))
+  steps : l.output ++ children_by (child_steps l.division)
+      (parts role l.division (drop l.at l.kinds))
       ≡ l.initial.output ++ children_by (child_steps l.division) (parts role l.division l.kinds);
   depth : depth_of l.output ≡ depth_of l.initial.output;
   within : l.at ≤ length l.kinds;
