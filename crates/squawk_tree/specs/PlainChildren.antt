@@ -1,12 +1,10 @@
 -- The plain grammar is a grammar of children. A law of the trait `ChildGrammar` may cite
 -- definitions alone, so the proof stands here.
-use Rattle.std.specs.Prelude.{◌≡◌, ℕ, zero, suc, ◌==◌, Bool, true, false, List, [], ◌∷◌, ◌++◌, refl, if◌then◌else◌}
-use Rattle.std.proofs.Common.{ap, sym, ◌∙◌, append_assoc}
+use Rattle.std.specs.Prelude.{◌≡◌, ℕ, zero, suc, List, [], ◌∷◌, ◌++◌, refl}
+use Rattle.std.proofs.Common.{ap, ◌∙◌, append_assoc}
 use Rattle.squawk_events.specs.declared.steps.Step.{Step}
-use Rattle.squawk_events.specs.declared.steps.Step.TheVariants.{Enter, Token, Exit, Error}
+use Rattle.squawk_events.specs.declared.steps.Step.TheVariants.{Enter, Token, Exit}
 use Rattle.squawk_kinds.specs.Role.{Role, role, Trivia, Semicolon, Terminator, Command, Open, Close, Other}
-use Rattle.squawk_kinds.specs.declared.numbers.TheConstants.Number.{SOURCE_FILE}
-use Rattle.squawk_statements.specs.Children.{parts}
 use Rattle.squawk_statements.specs.Plain.{plain, node_of, body_steps, exits, kind_steps, groups_open_after, unknown_statement_error, child_steps}
 use Rattle.squawk_statements.specs.PlainIsLawful.{steps_by, plain_lawful, child_balanced, child_tokens}
 use Rattle.squawk_statements.specs.declared.division.Division.{Division}
