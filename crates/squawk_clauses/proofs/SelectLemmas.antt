@@ -1,10 +1,9 @@
 -- The tokens of a `SELECT` statement, woven one after another.
-use Rattle.std.proofs.Common.{◌≡◌, ℕ, zero, suc, ◌+◌, ◌-◌, ◌<◌, ◌≤◌, ◌==◌, Bool, true, false, cond, List, [], ◌∷◌, ◌++◌, length, take, drop, get_or, slice_range, append_assoc, refl, ap, sym, subst, ◌∙◌, arith}
+use Rattle.std.proofs.Common.{◌≡◌, ℕ, zero, suc, ◌+◌, ◌-◌, ◌<◌, ◌≤◌, Bool, true, false, cond, List, [], ◌∷◌, ◌++◌, length, take, drop, get_or, slice_range, append_assoc, refl, ap, sym, ◌∙◌, arith}
 use Rattle.std.proofs.Math.Seq.{take-add}
-use Rattle.std.proofs.lemmas.Bool.{eqb-true}
 use Rattle.std.proofs.lemmas.List.{append-nil, drop-drop, get_or_default}
-use Rattle.std.specs.Prelude.{Option, Some, None, unwrap_or}
-use Rattle.squawk_events.specs.Kinds.{is_trivia_kind, without_trivia}
+use Rattle.std.specs.Prelude.{Option, Some, None}
+use Rattle.squawk_events.specs.Kinds.{is_trivia_kind}
 use Rattle.squawk_events.specs.declared.steps.Step.{Step}
 use Rattle.squawk_events.specs.declared.steps.Step.TheVariants.{Enter, Token, Exit, Error}
 use Rattle.squawk_events.specs.declared.steps.StrStep.{StrStep}
@@ -14,11 +13,11 @@ use Rattle.squawk_kinds.specs.declared.numbers.TheConstants.Number as kind
 use Rattle.squawk_lexed.specs.LexedText.{token_start, total_len}
 use Rattle.squawk_lexed.specs.LexedToken.{LexedToken}
 use Rattle.squawk_lexed.specs.Stored.{kinds_of}
-use Rattle.squawk_lexed.specs.Weave.{kinds_without_trivia, is_empty, weave_from}
+use Rattle.squawk_lexed.specs.Weave.{kinds_without_trivia, weave_from}
 use Rattle.squawk_statements.specs.Children.{ends_statement}
 use Rattle.squawk_statements.specs.Plain.{exits, enters_before, exits_after, groups_open_after}
 use Rattle.squawk_statements.specs.declared.division.Division.{Division}
-use Rattle.squawk_tree.specs.ChildSteps.{exit_steps, exits_of, enters_of, steps_in_groups}
+use Rattle.squawk_tree.specs.ChildSteps.{exit_steps, steps_in_groups}
 use Rattle.squawk_tree.specs.ParseOf.{token_steps}
 use Rattle.squawk_tree.specs.Steps.{without_errors}
 use Rattle.squawk_clauses.specs.Clauses.{clause_of, clause_end, clause_start, in_clause_after, select_kind_steps, select_steps}

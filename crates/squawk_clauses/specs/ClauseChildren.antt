@@ -6,10 +6,9 @@ use Rattle.std.proofs.lemmas.Bool.{eqb-true}
 use Rattle.std.proofs.lemmas.List.{append-nil}
 use Rattle.squawk_events.specs.Lawful.{token_kinds}
 use Rattle.squawk_events.specs.declared.steps.Step.{Step}
-use Rattle.squawk_events.specs.declared.steps.Step.TheVariants.{Enter, Token, Exit, Error}
+use Rattle.squawk_events.specs.declared.steps.Step.TheVariants.{Enter, Token, Exit}
 use Rattle.squawk_kinds.specs.Role.{Role, role, Trivia, Semicolon, Terminator, Command, Open, Close, Other}
 use Rattle.squawk_kinds.specs.declared.numbers.TheConstants.Number as kind
-use Rattle.squawk_statements.specs.Children.{parts}
 use Rattle.squawk_statements.specs.Plain.{node_of, exits, groups_open_after, child_steps, unknown_statement_error}
 use Rattle.squawk_statements.specs.PlainIsLawful.{steps_by, child_tokens}
 use Rattle.squawk_statements.specs.declared.division.Division.{Division}

@@ -1,8 +1,8 @@
 -- The steps of the tokens of a `SELECT` statement, as they are emitted. For private functions.
-use Rattle.std.specs.Prelude.{ℕ, Bool, true, false, List, [], ◌∷◌, ◌++◌, Option, Some, None, slice_range, if◌then◌else◌}
+use Rattle.std.specs.Prelude.{ℕ, Bool, List, [], ◌∷◌, ◌++◌, Option, Some, None, slice_range, if◌then◌else◌}
 use Rattle.squawk_events.specs.declared.steps.Step.TheVariants as step
 use Rattle.squawk_events.specs.declared.steps.StrStep.{StrStep}
-use Rattle.squawk_events.specs.declared.steps.StrStep.TheVariants.{Enter, Exit}
+use Rattle.squawk_events.specs.declared.steps.StrStep.TheVariants.{Enter}
 use Rattle.squawk_kinds.specs.Role.{role}
 use Rattle.squawk_lexed.specs.LexedText.{token_start}
 use Rattle.squawk_lexed.specs.LexedToken.{LexedToken}
