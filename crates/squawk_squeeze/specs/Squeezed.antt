@@ -103,12 +103,13 @@ IsUnchangedBySqueezing strings out = squeezed_text strings (chars out) ≡ chars
 
 -- ---- what `squeeze_lexed` returns
 
--- what holds of the output is `Holds`, for each text that has these tokens by a reading of strings
+-- The output has a property of a reading of strings, of a text and of its squeezed bytes, where
+-- these tokens are those of the text by that reading.
 abbrev pub OfItsText : LexedText → Result (String Global) FrontError
     → (Strings → List ℕ → List ℕ → Type 0) → Type 0
-OfItsText lexed result Holds =
+OfItsText lexed result Property =
     (strings : Strings) (text : List ℕ) → lexed ≡ lexed_text strings text
-    → IfOk result (λ out. Holds strings text (string_bytes out))
+    → IfOk result (λ out. Property strings text (string_bytes out))
 
 -- ---- for private functions
 

@@ -162,10 +162,8 @@ pub fn squeeze(alloc: Global, text: &str, strings: Strings) -> Result<String, Fr
 pub fn squeeze_lexed(alloc: Global, lexed: &LexedStr<'_>) -> Result<String, FrontError>
     ensures text { spec.OfItsText lexed.now result spec.IsSqueezed }
     ensures keeps_tokens { spec.OfItsText lexed.now result spec.KeepsTokens }
-    ensures idempotent { spec.OfItsText lexed.now result (λ strings text.
-        spec.IsUnchangedBySqueezing strings) }
-    ensures no_longer { spec.OfItsText lexed.now result (λ strings text out.
-        length out ≤ length text) }
+    ensures idempotent { spec.OfItsText lexed.now result (λ s _. spec.IsUnchangedBySqueezing s) }
+    ensures no_longer { spec.OfItsText lexed.now result (λ _ text out. length out ≤ length text) }
     ensures refusals { IfErr result IsOutOfMemory }
 {
     tokens_progress();
