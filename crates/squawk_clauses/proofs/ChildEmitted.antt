@@ -1,6 +1,6 @@
 -- A child that was emitted is the child of the clause grammar.
-use Rattle.std.proofs.Common.{◌≡◌, ℕ, zero, suc, ◌+◌, ◌-◌, ◌==◌, Bool, true, false, cond, List, [], ◌∷◌, ◌++◌, take, drop, slice_range, append_assoc, refl, ap, sym, subst, ◌∙◌, arith}
-use Rattle.std.specs.Prelude.{OnOk, Option, Some, None, Result, unwrap_or}
+use Rattle.std.proofs.Common.{◌≡◌, ℕ, zero, suc, ◌+◌, ◌-◌, ◌==◌, Bool, true, false, cond, List, [], ◌∷◌, ◌++◌, take, drop, append_assoc, refl, ap, sym, subst, ◌∙◌, arith}
+use Rattle.std.specs.Prelude.{OnOk, Some, None, Result, unwrap_or}
 use Rattle.std.proofs.lemmas.Bool.{eqb-true}
 use Rattle.squawk_events.specs.Kinds.{is_trivia_kind, without_trivia}
 use Rattle.squawk_events.specs.declared.error.FrontError.{FrontError}
@@ -14,7 +14,7 @@ use Rattle.squawk_lexed.specs.LexedText.{token_start}
 use Rattle.squawk_lexed.specs.LexedToken.{LexedToken}
 use Rattle.squawk_lexed.specs.Stored.{kinds_of}
 use Rattle.squawk_lexed.specs.Weave.{kinds_without_trivia, weave_from}
-use Rattle.squawk_statements.specs.First.{child_node, first_shape, node_by}
+use Rattle.squawk_statements.specs.First.{child_node, node_by}
 use Rattle.squawk_statements.specs.Kinds.{role_trivia}
 use Rattle.squawk_statements.specs.Plain.{child_steps, node_of}
 use Rattle.squawk_statements.specs.declared.division.Division.{Division}

@@ -9,9 +9,9 @@ use Rattle.squawk_statements.specs.Groups.{stays_open}
 use Rattle.squawk_statements.specs.Laws.{groups_left_open}
 use Rattle.squawk_statements.specs.Plain.{body_steps, exits, kind_steps}
 use Rattle.squawk_statements.specs.declared.division.Division.{Division}
-use Rattle.squawk_clauses.specs.Clauses.{clause_begun, clause_end, clause_in, clause_rows, clause_start, select_steps}
+use Rattle.squawk_clauses.specs.Clauses.{clause_of, clause_end, clause_in, clause_rows, clause_start, select_steps}
 use Rattle.squawk_clauses.specs.Divided.{AreClauses, NoClause, OneClause, ClausesDivideStatements, EndingTokenIsInNoClause}
-use Rattle.squawk_clauses.proofs.Stays.{begun_is_other, is_other_or_none}
+use Rattle.squawk_clauses.proofs.Stays.{clause_kind_is_other, is_other_or_none}
 
 not_false : (b : Bool) → not b ≡ true → b ≡ false
 not_false true h = sym h
@@ -22,8 +22,8 @@ not_false false h = refl
 select_other : (d : Division) (b : Bool) (n k : ℕ) (ks : List ℕ)
     → ends_statement d n (role k) ≡ false
     → select_steps d b n (k ∷ ks)
-    ≡ (clause_start b (clause_begun n k) ++ kind_steps d n k)
-    ++ select_steps d (b || is_some (clause_begun n k)) (open_groups_after n (role k)) ks
+    ≡ (clause_start b (clause_of n k) ++ kind_steps d n k)
+    ++ select_steps d (b || is_some (clause_of n k)) (open_groups_after n (role k)) ks
 select_other d b n k ks goes = rw goes refl
 
 body_other : (d : Division) (n k : ℕ) (ks : List ℕ) → ends_statement d n (role k) ≡ false
@@ -42,8 +42,8 @@ ending_token d b n (j ∷ ks) k h e =
     let parts = and_parts (not (ends_statement d n (role j)))
     (stays_open d (open_groups_after n (role j)) ks) h in
     let goes = not_false (ends_statement d n (role j)) parts.0 in
-    let here = clause_start b (clause_begun n j) ++ kind_steps d n j in
-    let in_after = b || is_some (clause_begun n j) in
+    let here = clause_start b (clause_of n j) ++ kind_steps d n j in
+    let in_after = b || is_some (clause_of n j) in
     let after = open_groups_after n (role j) in
     select_other d b n j (ks ++ k ∷ []) goes
     ∙ ap (λ xs. here ++ xs) (ending_token d in_after after ks k parts.1 e)
@@ -75,11 +75,11 @@ record Divided (d : Division) (b : Bool) (n : ℕ) (kinds : List ℕ) : Type 0 w
   same : select_steps d b n kinds ≡ body_steps d n before ++ (clause_end b ++ steps)
 
 -- one more kind in no new clause
-none_more : (n k : ℕ) (ks : List ℕ) → clause_begun n k ≡ None
+none_more : (n k : ℕ) (ks : List ℕ) → clause_of n k ≡ None
     → NoneFrom (open_groups_after n (role k)) ks → NoneFrom n (k ∷ ks)
 none_more n k ks none rest zero within outside = by n outside none
   where
-    by : (n : ℕ) → n ≡ 0 → clause_begun n k ≡ None → clause_in clause_rows k ≡ None
+    by : (n : ℕ) → n ≡ 0 → clause_of n k ≡ None → clause_in clause_rows k ≡ None
     by zero is none = none
     by (suc n) is none = absurd (omega (arith, is))
 none_more n k ks none rest (suc i) within outside = rest i (omega arith) outside
@@ -93,7 +93,7 @@ or_true true = refl
 or_true false = refl
 
 divided_plain : (d : Division) (b : Bool) (n k : ℕ) (ks : List ℕ)
-    → ends_statement d n (role k) ≡ false → clause_begun n k ≡ None
+    → ends_statement d n (role k) ≡ false → clause_of n k ≡ None
     → Divided d b (open_groups_after n (role k)) ks → Divided d b n (k ∷ ks)
 divided_plain d b n k ks goes none rest = record {
   before = k ∷ rest.before;
@@ -121,14 +121,14 @@ other_stays Close h = refl
 other_stays Other h = refl
 
 -- the steps of the kinds from a clause on
-begun_steps : (b : Bool) (node : ℕ) (here others later steps : List Step)
+steps_from_clause : (b : Bool) (node : ℕ) (here others later steps : List Step)
     → later ≡ others ++ (Exit ∷ steps)
     → (clause_start b (Some node) ++ here) ++ later
     ≡ clause_end b ++ (Enter node ∷ (here ++ others) ++ Exit ∷ steps)
-begun_steps true node here others later steps is =
+steps_from_clause true node here others later steps is =
     ap (λ xs. Exit ∷ Enter node ∷ here ++ xs) is
     ∙ ap (λ xs. Exit ∷ Enter node ∷ xs) (sym (append_assoc here others (Exit ∷ steps)))
-begun_steps false node here others later steps is =
+steps_from_clause false node here others later steps is =
     ap (λ xs. Enter node ∷ here ++ xs) is
     ∙ ap (λ xs. Enter node ∷ xs) (sym (append_assoc here others (Exit ∷ steps)))
 
@@ -147,7 +147,7 @@ divided_clause d b k node ks goes begins stays rest = record {
       (λ more. ap (λ n. groups_left_open n (map role rest.before)) stays ∙ rest.outside more)
       rest.clauses;
   same = select_other d b 0 k ks goes
-      ∙ rw (begins, or_true b, stays) (begun_steps b node (kind_steps d 0 k)
+      ∙ rw (begins, or_true b, stays) (steps_from_clause b node (kind_steps d 0 k)
       (body_steps d 0 rest.before) (select_steps d true 0 ks) rest.steps rest.same)
       ∙ ap (λ xs. clause_end b ++ (Enter node ∷ xs ++ Exit ∷ rest.steps))
       (ap (λ n. kind_steps d 0 k ++ body_steps d n rest.before) (sym stays)
@@ -169,12 +169,12 @@ divided d b n [] h = record {
 divided d b n (k ∷ ks) h =
     let parts = and_parts (not (ends_statement d n (role k)))
     (stays_open d (open_groups_after n (role k)) ks) h in
-    by n (not_false (ends_statement d n (role k)) parts.0) (clause_begun n k) refl
-    (begun_is_other n k)
+    by n (not_false (ends_statement d n (role k)) parts.0) (clause_of n k) refl
+    (clause_kind_is_other n k)
     (λ in_clause. divided d in_clause (open_groups_after n (role k)) ks parts.1)
   where
-    by : (n : ℕ) → ends_statement d n (role k) ≡ false → (begun : Option ℕ)
-        → clause_begun n k ≡ begun → is_other_or_none (role k) begun ≡ true
+    by : (n : ℕ) → ends_statement d n (role k) ≡ false → (next_clause : Option ℕ)
+        → clause_of n k ≡ next_clause → is_other_or_none (role k) next_clause ≡ true
         → ((in_clause : Bool) → Divided d in_clause (open_groups_after n (role k)) ks)
         → Divided d b n (k ∷ ks)
     by n goes None is other rest = divided_plain d b n k ks goes is (rest b)

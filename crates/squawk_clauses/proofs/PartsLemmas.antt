@@ -4,11 +4,12 @@ use Rattle.std.proofs.lemmas.List.{length-drop, take_rest, drop-drop}
 use Rattle.squawk_kinds.specs.Role.{role}
 use Rattle.squawk_events.specs.declared.steps.Step.{Step}
 use Rattle.squawk_statements.specs.Children.{parts_from, parts, first_child, first_child_len}
+use Rattle.squawk_statements.specs.Plain.{children_by}
 use Rattle.squawk_statements.specs.PlainIsLawful.{first_child_some, suc_minus_one}
 use Rattle.squawk_statements.specs.First.{child_node, first_shape}
 use Rattle.squawk_statements.specs.declared.division.Division.{Division}
 use Rattle.squawk_statements.specs.declared.first.ChildShape.{ChildShape}
-use Rattle.squawk_clauses.specs.Clauses.{clause_child_steps, clause_children_steps}
+use Rattle.squawk_clauses.specs.Clauses.{clause_child_steps}
 
 -- the parts after those elements that belong to an earlier child
 parts_from_skip : (n : ℕ) (d : Division) (kinds : List ℕ)
@@ -38,9 +39,10 @@ pub steps_more : (before after start : List Step) (d : Division) (kinds rest par
     (at : ℕ) (shape : ChildShape) → at < length kinds
     → rest ≡ take (length kinds - at) (drop at kinds) → shape ≡ first_shape d rest
     → part ≡ take (at + shape.tokens - at) (drop at kinds)
-    → before ++ clause_children_steps d (parts role d (drop at kinds)) ≡ start
+    → before ++ children_by (clause_child_steps d) (parts role d (drop at kinds)) ≡ start
     → after ≡ before ++ clause_child_steps d part
-    → after ++ clause_children_steps d (parts role d (drop (at + shape.tokens) kinds)) ≡ start
+    → after ++ children_by (clause_child_steps d) (parts role d (drop (at + shape.tokens) kinds))
+    ≡ start
 steps_more before after start d kinds rest part at shape some rest_is shape_is part_is so_far more =
     let n = shape.tokens in
     let n_is : n ≡ (first_child d (map role rest)).tokens =
@@ -53,8 +55,9 @@ steps_more before after start d kinds rest part at shape some rest_is shape_is p
     ∙ ap (λ m. take m (drop at kinds)) (omega arith) in
     let there : drop n (drop at kinds) ≡ drop (at + n) kinds = drop-drop n at kinds in
     rw more (append_assoc before (clause_child_steps d part)
-    (clause_children_steps d (parts role d (drop (at + n) kinds)))
-    ∙ rw (here, ← there) (ap (λ ps. before ++ clause_children_steps d ps) (sym step)) ∙ so_far)
+    (children_by (clause_child_steps d) (parts role d (drop (at + n) kinds)))
+    ∙ rw (here, ← there) (ap (λ ps. before ++ children_by (clause_child_steps d) ps) (sym step))
+    ∙ so_far)
 
 -- the node of the first child, by its own kinds
 pub node_of_part : (d : Division) (kinds rest : List ℕ) (at : ℕ) (shape : ChildShape)

@@ -12,8 +12,9 @@ use Rattle.squawk_kinds.specs.declared.numbers.TheConstants.Number as kind
 use Rattle.squawk_lexed.specs.LexedToken.{LexedToken}
 use Rattle.squawk_lexed.specs.Weave.{after_leading_trivia, is_empty, kinds_without_trivia, leading_trivia, leading_trivia_end, next_len, offset_after_step, tokens_after_step, weave_from, weave_step}
 use Rattle.squawk_statements.specs.Children.{parts}
+use Rattle.squawk_statements.specs.Plain.{children_by}
 use Rattle.squawk_tree.specs.Steps.{Leaf, Node, root_children, root_children_from, without_errors}
-use Rattle.squawk_clauses.specs.Clauses.{clause_children_steps, clause_rows, is_clause_node}
+use Rattle.squawk_clauses.specs.Clauses.{clause_rows, is_clause_node, clause_child_steps}
 use Rattle.squawk_clauses.specs.Laws.{RootChildrenStay}
 use Rattle.squawk_clauses.specs.TreeWithout.{tree_without_from, tree_without_clauses}
 use Rattle.squawk_clauses.proofs.Stays.{begins_with_token, children_stay, is_in_child, stays}
@@ -209,7 +210,7 @@ root_is_no_clause = refl
 pub root_children_stay : RootChildrenStay
 root_children_stay d ts =
     let kinds = kinds_without_trivia ts in
-    let inner = clause_children_steps d (parts role d kinds) ++ step.Exit ∷ [] in
+    let inner = children_by (clause_child_steps d) (parts role d kinds) ++ step.Exit ∷ [] in
     let steps = without_errors (weave_from 0 ts inner) in
     let alike : root_children (tree_without_clauses (Enter kind.SOURCE_FILE ∷ steps))
     ≡ root_children_from 0 0 (tree_without_from (false ∷ []) steps) = rw root_is_no_clause refl in

@@ -1,10 +1,9 @@
 -- The tokens of a `SELECT` statement, woven one after another.
-use Rattle.std.proofs.Common.{◌≡◌, ℕ, zero, suc, ◌+◌, ◌-◌, ◌<◌, ◌≤◌, ◌==◌, Bool, true, false, cond, List, [], ◌∷◌, ◌++◌, length, take, drop, get_or, slice_range, append_assoc, refl, ap, sym, subst, ◌∙◌, arith}
+use Rattle.std.proofs.Common.{◌≡◌, ℕ, zero, suc, ◌+◌, ◌-◌, ◌<◌, ◌≤◌, Bool, true, false, cond, List, [], ◌∷◌, ◌++◌, length, take, drop, get_or, slice_range, append_assoc, refl, ap, sym, ◌∙◌, arith}
 use Rattle.std.proofs.Math.Seq.{take-add}
-use Rattle.std.proofs.lemmas.Bool.{eqb-true}
 use Rattle.std.proofs.lemmas.List.{append-nil, drop-drop, get_or_default}
-use Rattle.std.specs.Prelude.{Option, Some, None, unwrap_or}
-use Rattle.squawk_events.specs.Kinds.{is_trivia_kind, without_trivia}
+use Rattle.std.specs.Prelude.{Option, Some, None}
+use Rattle.squawk_events.specs.Kinds.{is_trivia_kind}
 use Rattle.squawk_events.specs.declared.steps.Step.{Step}
 use Rattle.squawk_events.specs.declared.steps.Step.TheVariants.{Enter, Token, Exit, Error}
 use Rattle.squawk_events.specs.declared.steps.StrStep.{StrStep}
@@ -14,15 +13,16 @@ use Rattle.squawk_kinds.specs.declared.numbers.TheConstants.Number as kind
 use Rattle.squawk_lexed.specs.LexedText.{token_start, total_len}
 use Rattle.squawk_lexed.specs.LexedToken.{LexedToken}
 use Rattle.squawk_lexed.specs.Stored.{kinds_of}
-use Rattle.squawk_lexed.specs.Weave.{kinds_without_trivia, is_empty, weave_from}
+use Rattle.squawk_lexed.specs.Weave.{kinds_without_trivia, weave_from}
 use Rattle.squawk_statements.specs.Children.{ends_statement}
 use Rattle.squawk_statements.specs.Plain.{exits, enters_before, exits_after, groups_open_after}
 use Rattle.squawk_statements.specs.declared.division.Division.{Division}
-use Rattle.squawk_tree.specs.ChildSteps.{exit_steps, exits_of, enters_of, steps_in_groups}
+use Rattle.squawk_tree.specs.ChildSteps.{exit_steps, steps_in_groups}
 use Rattle.squawk_tree.specs.ParseOf.{token_steps}
 use Rattle.squawk_tree.specs.Steps.{without_errors}
-use Rattle.squawk_clauses.specs.Clauses.{clause_begun, clause_end, clause_start, in_clause_after, select_kind_steps, select_steps}
-use Rattle.squawk_clauses.specs.SelectTokens.{clause_enter, clause_exit, select_left, select_token}
+use Rattle.squawk_clauses.specs.Clauses.{clause_of, clause_end, clause_start, in_clause_after, select_kind_steps, select_steps}
+use Rattle.squawk_clauses.specs.Depth.{open_nodes}
+use Rattle.squawk_clauses.specs.SelectTokens.{clause_enter, select_left, select_token}
 
 -- the woven steps that stay in the tree
 abbrev woven : ℕ → List LexedToken → List Step → List StrStep
@@ -122,13 +122,13 @@ exits_first (suc zero) at ts x xs = refl
 exits_first (suc (suc n)) at ts x xs = ap (λ ys. out.Exit ∷ ys) (exits_first (suc n) at ts x xs)
 
 clause_first : (b : Bool) (at : ℕ) (ts : List LexedToken) (x : Step) (xs : List Step)
-    → woven at ts (clause_end b ++ x ∷ xs) ≡ clause_exit b ++ woven at ts (x ∷ xs)
+    → woven at ts (clause_end b ++ x ∷ xs) ≡ exit_steps (open_nodes b 0) ++ woven at ts (x ∷ xs)
 clause_first true at ts x xs = refl
 clause_first false at ts x xs = refl
 
 ends_first : (n : ℕ) (b : Bool) (at : ℕ) (ts : List LexedToken) (x : Step) (xs : List Step)
     → woven at ts ((exits n ++ clause_end b) ++ x ∷ xs)
-    ≡ (exit_steps n ++ clause_exit b) ++ woven at ts (x ∷ xs)
+    ≡ (exit_steps n ++ exit_steps (open_nodes b 0)) ++ woven at ts (x ∷ xs)
 ends_first n true at ts x xs =
     ap (woven at ts) (append_assoc (exits n) (Exit ∷ []) (x ∷ xs))
     ∙ exits_first n at ts Exit (x ∷ xs)
@@ -144,11 +144,11 @@ ending_woven : (n : ℕ) (b : Bool) (at : ℕ) (ws : List LexedToken) (t : Lexed
     (ts : List LexedToken) (xs : List Step) → kinds_without_trivia ws ≡ []
     → is_trivia_kind t.kind ≡ false
     → woven at (ws ++ t ∷ ts) ((exits n ++ clause_end b ++ Token t.kind ∷ []) ++ xs)
-    ≡ (((exit_steps n ++ clause_exit b) ++ token_steps at ws)
+    ≡ (((exit_steps n ++ exit_steps (open_nodes b 0)) ++ token_steps at ws)
     ++ out.Token t.kind (at + total_len ws) (at + total_len ws + t.len) ∷ [])
     ++ woven (at + total_len ws + t.len) ts xs
 ending_woven n b at ws t ts xs none is =
-    let ends = exit_steps n ++ clause_exit b in
+    let ends = exit_steps n ++ exit_steps (open_nodes b 0) in
     let trivia = token_steps at ws in
     let m = at + total_len ws in
     let token = out.Token t.kind m (m + t.len) in
@@ -161,12 +161,12 @@ ending_woven n b at ws t ts xs none is =
     ∙ sym (append_assoc (ends ++ trivia) (token ∷ []) rest)
 
 -- any other token, which may begin a clause
-other_woven : (n : ℕ) (f : Role) (b : Bool) (begun : Option ℕ) (at : ℕ) (ws : List LexedToken)
+other_woven : (n : ℕ) (f : Role) (b : Bool) (next_clause : Option ℕ) (at : ℕ) (ws : List LexedToken)
     (t : LexedToken) (ts : List LexedToken) (z : Step) (zs : List Step)
     → kinds_without_trivia ws ≡ [] → is_trivia_kind t.kind ≡ false
-    → woven at (ws ++ t ∷ ts) ((clause_start b begun
+    → woven at (ws ++ t ∷ ts) ((clause_start b next_clause
     ++ (enters_before f ++ Token t.kind ∷ exits_after n f)) ++ z ∷ zs)
-    ≡ (clause_enter b begun (token_steps at ws)
+    ≡ (clause_enter b next_clause (token_steps at ws)
     ++ steps_in_groups n f (out.Token t.kind (at + total_len ws) (at + total_len ws + t.len)))
     ++ woven (at + total_len ws + t.len) ts (z ∷ zs)
 other_woven n f b None at ws t ts z zs none is =
@@ -184,14 +184,15 @@ other_woven n f b (Some node) at ws t ts z zs none is =
     let m = at + total_len ws in
     let group = steps_in_groups n f (out.Token t.kind m (m + t.len)) in
     let rest = woven (m + t.len) ts (z ∷ zs) in
-    let before = clause_exit b ++ trivia in
+    let before = exit_steps (open_nodes b 0) ++ trivia in
     ap (woven at (ws ++ t ∷ ts)) (append_assoc (clause_end b ++ Enter node ∷ []) kinds (z ∷ zs)
     ∙ append_assoc (clause_end b) (Enter node ∷ []) own)
     ∙ clause_first b at (ws ++ t ∷ ts) (Enter node) own
-    ∙ ap (λ ys. clause_exit b ++ ys) (trivia_woven at ws (t ∷ ts) (Enter node ∷ own) none refl
+    ∙ ap (λ ys. exit_steps (open_nodes b 0) ++ ys)
+    (trivia_woven at ws (t ∷ ts) (Enter node ∷ own) none refl
     ∙ ap (λ ys. trivia ++ ys) (enter_first m node t ts own is
     ∙ ap (λ ys. out.Enter node ∷ ys) (group_first n m f t ts z zs is)))
-    ∙ sym (append_assoc (clause_exit b) trivia (out.Enter node ∷ group ++ rest))
+    ∙ sym (append_assoc (exit_steps (open_nodes b 0)) trivia (out.Enter node ∷ group ++ rest))
     ∙ sym (append_assoc before (out.Enter node ∷ []) (group ++ rest))
     ∙ sym (append_assoc (before ++ out.Enter node ∷ []) group rest)
 
@@ -212,7 +213,7 @@ kind_woven d n b at ws t ts z zs none is = by (ends_statement d n (role t.kind))
         ++ woven (at + total_len ws + t.len) ts (z ∷ zs)
     by true ends = rw ends (ending_woven n b at ws t ts (z ∷ zs) none is)
     by false ends = rw ends
-        (other_woven n (role t.kind) b (clause_begun n t.kind) at ws t ts z zs none is)
+        (other_woven n (role t.kind) b (clause_of n t.kind) at ws t ts z zs none is)
 
 -- the kinds of trivia and other tokens
 kinds_past : (ws ts : List LexedToken) → kinds_without_trivia ws ≡ []
@@ -252,9 +253,9 @@ token_more d n b at ws t ts none is =
 end_woven : (d : Division) (n : ℕ) (b : Bool) (at : ℕ) (ws : List LexedToken)
     → kinds_without_trivia ws ≡ []
     → woven at ws (select_steps d b n (kinds_without_trivia ws) ++ Exit ∷ [])
-    ≡ ((exit_steps n ++ clause_exit b) ++ token_steps at ws) ++ out.Exit ∷ []
+    ≡ ((exit_steps n ++ exit_steps (open_nodes b 0)) ++ token_steps at ws) ++ out.Exit ∷ []
 end_woven d n b at ws none =
-    let ends = exit_steps n ++ clause_exit b in
+    let ends = exit_steps n ++ exit_steps (open_nodes b 0) in
     let trivia = token_steps at ws in
     ap (λ ks. woven at ws (select_steps d b n ks ++ Exit ∷ [])) none
     ∙ ends_first n b at ws Exit []
@@ -424,16 +425,17 @@ select_more d b b' n n' ts from i to kinds k before after start le lt within ks 
 pub select_end : (d : Division) (b : Bool) (n : ℕ) (ts : List LexedToken) (from i to : ℕ)
     (s0 s1 s2 s3 s4 start : List StrStep) → i ≡ to
     → kinds_without_trivia (slice_range ts from i) ≡ []
-    → s1 ≡ s0 ++ exit_steps n → s2 ≡ s1 ++ clause_exit b
+    → s1 ≡ s0 ++ exit_steps n → s2 ≡ s1 ++ exit_steps (open_nodes b 0)
     → s3 ≡ s2 ++ token_steps (token_start ts from) (slice_range ts from to)
     → s4 ≡ s3 ++ out.Exit ∷ [] → s0 ++ select_left d b n ts from to ≡ start → s4 ≡ start
 select_end d b n ts from i to s0 s1 s2 s3 s4 start last none_left e1 e2 e3 e4 so_far =
     let trivia = token_steps (token_start ts from) (slice_range ts from to) in
-    let ends = exit_steps n ++ clause_exit b in
+    let ends = exit_steps n ++ exit_steps (open_nodes b 0) in
     let none : kinds_without_trivia (slice_range ts from to) ≡ [] =
     ap (λ m. kinds_without_trivia (slice_range ts from m)) (sym last) ∙ none_left in
     rw (e4, e3, e2, e1)
-    (ap (λ ys. (ys ++ trivia) ++ out.Exit ∷ []) (append_assoc s0 (exit_steps n) (clause_exit b))
+    (ap (λ ys. (ys ++ trivia) ++ out.Exit ∷ [])
+    (append_assoc s0 (exit_steps n) (exit_steps (open_nodes b 0)))
     ∙ ap (λ ys. ys ++ out.Exit ∷ []) (append_assoc s0 ends trivia)
     ∙ append_assoc s0 (ends ++ trivia) (out.Exit ∷ [])
     ∙ ap (λ ys. s0 ++ ys)

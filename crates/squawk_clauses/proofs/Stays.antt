@@ -8,12 +8,12 @@ use Rattle.squawk_events.specs.declared.steps.Step.{Step}
 use Rattle.squawk_events.specs.declared.steps.Step.TheVariants.{Enter, Token, Exit, Error}
 use Rattle.squawk_lexed.specs.Weave.{is_empty}
 use Rattle.squawk_statements.specs.Children.{parts}
-use Rattle.squawk_statements.specs.Plain.{node_of, body_steps, exits, kind_steps, groups_open_after, unknown_statement_error, child_steps}
+use Rattle.squawk_statements.specs.Plain.{node_of, body_steps, exits, kind_steps, groups_open_after, unknown_statement_error, child_steps, children_by}
 use Rattle.squawk_statements.specs.PlainIsLawful.{steps_by}
 use Rattle.squawk_statements.specs.declared.division.Division.{Division}
 use Rattle.squawk_statements.specs.declared.division.Division.TheVariants.{Flat, Grouped}
-use Rattle.squawk_clauses.specs.Clauses.{ClauseRow, clause_in, clause_begun, clause_child_steps, clause_children_steps, clause_end, clause_start, clause_rows, is_clause_node, in_clause_after, select_child_steps, select_kind_steps, select_steps}
-use Rattle.squawk_clauses.specs.ClauseNodes.{begun_clause, is_clause_or_none, node_is_no_clause}
+use Rattle.squawk_clauses.specs.Clauses.{ClauseRow, clause_in, clause_of, clause_child_steps, clause_end, clause_start, clause_rows, is_clause_node, in_clause_after, select_child_steps, select_kind_steps, select_steps}
+use Rattle.squawk_clauses.specs.ClauseNodes.{clause_of_is_clause_node, is_clause_or_none, node_is_no_clause}
 use Rattle.squawk_clauses.specs.PlainWithoutClauses.{with_groups, with_clause, select_steps_by, in_clause_by}
 use Rattle.squawk_clauses.specs.Without.{without_clauses_from}
 
@@ -114,17 +114,18 @@ found_other (row ∷ rows) k h =
     by true same here later = rw (eqb-true k row.0 same) here
     by false same here later = later
 
-pub begun_is_other : (n k : ℕ) → is_other_or_none (role k) (clause_begun n k) ≡ true
-begun_is_other zero k = found_other clause_rows k rows_have_other_kinds
-begun_is_other (suc n) k = refl
+pub clause_kind_is_other : (n k : ℕ) → is_other_or_none (role k) (clause_of n k) ≡ true
+clause_kind_is_other zero k = found_other clause_rows k rows_have_other_kinds
+clause_kind_is_other (suc n) k = refl
 
 -- whether no clause begins, or the first of these steps is a token
 abbrev begins_or_none : Option ℕ → List Step → Bool
 begins_or_none None xs = true
 begins_or_none (Some node) xs = begins_with_token xs
 
-begins_by_role : (d : Division) (n kind : ℕ) (f : Role) (begun : Option ℕ) (xs : List Step)
-    → is_other_or_none f begun ≡ true → begins_or_none begun (steps_by d n kind f ++ xs) ≡ true
+begins_by_role : (d : Division) (n kind : ℕ) (f : Role) (next_clause : Option ℕ) (xs : List Step)
+    → is_other_or_none f next_clause ≡ true
+    → begins_or_none next_clause (steps_by d n kind f ++ xs) ≡ true
 begins_by_role d n kind f None xs h = refl
 begins_by_role d n kind Trivia (Some node) xs h = absurd (cc h)
 begins_by_role d n kind Semicolon (Some node) xs h = absurd (cc h)
@@ -136,10 +137,11 @@ begins_by_role d n kind Other (Some node) xs h = refl
 
 -- ---- clauses; a `SELECT` statement is open, and the root
 
-stays_start : (in_clause : Bool) (begun : Option ℕ) (nodes : List Bool) (xs : List Step)
-    → is_clause_or_none begun ≡ true → begins_or_none begun xs ≡ true
-    → stays (with_clause in_clause (false ∷ false ∷ nodes)) (clause_start in_clause begun ++ xs)
-    ≡ stays (with_clause (in_clause || is_some begun) (false ∷ false ∷ nodes)) xs
+stays_start : (in_clause : Bool) (next_clause : Option ℕ) (nodes : List Bool) (xs : List Step)
+    → is_clause_or_none next_clause ≡ true → begins_or_none next_clause xs ≡ true
+    → stays (with_clause in_clause (false ∷ false ∷ nodes))
+    (clause_start in_clause next_clause ++ xs)
+    ≡ stays (with_clause (in_clause || is_some next_clause) (false ∷ false ∷ nodes)) xs
 stays_start true None nodes xs h t = refl
 stays_start false None nodes xs h t = refl
 stays_start true (Some node) nodes (Token kind ∷ xs) h t = rw h refl
@@ -150,28 +152,28 @@ stays_start in_clause (Some node) nodes (Exit ∷ xs) h t = absurd (cc t)
 stays_start in_clause (Some node) nodes (Error number ∷ xs) h t = absurd (cc t)
 
 stays_start_in : (n kind : ℕ) (in_clause : Bool) (nodes : List Bool) (xs : List Step)
-    → begins_or_none (clause_begun n kind) xs ≡ true
+    → begins_or_none (clause_of n kind) xs ≡ true
     → stays (with_groups n (with_clause in_clause (false ∷ false ∷ nodes)))
-    (clause_start in_clause (clause_begun n kind) ++ xs)
-    ≡ stays (with_groups n (with_clause (in_clause || is_some (clause_begun n kind))
+    (clause_start in_clause (clause_of n kind) ++ xs)
+    ≡ stays (with_groups n (with_clause (in_clause || is_some (clause_of n kind))
     (false ∷ false ∷ nodes))) xs
 stays_start_in zero kind in_clause nodes xs t =
-    stays_start in_clause (clause_begun 0 kind) nodes xs (begun_clause 0 kind) t
+    stays_start in_clause (clause_of 0 kind) nodes xs (clause_of_is_clause_node 0 kind) t
 stays_start_in (suc n) kind true nodes xs t = refl
 stays_start_in (suc n) kind false nodes xs t = refl
 
 stays_other : (d : Division) (n kind : ℕ) (f : Role) (in_clause : Bool) (nodes : List Bool)
-    (xs : List Step) → is_other_or_none f (clause_begun n kind) ≡ true
+    (xs : List Step) → is_other_or_none f (clause_of n kind) ≡ true
     → stays (with_groups n (with_clause in_clause (false ∷ false ∷ nodes)))
-    ((clause_start in_clause (clause_begun n kind) ++ steps_by d n kind f) ++ xs)
+    ((clause_start in_clause (clause_of n kind) ++ steps_by d n kind f) ++ xs)
     ≡ stays (with_groups (groups_open_after d n f)
-    (with_clause (in_clause || is_some (clause_begun n kind)) (false ∷ false ∷ nodes))) xs
+    (with_clause (in_clause || is_some (clause_of n kind)) (false ∷ false ∷ nodes))) xs
 stays_other d n kind f in_clause nodes xs other =
     ap (stays (with_groups n (with_clause in_clause (false ∷ false ∷ nodes))))
-    (append_assoc (clause_start in_clause (clause_begun n kind)) (steps_by d n kind f) xs)
+    (append_assoc (clause_start in_clause (clause_of n kind)) (steps_by d n kind f) xs)
     ∙ stays_start_in n kind in_clause nodes (steps_by d n kind f ++ xs)
-    (begins_by_role d n kind f (clause_begun n kind) xs other)
-    ∙ stays_kind d n kind f (with_clause (in_clause || is_some (clause_begun n kind))
+    (begins_by_role d n kind f (clause_of n kind) xs other)
+    ∙ stays_kind d n kind f (with_clause (in_clause || is_some (clause_of n kind))
     (false ∷ false ∷ nodes)) xs
 
 -- the end of a clause before a step that stays
@@ -192,7 +194,7 @@ stays_select_ending n kind in_clause nodes xs =
     ∙ stays_end in_clause nodes (Token kind ∷ xs) refl
 
 stays_select_kind : (d : Division) (n kind : ℕ) (f : Role) (in_clause : Bool)
-    (nodes : List Bool) (xs : List Step) → is_other_or_none f (clause_begun n kind) ≡ true
+    (nodes : List Bool) (xs : List Step) → is_other_or_none f (clause_of n kind) ≡ true
     → stays (with_groups n (with_clause in_clause (false ∷ false ∷ nodes)))
     (select_steps_by d in_clause n kind f ++ xs)
     ≡ stays (with_groups (groups_open_after d n f)
@@ -228,7 +230,7 @@ stays_select d in_clause n (kind ∷ kinds) nodes xs =
     ap (stays (with_groups n (with_clause in_clause (false ∷ false ∷ nodes))))
     (append_assoc (select_kind_steps d in_clause n kind) rest (Exit ∷ xs))
     ∙ stays_select_kind d n kind (role kind) in_clause nodes (rest ++ Exit ∷ xs)
-    (begun_is_other n kind)
+    (clause_kind_is_other n kind)
     ∙ stays_select d in_after after kinds nodes xs
 
 -- ---- children of the root
@@ -270,15 +272,16 @@ stays_child d kinds nodes xs = by (node_of kinds == kind.SELECT)
     by false = stays_plain_child d kinds (false ∷ nodes) xs
 
 stays_children : (d : Division) (ps : List (List ℕ)) (nodes : List Bool) (xs : List Step)
-    → stays (false ∷ nodes) (clause_children_steps d ps ++ xs) ≡ stays (false ∷ nodes) xs
+    → stays (false ∷ nodes) (children_by (clause_child_steps d) ps ++ xs) ≡ stays (false ∷ nodes) xs
 stays_children d [] nodes xs = refl
 stays_children d (p ∷ ps) nodes xs =
     ap (stays (false ∷ nodes)) (append_assoc (clause_child_steps d p)
-    (clause_children_steps d ps) xs)
-    ∙ stays_child d p nodes (clause_children_steps d ps ++ xs)
+    (children_by (clause_child_steps d) ps) xs)
+    ∙ stays_child d p nodes (children_by (clause_child_steps d) ps ++ xs)
     ∙ stays_children d ps nodes xs
 
 -- what stands in the root
 pub children_stay : (d : Division) (kinds : List ℕ)
-    → stays (false ∷ []) (clause_children_steps d (parts role d kinds) ++ Exit ∷ []) ≡ true
+    → stays (false ∷ []) (children_by (clause_child_steps d) (parts role d kinds) ++ Exit ∷ [])
+    ≡ true
 children_stay d kinds = stays_children d (parts role d kinds) [] (Exit ∷ [])

@@ -9,11 +9,11 @@ use Rattle.squawk_lexed.specs.LexedToken.{LexedToken}
 use Rattle.squawk_lexed.specs.Stored.{errors_at}
 use Rattle.squawk_lexed.specs.Weave.{kinds_without_trivia, weave}
 use Rattle.squawk_statements.specs.Children.{parts}
-use Rattle.squawk_statements.specs.Plain.{plain}
+use Rattle.squawk_statements.specs.Plain.{plain, children_by}
 use Rattle.squawk_statements.specs.declared.division.Division.{Division}
 use Rattle.squawk_tree.specs.Errors.{error, errors, errors_by_token, numbers_at}
 use Rattle.squawk_tree.specs.Steps.{without_errors}
-use Rattle.squawk_clauses.specs.Clauses.{clauses, clause_children_steps, clause_rows, is_clause_node}
+use Rattle.squawk_clauses.specs.Clauses.{clauses, clause_rows, is_clause_node, clause_child_steps}
 use Rattle.squawk_clauses.specs.Laws.{TreeWithoutClauses, ErrorsStay}
 use Rattle.squawk_clauses.specs.PlainWithoutClauses.{plain_without_clauses}
 use Rattle.squawk_clauses.specs.TreeWithout.{tree_without_from, tree_without_clauses}
@@ -29,7 +29,7 @@ root_is_no_clause = refl
 pub weave_without : (d : Division) (ts : List LexedToken) (kinds : List ℕ)
     → tree_without_clauses (weave ts (clauses d kinds)) ≡ weave ts (plain d kinds)
 weave_without d ts kinds =
-    let inner = clause_children_steps d (parts role d kinds) ++ step.Exit ∷ [] in
+    let inner = children_by (clause_child_steps d) (parts role d kinds) ++ step.Exit ∷ [] in
     let root : without_clause_nodes (clauses d kinds)
     ≡ step.Enter kind.SOURCE_FILE ∷ without_clauses_from (false ∷ []) inner =
     rw root_is_no_clause refl in

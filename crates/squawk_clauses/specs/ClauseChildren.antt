@@ -6,17 +6,16 @@ use Rattle.std.proofs.lemmas.Bool.{eqb-true}
 use Rattle.std.proofs.lemmas.List.{append-nil}
 use Rattle.squawk_events.specs.Lawful.{token_kinds}
 use Rattle.squawk_events.specs.declared.steps.Step.{Step}
-use Rattle.squawk_events.specs.declared.steps.Step.TheVariants.{Enter, Token, Exit, Error}
+use Rattle.squawk_events.specs.declared.steps.Step.TheVariants.{Enter, Token, Exit}
 use Rattle.squawk_kinds.specs.Role.{Role, role, Trivia, Semicolon, Terminator, Command, Open, Close, Other}
 use Rattle.squawk_kinds.specs.declared.numbers.TheConstants.Number as kind
-use Rattle.squawk_statements.specs.Children.{parts}
 use Rattle.squawk_statements.specs.Plain.{node_of, exits, groups_open_after, child_steps, unknown_statement_error}
 use Rattle.squawk_statements.specs.PlainIsLawful.{steps_by, child_tokens}
 use Rattle.squawk_statements.specs.declared.division.Division.{Division}
 use Rattle.squawk_statements.specs.declared.division.Division.TheVariants.{Flat, Grouped}
-use Rattle.squawk_tree.specs.ChildGrammar.{children_by, has_token, is_inside, IsChildSteps, IsGrammarOf}
+use Rattle.squawk_tree.specs.ChildGrammar.{has_token, is_inside, IsChildSteps, IsGrammarOf}
 use Rattle.squawk_tree.specs.PlainChildren.{inside_exits, inside_kind, plain_child}
-use Rattle.squawk_clauses.specs.Clauses.{clauses, clause_begun, clause_child_steps, clause_children_steps, clause_end, clause_start, in_clause_after, select_child_steps, select_kind_steps, select_steps}
+use Rattle.squawk_clauses.specs.Clauses.{clauses, clause_of, clause_child_steps, clause_end, clause_start, in_clause_after, select_child_steps, select_kind_steps, select_steps}
 use Rattle.squawk_clauses.specs.ClausesAreLawful.{closes_select, clauses_lawful, tokens_without}
 use Rattle.squawk_clauses.specs.PlainWithoutClauses.{select_steps_by, without_child}
 
@@ -26,8 +25,8 @@ inside_clause_end : (b : Bool) (xs : List Step) → is_inside (clause_end b ++ x
 inside_clause_end true xs = refl
 inside_clause_end false xs = refl
 
-inside_start : (b : Bool) (begun : Option ℕ) (xs : List Step) → has_token xs ≡ true
-    → is_inside (clause_start b begun ++ xs) ≡ is_inside xs
+inside_start : (b : Bool) (next_clause : Option ℕ) (xs : List Step) → has_token xs ≡ true
+    → is_inside (clause_start b next_clause ++ xs) ≡ is_inside xs
 inside_start b None xs h = refl
 inside_start true (Some node) xs h = rw h refl
 inside_start false (Some node) xs h = rw h refl
@@ -41,11 +40,11 @@ inside_ending n kind b xs =
 
 inside_other : (d : Division) (n kind : ℕ) (f : Role) (b : Bool) (xs : List Step)
     → has_token (steps_by d n kind f ++ xs) ≡ true
-    → is_inside ((clause_start b (clause_begun n kind) ++ steps_by d n kind f) ++ xs)
+    → is_inside ((clause_start b (clause_of n kind) ++ steps_by d n kind f) ++ xs)
     ≡ is_inside xs
 inside_other d n kind f b xs h =
-    ap is_inside (append_assoc (clause_start b (clause_begun n kind)) (steps_by d n kind f) xs)
-    ∙ inside_start b (clause_begun n kind) (steps_by d n kind f ++ xs) h
+    ap is_inside (append_assoc (clause_start b (clause_of n kind)) (steps_by d n kind f) xs)
+    ∙ inside_start b (clause_of n kind) (steps_by d n kind f ++ xs) h
     ∙ inside_kind d n kind f xs
 
 inside_select_kind : (d : Division) (n kind : ℕ) (f : Role) (b : Bool) (xs : List Step)
@@ -107,16 +106,9 @@ clause_child d kinds = by (node_of kinds == kind.SELECT) refl (clause_tokens d k
     by true is tokens = select_child d kinds (eqb-true (node_of kinds) kind.SELECT is) tokens
     by false is tokens = plain_child d kinds
 
--- the steps of children
-clause_children : (d : Division) (ps : List (List ℕ))
-    → clause_children_steps d ps ≡ children_by (clause_child_steps d) ps
-clause_children d [] = refl
-clause_children d (p ∷ ps) = ap (λ xs. clause_child_steps d p ++ xs) (clause_children d ps)
-
 pub clause_grammar : (d : Division) → IsGrammarOf d (clause_child_steps d) (clauses d)
 clause_grammar d = record {
-  root = λ kinds. ap (λ xs. Enter kind.SOURCE_FILE ∷ xs ++ Exit ∷ [])
-      (clause_children d (parts role d kinds));
+  root = λ kinds. refl;
   lawful = clauses_lawful d;
   children = clause_child d;
 }

@@ -9,7 +9,7 @@ use Rattle.squawk_kinds.specs.declared.numbers.TheConstants.Number as kind
 use Rattle.squawk_statements.specs.First.{node_by}
 use Rattle.squawk_statements.specs.Opening.{Row, rows, other_rows, create_rows, alter_rows, drop_rows, key, is_prefix, longer, longest, opening_of, statement_node}
 use Rattle.squawk_statements.specs.Plain.{node_of}
-use Rattle.squawk_clauses.specs.Clauses.{ClauseRow, clause_rows, clause_in, clause_begun, is_clause_node}
+use Rattle.squawk_clauses.specs.Clauses.{ClauseRow, clause_rows, clause_in, clause_of, is_clause_node}
 
 -- whether a kind is no node of a clause
 abbrev is_no_clause : ℕ → Bool
@@ -45,9 +45,9 @@ unfolding is_clause_node clause_rows
 rows_have_clause_nodes = refl
 
 -- the node of a clause that a kind begins
-pub begun_clause : (n k : ℕ) → is_clause_or_none (clause_begun n k) ≡ true
-begun_clause zero k = found_clause clause_rows k rows_have_clause_nodes
-begun_clause (suc n) k = refl
+pub clause_of_is_clause_node : (n k : ℕ) → is_clause_or_none (clause_of n k) ≡ true
+clause_of_is_clause_node zero k = found_clause clause_rows k rows_have_clause_nodes
+clause_of_is_clause_node (suc n) k = refl
 
 -- ---- the node of a statement is none of a clause
 

@@ -11,7 +11,7 @@ use Rattle.squawk_kinds.specs.declared.numbers.TheConstants.Number as kind
 use Rattle.squawk_events.specs.declared.steps.Step.{Step}
 use Rattle.squawk_events.specs.declared.steps.Step.TheVariants.{Enter, Token, Exit}
 use Rattle.squawk_statements.specs.Children.{ends_statement, parts}
-use Rattle.squawk_statements.specs.Plain.{node_of, exits, kind_steps, groups_open_after, child_steps}
+use Rattle.squawk_statements.specs.Plain.{node_of, exits, kind_steps, groups_open_after, child_steps, children_by}
 use Rattle.squawk_statements.specs.declared.division.Division.{Division}
 
 -- a row of the table: the kind that begins a clause, and the clause's node
@@ -40,9 +40,9 @@ unfoldable pub is_clause_node : ℕ → Bool
 is_clause_node k = list_any (λ (row : ClauseRow). k == row.1) clause_rows
 
 -- the node of the clause that a kind inside n groups begins, if it begins one
-abbrev pub clause_begun : ℕ → ℕ → Option ℕ
-clause_begun zero k = clause_in clause_rows k
-clause_begun (suc n) k = None
+abbrev pub clause_of : ℕ → ℕ → Option ℕ
+clause_of zero k = clause_in clause_rows k
+clause_of (suc n) k = None
 
 -- the steps at the end of the clause that is open, if one is
 abbrev pub clause_end : Bool → List Step
@@ -59,12 +59,12 @@ clause_start in_clause (Some node) = clause_end in_clause ++ Enter node ∷ []
 abbrev pub select_kind_steps : Division → Bool → ℕ → ℕ → List Step
 select_kind_steps d in_clause n k =
     if ends_statement d n (role k) then exits n ++ clause_end in_clause ++ Token k ∷ []
-    else clause_start in_clause (clause_begun n k) ++ kind_steps d n k
+    else clause_start in_clause (clause_of n k) ++ kind_steps d n k
 
 -- whether a clause is open after a kind
 abbrev pub in_clause_after : Division → Bool → ℕ → ℕ → Bool
 in_clause_after d in_clause n k = if ends_statement d n (role k) then false
-    else in_clause || is_some (clause_begun n k)
+    else in_clause || is_some (clause_of n k)
 
 -- the steps of the kinds of a `SELECT` statement, by whether a clause is open before them, and by
 -- the number of groups that are
@@ -82,12 +82,7 @@ abbrev pub clause_child_steps : Division → List ℕ → List Step
 clause_child_steps d kinds = if node_of kinds == kind.SELECT then select_child_steps d kinds
     else child_steps d kinds
 
--- the steps of the children, which have these kinds
-abbrev pub clause_children_steps : Division → List (List ℕ) → List Step
-clause_children_steps d [] = []
-clause_children_steps d (part ∷ rest) = clause_child_steps d part ++ clause_children_steps d rest
-
 -- the steps of a list of kinds without trivia
 abbrev pub clauses : Division → List ℕ → List Step
-clauses d kinds = Enter kind.SOURCE_FILE ∷ clause_children_steps d (parts role d kinds)
+clauses d kinds = Enter kind.SOURCE_FILE ∷ children_by (clause_child_steps d) (parts role d kinds)
     ++ Exit ∷ []

@@ -8,11 +8,11 @@ use Rattle.squawk_events.specs.declared.steps.Step.TheVariants.{Enter, Token, Ex
 use Rattle.squawk_kinds.specs.Role.{Role, role, Trivia, Semicolon, Terminator, Command, Open, Close, Other}
 use Rattle.squawk_kinds.specs.declared.numbers.TheConstants.Number as kind
 use Rattle.squawk_statements.specs.Children.{parts}
-use Rattle.squawk_statements.specs.Plain.{node_of, exits, groups_open_after, child_steps}
+use Rattle.squawk_statements.specs.Plain.{node_of, exits, groups_open_after, child_steps, children_by}
 use Rattle.squawk_statements.specs.PlainIsLawful.{raised, steps_by, closes_exits, closes_kind, closes_child, plain_lawful}
 use Rattle.squawk_statements.specs.declared.division.Division.{Division}
 use Rattle.squawk_statements.specs.declared.division.Division.TheVariants.{Flat, Grouped}
-use Rattle.squawk_clauses.specs.Clauses.{clauses, clause_begun, clause_child_steps, clause_children_steps, clause_end, clause_start, in_clause_after, is_clause_node, select_child_steps, select_kind_steps, select_steps}
+use Rattle.squawk_clauses.specs.Clauses.{clauses, clause_of, clause_child_steps, clause_end, clause_start, in_clause_after, is_clause_node, select_child_steps, select_kind_steps, select_steps}
 use Rattle.squawk_clauses.specs.PlainWithoutClauses.{select_steps_by, in_clause_by, plain_without_clauses}
 use Rattle.squawk_clauses.specs.Without.{without_clauses_from}
 
@@ -28,9 +28,9 @@ closes_end : (in_clause : Bool) (m : ℕ) (xs : List Step)
 closes_end true m xs = refl
 closes_end false m xs = refl
 
-closes_start : (n m : ℕ) (in_clause : Bool) (begun : Option ℕ) (xs : List Step)
-    → closes (suc (depth_with_clause in_clause m)) (clause_start in_clause begun ++ xs)
-    ≡ closes (suc (depth_with_clause (in_clause || is_some begun) m)) xs
+closes_start : (n m : ℕ) (in_clause : Bool) (next_clause : Option ℕ) (xs : List Step)
+    → closes (suc (depth_with_clause in_clause m)) (clause_start in_clause next_clause ++ xs)
+    ≡ closes (suc (depth_with_clause (in_clause || is_some next_clause) m)) xs
 closes_start n m true None xs = refl
 closes_start n m false None xs = refl
 closes_start n m true (Some node) xs = refl
@@ -38,10 +38,10 @@ closes_start n m false (Some node) xs = refl
 
 closes_start_in : (n m kind : ℕ) (in_clause : Bool) (xs : List Step)
     → closes (raised n (suc (depth_with_clause in_clause m)))
-    (clause_start in_clause (clause_begun n kind) ++ xs)
-    ≡ closes (raised n (suc (depth_with_clause (in_clause || is_some (clause_begun n kind)) m))) xs
+    (clause_start in_clause (clause_of n kind) ++ xs)
+    ≡ closes (raised n (suc (depth_with_clause (in_clause || is_some (clause_of n kind)) m))) xs
 closes_start_in zero m kind in_clause xs =
-    closes_start 0 m in_clause (clause_begun 0 kind) xs
+    closes_start 0 m in_clause (clause_of 0 kind) xs
 closes_start_in (suc n) m kind true xs = refl
 closes_start_in (suc n) m kind false xs = refl
 
@@ -57,14 +57,14 @@ closes_ending n m kind in_clause xs =
 
 closes_other : (d : Division) (n m kind : ℕ) (f : Role) (in_clause : Bool) (xs : List Step)
     → closes (raised n (suc (depth_with_clause in_clause m)))
-    ((clause_start in_clause (clause_begun n kind) ++ steps_by d n kind f) ++ xs)
+    ((clause_start in_clause (clause_of n kind) ++ steps_by d n kind f) ++ xs)
     ≡ closes (raised (groups_open_after d n f) (suc (depth_with_clause (in_clause
-    || is_some (clause_begun n kind)) m))) xs
+    || is_some (clause_of n kind)) m))) xs
 closes_other d n m kind f in_clause xs =
     ap (closes (raised n (suc (depth_with_clause in_clause m))))
-    (append_assoc (clause_start in_clause (clause_begun n kind)) (steps_by d n kind f) xs)
+    (append_assoc (clause_start in_clause (clause_of n kind)) (steps_by d n kind f) xs)
     ∙ closes_start_in n m kind in_clause (steps_by d n kind f ++ xs)
-    ∙ closes_kind d n (depth_with_clause (in_clause || is_some (clause_begun n kind)) m) kind f xs
+    ∙ closes_kind d n (depth_with_clause (in_clause || is_some (clause_of n kind)) m) kind f xs
 
 closes_select_kind : (d : Division) (n m kind : ℕ) (f : Role) (in_clause : Bool) (xs : List Step)
     → closes (raised n (suc (depth_with_clause in_clause m)))
@@ -110,11 +110,12 @@ closes_clause_child d m kinds xs = by (node_of kinds == kind.SELECT)
     by false = closes_child d m kinds xs
 
 closes_clause_children : (d : Division) (m : ℕ) (ps : List (List ℕ)) (xs : List Step)
-    → closes (suc m) (clause_children_steps d ps ++ xs) ≡ closes (suc m) xs
+    → closes (suc m) (children_by (clause_child_steps d) ps ++ xs) ≡ closes (suc m) xs
 closes_clause_children d m [] xs = refl
 closes_clause_children d m (p ∷ ps) xs =
-    ap (closes (suc m)) (append_assoc (clause_child_steps d p) (clause_children_steps d ps) xs)
-    ∙ closes_clause_child d m p (clause_children_steps d ps ++ xs)
+    ap (closes (suc m))
+    (append_assoc (clause_child_steps d p) (children_by (clause_child_steps d) ps) xs)
+    ∙ closes_clause_child d m p (children_by (clause_child_steps d) ps ++ xs)
     ∙ closes_clause_children d m ps xs
 
 -- ---- tokens and numbers: they are those of the steps without the nodes of clauses

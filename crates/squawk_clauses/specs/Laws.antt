@@ -39,7 +39,7 @@ abbrev pub ErrorsStay : Type 0
 ErrorsStay = (division : Division) (tokens : List LexedToken)
     → (clause_parse division tokens).errors ≡ (parse_of_tokens division tokens).errors
 
--- and the same children of the root
+-- it has the same children of the root
 abbrev pub RootChildrenStay : Type 0
 RootChildrenStay = (division : Division) (tokens : List LexedToken)
     → root_children (clause_parse division tokens).steps

@@ -7,12 +7,12 @@ use Rattle.squawk_kinds.specs.declared.numbers.TheConstants.Number as kind
 use Rattle.squawk_events.specs.declared.steps.Step.{Step}
 use Rattle.squawk_events.specs.declared.steps.Step.TheVariants.{Enter, Token, Exit, Error}
 use Rattle.squawk_statements.specs.Children.{ends_statement, parts}
-use Rattle.squawk_statements.specs.Plain.{plain, node_of, body_steps, exits, kind_steps, groups_open_after, unknown_statement_error, child_steps, children_steps}
+use Rattle.squawk_statements.specs.Plain.{plain, node_of, body_steps, exits, kind_steps, groups_open_after, unknown_statement_error, child_steps, children_by}
 use Rattle.squawk_statements.specs.PlainIsLawful.{steps_by}
 use Rattle.squawk_statements.specs.declared.division.Division.{Division}
 use Rattle.squawk_statements.specs.declared.division.Division.TheVariants.{Flat, Grouped}
-use Rattle.squawk_clauses.specs.Clauses.{clauses, clause_begun, clause_child_steps, clause_children_steps, clause_end, clause_start, clause_rows, is_clause_node, in_clause_after, select_child_steps, select_kind_steps, select_steps}
-use Rattle.squawk_clauses.specs.ClauseNodes.{begun_clause, is_clause_or_none, node_is_no_clause}
+use Rattle.squawk_clauses.specs.Clauses.{clauses, clause_of, clause_child_steps, clause_end, clause_start, clause_rows, is_clause_node, in_clause_after, select_child_steps, select_kind_steps, select_steps}
+use Rattle.squawk_clauses.specs.ClauseNodes.{clause_of_is_clause_node, is_clause_or_none, node_is_no_clause}
 use Rattle.squawk_clauses.specs.Without.{without_clauses_from, without_clause_nodes}
 
 -- n groups inside other nodes
@@ -82,10 +82,10 @@ without_end true nodes xs = refl
 without_end false nodes xs = refl
 
 -- so is the start of a clause
-without_start : (in_clause : Bool) (begun : Option ℕ) (nodes : List Bool) (xs : List Step)
-    → is_clause_or_none begun ≡ true
-    → without_clauses_from (with_clause in_clause nodes) (clause_start in_clause begun ++ xs)
-    ≡ without_clauses_from (with_clause (in_clause || is_some begun) nodes) xs
+without_start : (in_clause : Bool) (next_clause : Option ℕ) (nodes : List Bool) (xs : List Step)
+    → is_clause_or_none next_clause ≡ true
+    → without_clauses_from (with_clause in_clause nodes) (clause_start in_clause next_clause ++ xs)
+    ≡ without_clauses_from (with_clause (in_clause || is_some next_clause) nodes) xs
 without_start true None nodes xs h = refl
 without_start false None nodes xs h = refl
 without_start true (Some node) nodes xs h = rw h refl
@@ -93,11 +93,11 @@ without_start false (Some node) nodes xs h = rw h refl
 
 without_start_in : (n kind : ℕ) (in_clause : Bool) (nodes : List Bool) (xs : List Step)
     → without_clauses_from (with_groups n (with_clause in_clause nodes))
-    (clause_start in_clause (clause_begun n kind) ++ xs)
+    (clause_start in_clause (clause_of n kind) ++ xs)
     ≡ without_clauses_from (with_groups n (with_clause (in_clause
-    || is_some (clause_begun n kind)) nodes)) xs
+    || is_some (clause_of n kind)) nodes)) xs
 without_start_in zero kind in_clause nodes xs =
-    without_start in_clause (clause_begun 0 kind) nodes xs (begun_clause 0 kind)
+    without_start in_clause (clause_of 0 kind) nodes xs (clause_of_is_clause_node 0 kind)
 without_start_in (suc n) kind true nodes xs = refl
 without_start_in (suc n) kind false nodes xs = refl
 
@@ -105,12 +105,12 @@ without_start_in (suc n) kind false nodes xs = refl
 abbrev pub select_steps_by : Division → Bool → ℕ → ℕ → Role → List Step
 select_steps_by d in_clause n kind f =
     if ends_statement d n f then exits n ++ clause_end in_clause ++ Token kind ∷ []
-    else clause_start in_clause (clause_begun n kind) ++ steps_by d n kind f
+    else clause_start in_clause (clause_of n kind) ++ steps_by d n kind f
 
 -- whether a clause is open after a kind of this role
 abbrev pub in_clause_by : Division → Bool → ℕ → ℕ → Role → Bool
 in_clause_by d in_clause n kind f = if ends_statement d n f then false
-    else in_clause || is_some (clause_begun n kind)
+    else in_clause || is_some (clause_of n kind)
 
 without_select_ending : (n kind : ℕ) (in_clause : Bool) (nodes : List Bool) (xs : List Step)
     → without_clauses_from (with_groups n (with_clause in_clause nodes))
@@ -127,14 +127,14 @@ without_select_ending n kind in_clause nodes xs =
 without_select_other : (d : Division) (n kind : ℕ) (f : Role) (in_clause : Bool)
     (nodes : List Bool) (xs : List Step)
     → without_clauses_from (with_groups n (with_clause in_clause nodes))
-    ((clause_start in_clause (clause_begun n kind) ++ steps_by d n kind f) ++ xs)
+    ((clause_start in_clause (clause_of n kind) ++ steps_by d n kind f) ++ xs)
     ≡ steps_by d n kind f ++ without_clauses_from (with_groups (groups_open_after d n f)
-    (with_clause (in_clause || is_some (clause_begun n kind)) nodes)) xs
+    (with_clause (in_clause || is_some (clause_of n kind)) nodes)) xs
 without_select_other d n kind f in_clause nodes xs =
     ap (without_clauses_from (with_groups n (with_clause in_clause nodes)))
-    (append_assoc (clause_start in_clause (clause_begun n kind)) (steps_by d n kind f) xs)
+    (append_assoc (clause_start in_clause (clause_of n kind)) (steps_by d n kind f) xs)
     ∙ without_start_in n kind in_clause nodes (steps_by d n kind f ++ xs)
-    ∙ without_kind d n kind f (with_clause (in_clause || is_some (clause_begun n kind)) nodes) xs
+    ∙ without_kind d n kind f (with_clause (in_clause || is_some (clause_of n kind)) nodes) xs
 
 without_select_kind : (d : Division) (n kind : ℕ) (f : Role) (in_clause : Bool)
     (nodes : List Bool) (xs : List Step)
@@ -236,15 +236,16 @@ without_child d kinds nodes xs =
     by node no_clause false is = without_plain_child d node kinds nodes xs no_clause
 
 without_children : (d : Division) (ps : List (List ℕ)) (nodes : List Bool) (xs : List Step)
-    → without_clauses_from nodes (clause_children_steps d ps ++ xs)
-    ≡ children_steps d ps ++ without_clauses_from nodes xs
+    → without_clauses_from nodes (children_by (clause_child_steps d) ps ++ xs)
+    ≡ children_by (child_steps d) ps ++ without_clauses_from nodes xs
 without_children d [] nodes xs = refl
 without_children d (p ∷ ps) nodes xs =
     ap (without_clauses_from nodes) (append_assoc (clause_child_steps d p)
-    (clause_children_steps d ps) xs)
-    ∙ without_child d p nodes (clause_children_steps d ps ++ xs)
+    (children_by (clause_child_steps d) ps) xs)
+    ∙ without_child d p nodes (children_by (clause_child_steps d) ps ++ xs)
     ∙ ap (λ ys. child_steps d p ++ ys) (without_children d ps nodes xs)
-    ∙ sym (append_assoc (child_steps d p) (children_steps d ps) (without_clauses_from nodes xs))
+    ∙ sym (append_assoc (child_steps d p) (children_by (child_steps d) ps)
+    (without_clauses_from nodes xs))
 
 -- the steps of a list of kinds
 root_is_no_clause : is_clause_node kind.SOURCE_FILE ≡ false

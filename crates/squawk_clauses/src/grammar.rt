@@ -1,6 +1,6 @@
 //! The clause grammar: the plain grammar with clauses inside `SELECT` statements.
 ghost use Rattle.std.specs.Prelude.{◌≡◌, ◌==◌, unwrap_or, ◌≤◌, ◌<◌, ◌+◌, ◌^◌, [], ◌∷◌, ◌++◌, ◌||◌, false, length, is_some, OnOk, IfOk, IfErr, IsTrue};
-ghost use Rattle.squawk_clauses.specs.Clauses.{clauses, clause_begun, clause_child_steps, clause_end, clause_start, in_clause_after, select_child_steps, select_kind_steps, select_steps};
+ghost use Rattle.squawk_clauses.specs.Clauses.{clauses, clause_of, clause_child_steps, clause_end, clause_start, in_clause_after, select_child_steps, select_kind_steps, select_steps};
 ghost use Rattle.squawk_clauses.specs.Depth.{open_nodes};
 ghost use Rattle.squawk_events.specs.Depth.{depth_of};
 ghost use Rattle.squawk_events.specs.Kinds.{has_no_trivia};
@@ -28,8 +28,8 @@ pub(crate) struct OpenNodes {
 
 // The node of the clause that a kind inside `groups` groups begins, if it begins one.
 #[tactic(auto, unfolding(crate::specs::Clauses::clause_rows))]
-pub(crate) fn clause_begun(groups: usize, kind: SyntaxKind) -> Option<SyntaxKind>
-    ensures { result ≡ clause_begun groups kind }
+pub(crate) fn clause_of(groups: usize, kind: SyntaxKind) -> Option<SyntaxKind>
+    ensures { result ≡ clause_of groups kind }
 {
     if groups > 0 {
         return None;
@@ -66,16 +66,16 @@ fn emit_clause_end(output: &mut Output, in_clause: bool) -> Result<(), FrontErro
 fn emit_clause_start(
     output: &mut Output,
     in_clause: bool,
-    begun: Option<SyntaxKind>,
+    next_clause: Option<SyntaxKind>,
 ) -> Result<bool, FrontError>
     requires { open_nodes in_clause 0 ≤ depth_of output.old }
-    ensures ok { OnOk result (output.new ≡ output.old ++ clause_start in_clause begun) }
-    ensures after { IfOk result (λ after. after ≡ (in_clause || is_some begun)) }
+    ensures ok { OnOk result (output.new ≡ output.old ++ clause_start in_clause next_clause) }
+    ensures after { IfOk result (λ after. after ≡ (in_clause || is_some next_clause)) }
     ensures depth { IfOk result (λ after. depth_of output.new + open_nodes in_clause 0
         ≡ depth_of output.old + open_nodes after 0) }
     ensures refusals { IfErr result IsOutOfMemory }
 {
-    let Some(node) = begun else {
+    let Some(node) = next_clause else {
         return Ok(in_clause);
     };
     emit_clause_end(output, in_clause)?;
@@ -113,8 +113,8 @@ fn emit_kind(
             groups: 0,
         });
     }
-    let begun = clause_begun(nodes.groups, kind);
-    let in_clause = emit_clause_start(output, nodes.in_clause, begun)?;
+    let next_clause = clause_of(nodes.groups, kind);
+    let in_clause = emit_clause_start(output, nodes.in_clause, next_clause)?;
     let groups = emit_token(output, division, nodes.groups, kind)?;
     Ok(OpenNodes { in_clause, groups })
 }

@@ -1,8 +1,9 @@
 //! The parse of tokens into statements and clauses: the steps of each child of the root are emitted
 //! from its tokens.
 ghost use Rattle.std.specs.Prelude.{◌≡◌, ◌≤◌, ◌<◌, ◌+◌, ◌^◌, [], ◌∷◌, ◌++◌, ◌||◌, false, is_some, length, slice_index, slice_range, OnOk, IfOk, IfErr, IsTrue};
-ghost use Rattle.squawk_clauses.specs.Clauses.{clause_begun, clauses, in_clause_after};
-ghost use Rattle.squawk_clauses.specs.SelectTokens.{clause_enter, clause_exit, select_left, select_token};
+ghost use Rattle.squawk_clauses.specs.Clauses.{clause_of, clauses, in_clause_after};
+ghost use Rattle.squawk_clauses.specs.Depth.{open_nodes};
+ghost use Rattle.squawk_clauses.specs.SelectTokens.{clause_enter, select_left, select_token};
 ghost use Rattle.squawk_events.specs.Refusals.{IsOutOfMemory};
 ghost use Rattle.squawk_events.specs.declared.steps.StrStep.TheVariants as out;
 ghost use Rattle.squawk_kinds.specs.Role.{role};
@@ -10,10 +11,11 @@ ghost use Rattle.squawk_lexed.specs.LexedText.{are_sound, token_start};
 ghost use Rattle.squawk_lexed.specs.Stored.{kinds_of};
 ghost use Rattle.squawk_statements.specs.Plain.{groups_open_after};
 ghost use Rattle.squawk_tree.specs.Built.{IsBuilt, emitted};
+ghost use Rattle.squawk_tree.specs.ChildSteps.{exit_steps};
 ghost use Rattle.squawk_tree.specs.ParseOf.{token_steps};
 ghost use Rattle.squawk_tree.specs.Parses.{ParsesTokens};
 
-use crate::grammar::{OpenNodes, clause_begun, has_clauses};
+use crate::grammar::{OpenNodes, clause_of, has_clauses};
 use squawk_events::{FrontError, StrStep, is_trivia};
 use squawk_kinds::SyntaxKind;
 use squawk_lexed::LexedStr;
@@ -27,7 +29,8 @@ use std::alloc::Global;
 // Emits the end of the clause that is open, if one is.
 fn emit_clause_exit(in_clause: bool, tree: &mut TreeBuilder) -> Result<(), FrontError>
     requires { IsBuilt tree.old }
-    ensures steps { OnOk result (emitted tree.new ≡ emitted tree.old ++ clause_exit in_clause) }
+    ensures steps { OnOk result (emitted tree.new
+        ≡ emitted tree.old ++ exit_steps (open_nodes in_clause 0)) }
     ensures built { OnOk result (IsBuilt tree.new) }
     ensures refusals { IfErr result IsOutOfMemory }
 {
@@ -42,7 +45,7 @@ fn emit_clause_exit(in_clause: bool, tree: &mut TreeBuilder) -> Result<(), Front
 fn emit_clause_enter(
     lexed: &LexedStr<'_>,
     in_clause: bool,
-    begun: Option<SyntaxKind>,
+    next_clause: Option<SyntaxKind>,
     from: usize,
     to: usize,
     tree: &mut TreeBuilder,
@@ -51,13 +54,13 @@ fn emit_clause_enter(
     requires within { to ≤ length lexed.now.tokens }
     requires built { IsBuilt tree.old }
     ensures steps { OnOk result (emitted tree.new ≡ emitted tree.old
-        ++ clause_enter in_clause begun (token_steps (token_start lexed.now.tokens from)
+        ++ clause_enter in_clause next_clause (token_steps (token_start lexed.now.tokens from)
         (slice_range lexed.now.tokens from to))) }
-    ensures after { IfOk result (λ after. after ≡ (in_clause || is_some begun)) }
+    ensures after { IfOk result (λ after. after ≡ (in_clause || is_some next_clause)) }
     ensures built { OnOk result (IsBuilt tree.new) }
     ensures refusals { IfErr result IsOutOfMemory }
 {
-    let Some(clause) = begun else {
+    let Some(clause) = next_clause else {
         emit_tokens(lexed, from, to, tree)?;
         return Ok(in_clause);
     };
@@ -104,8 +107,8 @@ fn emit_select_token(
             groups: 0,
         });
     }
-    let begun = clause_begun(nodes.groups, kind);
-    let in_clause = emit_clause_enter(lexed, nodes.in_clause, begun, from, at, tree)?;
+    let next_clause = clause_of(nodes.groups, kind);
+    let in_clause = emit_clause_enter(lexed, nodes.in_clause, next_clause, from, at, tree)?;
     let groups = emit_in_groups(nodes.groups, kind, lexed.token_step(at), tree)?;
     Ok(OpenNodes { in_clause, groups })
 }

@@ -18,8 +18,8 @@ use Rattle.squawk_lexed.specs.LexedToken.{LexedToken}
 use Rattle.squawk_lexed.specs.Stored.{kinds_of, faults_at}
 
 -- the tokens of a text from a byte on
-abbrev tokens_after : Strings → List ℕ → ℕ → List LexedToken
-tokens_after strings text at =
+abbrev lexed_tokens_at : Strings → List ℕ → ℕ → List LexedToken
+lexed_tokens_at strings text at =
     lexed_tokens text at (tokens_from strings 0 (at == 0) (chars (drop at text)))
 
 -- a token of the lexer that begins at a byte of a text
@@ -33,7 +33,8 @@ lexed text at t = record {
 -- the first of these tokens is the one that is cut there, and the others are those after it
 record Begins (strings : Strings) (text : List ℕ) (at : ℕ) (t : Token) : Type 0 where
   boundary : IsCharBoundary text (at + t.len)
-  tokens : tokens_after strings text at ≡ lexed text at t ∷ tokens_after strings text (at + t.len)
+  tokens : lexed_tokens_at strings text at
+      ≡ lexed text at t ∷ lexed_tokens_at strings text (at + t.len)
 
 not_at_start : (at n : ℕ) → 1 ≤ n → false ≡ (at + n == 0)
 not_at_start at n h = sym (let e : (at + n == 0) ≡ false = grind (arith, nat_tests) in e)
@@ -60,7 +61,7 @@ begins progress restart strings text at utf8 here some =
 
 -- where a text ends there is no token
 none_at_end : (strings : Strings) (text : List ℕ) (at : ℕ) → length text ≤ at
-    → length (tokens_after strings text at) ≡ 0
+    → length (lexed_tokens_at strings text at) ≡ 0
 none_at_end strings text at h = by (drop at text) (omega (arith, length-drop at text))
   where
     by : (rest : List ℕ) → length rest ≡ 0
@@ -70,7 +71,7 @@ none_at_end strings text at h = by (drop at text) (omega (arith, length-drop at 
     by (b ∷ bs) e = absurd (omega arith)
 
 some_left : (strings : Strings) (text : List ℕ) (at i : ℕ)
-    → i < length (tokens_after strings text at) → at < length text
+    → i < length (lexed_tokens_at strings text at) → at < length text
 some_left strings text at i h = by (cases_lt at (length text))
   where
     by : (at < length text) ⊎ (length text ≤ at) → at < length text
@@ -102,25 +103,25 @@ later_token text at u us i from t is = record {
 }
 
 cut_from : TextsProgress → TextsRestart → (strings : Strings) (text : List ℕ) (i at from : ℕ)
-    → IsUtf8 text → IsCharBoundary text at → i < length (tokens_after strings text at)
-    → from ≡ at + total_len (take i (tokens_after strings text at))
-    → IsTokenFrom text at (tokens_after strings text at) i from (token_cut_at strings text from)
+    → IsUtf8 text → IsCharBoundary text at → i < length (lexed_tokens_at strings text at)
+    → from ≡ at + total_len (take i (lexed_tokens_at strings text at))
+    → IsTokenFrom text at (lexed_tokens_at strings text at) i from (token_cut_at strings text from)
 cut_from progress restart strings text zero at from utf8 here h e =
     let t = token_cut_at strings text at in
     let s = begins progress restart strings text at utf8 here
     (some_left strings text at 0 h) in
     let same : at ≡ from = omega (arith, e) in
-    subst (λ j. IsTokenFrom text at (tokens_after strings text at) 0 j
+    subst (λ j. IsTokenFrom text at (lexed_tokens_at strings text at) 0 j
     (token_cut_at strings text j)) same
     (subst (λ ts. IsTokenFrom text at ts 0 at t) (sym s.tokens)
-    (first_token text at t (tokens_after strings text (at + t.len)) here))
+    (first_token text at t (lexed_tokens_at strings text (at + t.len)) here))
 cut_from progress restart strings text (suc i) at from utf8 here h e =
     let t = token_cut_at strings text at in
     let s = begins progress restart strings text at utf8 here
     (some_left strings text at (suc i) h) in
-    let us = tokens_after strings text (at + t.len) in
-    let size : length (tokens_after strings text at) ≡ suc (length us) = ap length s.tokens in
-    let start : total_len (take (suc i) (tokens_after strings text at))
+    let us = lexed_tokens_at strings text (at + t.len) in
+    let size : length (lexed_tokens_at strings text at) ≡ suc (length us) = ap length s.tokens in
+    let start : total_len (take (suc i) (lexed_tokens_at strings text at))
     ≡ t.len + total_len (take i us) = ap (λ ts. total_len (take (suc i) ts)) s.tokens in
     subst (λ ts. IsTokenFrom text at ts (suc i) from (token_cut_at strings text from))
     (sym s.tokens)

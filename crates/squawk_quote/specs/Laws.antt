@@ -20,7 +20,7 @@ abbrev pub StringConstantsAreTokens : Type 0
 StringConstantsAreTokens =
     (value : List ℕ) → IsOneToken (Literal (Str true)) (string_constant value)
 
--- and has this value
+-- it is read back as the value, whatever apostrophes and backslashes are in it
 abbrev pub StringConstantsHaveTheirValue : Type 0
 StringConstantsHaveTheirValue = (value : List ℕ) → value_of (string_constant value) ≡ Some value
 
@@ -29,7 +29,7 @@ abbrev pub QuotedIdentifiersAreTokens : Type 0
 QuotedIdentifiersAreTokens =
     (value : List ℕ) → IsOneToken (QuotedIdent true false) (quoted_identifier value)
 
--- and has this value
+-- it is read back as the value, whatever quotation marks are in it
 abbrev pub QuotedIdentifiersHaveTheirValue : Type 0
 QuotedIdentifiersHaveTheirValue =
     (value : List ℕ) → value_of (quoted_identifier value) ≡ Some value
@@ -39,15 +39,15 @@ abbrev pub DollarConstantsAreTokens : Type 0
 DollarConstantsAreTokens =
     (value : List ℕ) → IsOneToken (Literal (DollarQuotedString true)) (dollar_constant value)
 
--- and has this value
+-- it is read back as the value, whatever `$` and tags are in it
 abbrev pub DollarConstantsHaveTheirValue : Type 0
 DollarConstantsHaveTheirValue = (value : List ℕ) → value_of (dollar_constant value) ≡ Some value
 
--- the shortest tag fits
+-- a delimiter with the shortest tag fits, so that the value always has a dollar-quoted string
 abbrev pub ShortestTagFits : Type 0
 ShortestTagFits = (value : List ℕ) → delimiter_fits value (shortest_tag value) ≡ true
 
--- no shorter tag does
+-- no shorter tag fits
 abbrev pub ShorterTagsFail : Type 0
 ShorterTagsFail =
     (value : List ℕ) (n : ℕ) → n < shortest_tag value → delimiter_fits value n ≡ false

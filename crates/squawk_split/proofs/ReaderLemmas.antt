@@ -13,7 +13,7 @@ use Rattle.squawk_lexer.specs.LookAhead.{TextsProgress, TextsRestart, IsFirstTok
 use Rattle.squawk_lexer.specs.declared.token.Strings.{Strings}
 use Rattle.squawk_lexer.specs.declared.token.Token.{Token}
 use Rattle.squawk_split.specs.Pieces.{tokens_of}
-use Rattle.squawk_split.specs.Reader.{TextReading, IsListed, IsTokenAt}
+use Rattle.squawk_split.specs.Reader.{TextReading, IsListed, IsTokenReadAt}
 use Rattle.squawk_split.specs.declared.reader.KindAndEnd.{KindAndEnd}
 use Rattle.squawk_split.proofs.TokenSteps.{after, begins, cut_first, not_at_start, is_start_after}
 
@@ -88,7 +88,7 @@ pub listed_token : TextsProgress → TextsRestart → (strings : Strings) (text 
     (index : ℕ) (lexed : LexedText) (i at : ℕ) (token : KindAndEnd) → IsUtf8 text
     → IsCharBoundary text at → IsListed strings text index lexed → token_start lexed.tokens i ≡ at → at < length text
     → token.kind ≡ get_or (kinds_of lexed.tokens) i EOF
-    → token.end ≡ token_start lexed.tokens (i + 1) → IsTokenAt strings text at token
+    → token.end ≡ token_start lexed.tokens (i + 1) → IsTokenReadAt strings text at token
 listed_token progress restart strings text index lexed i at token utf8 boundary list starts
     inside kind_is ends =
     let ts = tokens_of strings true text in
@@ -135,11 +135,11 @@ pub cut_token : (reading : TextReading) (at : ℕ) (t : Token) (text own : List 
     (strings : Strings) (token : KindAndEnd) → text ≡ reading.text → strings ≡ reading.strings
     → IsFirstTokenAt strings text at t → own ≡ slice_range text at (at + t.len)
     → token.kind ≡ leaf_kind t.kind own → token.end ≡ at + t.len → 0 < t.len
-    → IsCharBoundary text (at + t.len) → IsTokenAt reading.strings reading.text at token
+    → IsCharBoundary text (at + t.len) → IsTokenReadAt reading.strings reading.text at token
 cut_token reading at t text own strings token text_is strings_is first own_is kind_is end_is some
     boundary =
-    subst (λ u. IsTokenAt reading.strings u at token) text_is
-    (subst (λ s. IsTokenAt s text at token) strings_is (record {
+    subst (λ u. IsTokenReadAt reading.strings u at token) text_is
+    (subst (λ s. IsTokenReadAt s text at token) strings_is (record {
       first = record { kind = token.kind; len = t.len; faults = faults t };
       kind_is = refl;
       end_is = end_is;

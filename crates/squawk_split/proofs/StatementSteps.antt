@@ -13,7 +13,7 @@ use Rattle.squawk_split.specs.declared.pieces.PieceKind.TheVariants as piece
 use Rattle.squawk_split.specs.declared.statements.StatementEnd.{StatementEnd}
 use Rattle.squawk_split.specs.declared.statements.StatementState.{StatementState}
 use Rattle.squawk_split.proofs.StatementLemmas.{IsRead, statement_is_read}
-use Rattle.squawk_split.specs.Reader.{TextReading, IsTokenAt}
+use Rattle.squawk_split.specs.Reader.{TextReading, IsTokenReadAt}
 use Rattle.squawk_split.specs.declared.reader.KindAndEnd.{KindAndEnd}
 use Rattle.squawk_split.proofs.TokenSteps.{tokens_none}
 use Rattle.squawk_statements.specs.Children.{is_single_token}
@@ -22,7 +22,7 @@ use Rattle.squawk_statements.specs.declared.division.Division.{Division}
 -- ---- a token that was read
 
 token_is : (strings : Strings) (text : List ℕ) (at : ℕ) (token : KindAndEnd)
-    (is : IsTokenAt strings text at token)
+    (is : IsTokenReadAt strings text at token)
     → token ≡ record { kind = is.first.kind; end = at + is.first.len }
 token_is strings text at token is =
     ap (λ (k : ℕ). record { kind = k; end = token.end }) is.kind_is
@@ -65,7 +65,7 @@ begins_statement Other e = record { not_trivia = refl; not_single = refl; kind_i
 -- a statement, the rest of which was read by the reader after its first token
 pub next_statement : (d : Division) (reading after : TextReading) (at : ℕ) (token : KindAndEnd)
     (r : StatementEnd) (follows : Bool) → after ≡ reading
-    → IsTokenAt reading.strings reading.text at token → single_piece (role token.kind) ≡ None
+    → IsTokenReadAt reading.strings reading.text at token → single_piece (role token.kind) ≡ None
     → r ≡ end_from d (state_after start_state token.kind) token.end token.end
     (tokens_of after.strings false (drop token.end after.text))
     → follows ≡ (eqb token.kind kinds.COPY_KW && r.from_stdin)

@@ -46,6 +46,6 @@ pub record IsFromStdin (open_parens : ℕ) (kinds : List ℕ) : Type 0 where
 abbrev pub FromStdinIsFound : Type 0
 FromStdinIsFound = (kinds : List ℕ) → IsFromStdin 0 kinds → has_from_stdin 0 false kinds ≡ true
 
--- and nothing else
+-- only a FROM STDIN outside all parentheses is found
 abbrev pub OnlyFromStdinIsFound : Type 0
 OnlyFromStdinIsFound = (kinds : List ℕ) → has_from_stdin 0 false kinds ≡ true → IsFromStdin 0 kinds

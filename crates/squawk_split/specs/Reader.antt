@@ -22,7 +22,7 @@ pub record IsListed (strings : Strings) (text : List ℕ) (index : ℕ) (lexed :
 
 -- the first token of the text from an offset on has this kind and ends there, and the others are
 -- those of the rest
-pub record IsTokenAt (strings : Strings) (text : List ℕ) (at : ℕ) (token : KindAndEnd)
+pub record IsTokenReadAt (strings : Strings) (text : List ℕ) (at : ℕ) (token : KindAndEnd)
     : Type 0 where
   pub first : LexedToken
   pub kind_is : token.kind ≡ first.kind

@@ -2,7 +2,7 @@
 ghost use Rattle.std.specs.Prelude.{◌≡◌, ◌<◌, ◌≤◌, ◌^◌, length};
 ghost use Rattle.std.specs.Str.{IsCharBoundary};
 ghost use Rattle.squawk_lexed.specs.LexedText.{lexed_text, token_start};
-ghost use Rattle.squawk_split.specs.Reader.{IsTokenAt};
+ghost use Rattle.squawk_split.specs.Reader.{IsTokenReadAt};
 
 use squawk_kinds::SyntaxKind;
 use squawk_lexed::{LexedStr, kind_of};
@@ -101,7 +101,7 @@ impl<'a> TokenReader<'a> {
         requires inside { at < length self.old.text }
         requires boundary { IsCharBoundary self.old.text at }
         ensures same { self.new ≡ self.old }
-        ensures token { IsTokenAt self.old.strings self.old.text at result }
+        ensures token { IsTokenReadAt self.old.strings self.old.text at result }
     {
         tokens_progress();
         tokens_restart();

@@ -20,7 +20,7 @@ use Rattle.squawk_lexed.specs.LexedLaws.{token_cut_at, TokensAreCutAtTheirStarts
 use Rattle.squawk_lexed.specs.LexedText.{LexedText, lexed_text, token_start, token_text, total_len, are_sound}
 use Rattle.squawk_lexed.specs.LexedToken.{LexedToken}
 use Rattle.squawk_lexed.specs.Stored.{kinds_of}
-use Rattle.squawk_squeeze.specs.Squeezed.{text_token, tokens_after}
+use Rattle.squawk_squeeze.specs.Squeezed.{text_token, text_tokens_at}
 use Rattle.squawk_squeeze.proofs.SqueezeBytes.{step}
 
 -- the leaf of a token has the token's role
@@ -58,8 +58,8 @@ pub record IsStep (strings : Strings) (text : List ℕ) (l : LexedText) (i : ℕ
     (part : List ℕ) : Type 0 where
   pub kind : TokenKind
   pub is : is_trivia kind ≡ trivia
-  pub tokens : tokens_after strings text (token_start l.tokens i)
-      ≡ text_token kind (chars part) ∷ tokens_after strings text (token_start l.tokens (i + 1))
+  pub tokens : text_tokens_at strings text (token_start l.tokens i)
+      ≡ text_token kind (chars part) ∷ text_tokens_at strings text (token_start l.tokens (i + 1))
 
 -- what the calls in the loop say of the token at index i
 pub record IsRead (l : LexedText) (i kind : ℕ) (part : List ℕ) : Type 0 where
@@ -95,7 +95,7 @@ step_of_token some progress keep cut strings text i kind part r =
       tokens = step some strings text at t part r.utf8 is.boundary within
           (IsCharBoundary-from_rest text at t.len is.boundary.0 both.1) both.0 refl part_is
           r.part_utf8
-          ∙ ap (λ n. text_token t.kind (chars part) ∷ tokens_after strings text n) (sym is.end);
+          ∙ ap (λ n. text_token t.kind (chars part) ∷ text_tokens_at strings text n) (sym is.end);
     }
 
 pub lexed_step : TokensProgress → TextsProgress → LeavesKeepRoles → TokensAreCutAtTheirStarts

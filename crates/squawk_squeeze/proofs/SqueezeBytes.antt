@@ -18,7 +18,7 @@ use Rattle.squawk_lexer.specs.Text.{utf8_len}
 use Rattle.squawk_lexer.specs.Token.{lexeme_at, token_at}
 use Rattle.squawk_lexer.specs.Cut.{is_trivia}
 use Rattle.squawk_squeeze.specs.declared.text.Squeezer.{Squeezer}
-use Rattle.squawk_squeeze.specs.Squeezed.{TextToken, text_token, text_tokens_from, TriviaRun, extend_run, prepend_separator, squeeze_tokens, text_of, tokens_after, separator_bytes, squeezed_bytes, IsPushed, squeezed_text, without_trivia, text_tokens, IsSqueezed, KeepsTokens, IsUnchangedBySqueezing}
+use Rattle.squawk_squeeze.specs.Squeezed.{TextToken, text_token, text_tokens_from, TriviaRun, extend_run, prepend_separator, squeeze_tokens, text_of, text_tokens_at, separator_bytes, output_with_rest, IsPushed, squeezed_text, without_trivia, text_tokens, IsSqueezed, KeepsTokens, IsUnchangedBySqueezing}
 use Rattle.squawk_squeeze.proofs.TokenLaws.{texts_add_up}
 use Rattle.squawk_squeeze.proofs.TokenLists.{text_tokens_first}
 use Rattle.squawk_squeeze.proofs.SqueezeLaws.{LexerLaws, keeps_tokens, squeeze_idempotent}
@@ -75,8 +75,8 @@ pub step : TokensProgress → (strings : Strings) (text : List ℕ) (at : ℕ) (
     → IsCharBoundary text (at + t.len) → 0 < t.len
     → t ≡ token_at strings (at == 0) (chars (drop at text)) → part ≡ take t.len (drop at text)
     → IsUtf8 part
-    → tokens_after strings text at
-    ≡ text_token t.kind (chars part) ∷ tokens_after strings text (at + t.len)
+    → text_tokens_at strings text at
+    ≡ text_token t.kind (chars part) ∷ text_tokens_at strings text (at + t.len)
 step some strings text at t part utf8 here within there long is e part_utf8 =
     let bs = drop at text in
     let u = chars bs in
@@ -106,7 +106,7 @@ step some strings text at t part utf8 here within there long is e part_utf8 =
 
 -- at the end of the text there is no token
 tokens_end : (strings : Strings) (text : List ℕ) (at : ℕ) → length text ≤ at
-    → tokens_after strings text at ≡ []
+    → text_tokens_at strings text at ≡ []
 tokens_end strings text at h = ap (text_tokens_from strings 0 (at == 0))
     (chars_none (drop at text) (omega (arith, length-drop at text)))
 
@@ -151,7 +151,7 @@ push_last new out (Some false) e = e
 
 -- before the first token
 pub no_tokens : (s : Squeezer) (ts : List TextToken) → string_bytes s.out ≡ [] → s.run ≡ None
-    → squeezed_bytes s ts ≡ encode_utf8_all (text_of (squeeze_tokens None ts))
+    → output_with_rest s ts ≡ encode_utf8_all (text_of (squeeze_tokens None ts))
 no_tokens s ts e f =
     ap (λ w. w ++ encode_utf8_all (text_of (squeeze_tokens s.run ts))) e
     ∙ ap (λ run. encode_utf8_all (text_of (squeeze_tokens run ts))) f
@@ -160,16 +160,16 @@ no_tokens s ts e f =
 pub pushed : (trivia : Bool) (part : List ℕ) (old new : Squeezer) (kind : TokenKind)
     (us ts : List TextToken) (whole : List ℕ) → IsPushed trivia (chars part) old new
     → is_trivia kind ≡ trivia → us ≡ text_token kind (chars part) ∷ ts
-    → squeezed_bytes old us ≡ whole → squeezed_bytes new ts ≡ whole
+    → output_with_rest old us ≡ whole → output_with_rest new ts ≡ whole
 pushed trivia part old new kind us ts whole is h e inv =
-    is kind ts h ∙ ap (squeezed_bytes old) (sym e) ∙ inv
+    is kind ts h ∙ ap (output_with_rest old) (sym e) ∙ inv
 
 -- the output of all tokens
 pub output_is : (s : Squeezer) (strings : Strings) (text : List ℕ) (at : ℕ) (out whole : List ℕ)
-    → out ≡ squeezed_bytes s [] → length text ≤ at
-    → squeezed_bytes s (tokens_after strings text at) ≡ whole → out ≡ whole
+    → out ≡ output_with_rest s [] → length text ≤ at
+    → output_with_rest s (text_tokens_at strings text at) ≡ whole → out ≡ whole
 output_is s strings text at out whole e h inv =
-    e ∙ ap (squeezed_bytes s) (sym (tokens_end strings text at h)) ∙ inv
+    e ∙ ap (output_with_rest s) (sym (tokens_end strings text at h)) ∙ inv
 
 -- ---- what holds of a result
 

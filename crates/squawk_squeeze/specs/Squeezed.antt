@@ -1,8 +1,11 @@
 -- The text in which one character stands for each run of trivia. Texts are lists of characters.
-use Rattle.std.specs.Prelude.{◌≡◌, ℕ, zero, suc, ◌-◌, Bool, true, false, ◌||◌, List, [], ◌∷◌, ◌++◌, ◌==◌, take, drop, Option, Some, None, if◌then◌else◌}
+use Rattle.std.specs.Prelude.{◌≡◌, ℕ, zero, suc, ◌-◌, Bool, true, false, ◌||◌, List, [], ◌∷◌, ◌++◌, ◌==◌, take, drop, Option, Some, None, String, Result, IfOk, if◌then◌else◌}
 use Rattle.std.specs.List.{list_any}
 use Rattle.std.specs.Str.{chars, encode_utf8_all}
 use Rattle.std.specs.String.{string_bytes}
+use Rattle.std.specs.declared.alloc.Global.{Global}
+use Rattle.squawk_events.specs.declared.error.FrontError.{FrontError}
+use Rattle.squawk_lexed.specs.LexedText.{LexedText, lexed_text}
 use Rattle.squawk_lexer.specs.declared.token.TokenKind.{TokenKind}
 use Rattle.squawk_lexer.specs.declared.token.TokenKind.TheVariants.{Whitespace}
 use Rattle.squawk_lexer.specs.declared.token.Strings.{Strings}
@@ -98,11 +101,21 @@ KeepsTokens strings text out =
 abbrev pub IsUnchangedBySqueezing : Strings → List ℕ → Type 0
 IsUnchangedBySqueezing strings out = squeezed_text strings (chars out) ≡ chars out
 
+-- ---- what `squeeze_lexed` returns
+
+-- A property of a reading of strings, a text and the bytes of a result. It holds if there is a
+-- result, for each reading and text whose tokens these are.
+abbrev pub OfItsText : LexedText → Result (String Global) FrontError
+    → (Strings → List ℕ → List ℕ → Type 0) → Type 0
+OfItsText lexed result Property =
+    (strings : Strings) (text : List ℕ) → lexed ≡ lexed_text strings text
+    → IfOk result (λ out. Property strings text (string_bytes out))
+
 -- ---- for private functions
 
 -- the tokens of a text from byte `at` on
-abbrev pub tokens_after : Strings → List ℕ → ℕ → List TextToken
-tokens_after strings text at = text_tokens_from strings 0 (at == 0) (chars (drop at text))
+abbrev pub text_tokens_at : Strings → List ℕ → ℕ → List TextToken
+text_tokens_at strings text at = text_tokens_from strings 0 (at == 0) (chars (drop at text))
 
 -- the bytes that a run becomes
 abbrev pub separator_bytes : TriviaRun → List ℕ
@@ -110,10 +123,10 @@ separator_bytes None = []
 separator_bytes (Some line_end) = separator line_end ∷ []
 
 -- the output where these tokens follow those so far
-abbrev pub squeezed_bytes : Squeezer → List TextToken → List ℕ
-squeezed_bytes s ts = string_bytes s.out ++ encode_utf8_all (text_of (squeeze_tokens s.run ts))
+abbrev pub output_with_rest : Squeezer → List TextToken → List ℕ
+output_with_rest s ts = string_bytes s.out ++ encode_utf8_all (text_of (squeeze_tokens s.run ts))
 
 -- a token that is trivia or not, with this text, joined those so far, whatever tokens follow
 abbrev pub IsPushed : Bool → List ℕ → Squeezer → Squeezer → Type 0
 IsPushed trivia text old new = (kind : TokenKind) (ts : List TextToken) → is_trivia kind ≡ trivia
-    → squeezed_bytes new ts ≡ squeezed_bytes old (text_token kind text ∷ ts)
+    → output_with_rest new ts ≡ output_with_rest old (text_token kind text ∷ ts)

@@ -1,11 +1,10 @@
 //! Replaces each run of white space and comments by one character.
-ghost use Rattle.std.specs.Prelude.{◌≡◌, ◌++◌, ◌≤◌, ◌<◌, ◌↔◌, ℕ, List, [], length, None, IfOk, IfErr, OnOk, IsErrOf};
+ghost use Rattle.std.specs.Prelude.{◌≡◌, ◌++◌, ◌≤◌, ◌<◌, ◌↔◌, [], length, None, IfOk, IfErr, OnOk, IsErrOf};
 ghost use Rattle.std.specs.List.{list_any};
 ghost use Rattle.std.specs.Str.{chars};
 ghost use Rattle.std.specs.String.{string_bytes};
 ghost use Rattle.squawk_events.specs.Limit.{limit};
 ghost use Rattle.squawk_events.specs.Refusals.{IsOutOfMemory, MayRefuse};
-ghost use Rattle.squawk_lexed.specs.LexedText.{lexed_text};
 ghost use Rattle.squawk_lexer.specs.Classes.{is_line_end};
 ghost use Rattle.squawk_lexer.specs.Cut.{is_trivia};
 ghost use Rattle.squawk_squeeze.specs.Squeezed as spec;
@@ -106,7 +105,7 @@ impl Squeezer {
 
     // Ends the text: the last run becomes its separator.
     fn finish(self) -> Result<String, AllocError>
-        ensures { IfOk result (λ out. string_bytes out ≡ spec.squeezed_bytes self []) }
+        ensures { IfOk result (λ out. string_bytes out ≡ spec.output_with_rest self []) }
     {
         let Squeezer { mut out, run } = self;
         push_separator(&mut out, run)?;
@@ -161,15 +160,10 @@ pub fn squeeze(alloc: Global, text: &str, strings: Strings) -> Result<String, Fr
 ///
 /// `OutOfMemory` if there is not enough memory for the result.
 pub fn squeeze_lexed(alloc: Global, lexed: &LexedStr<'_>) -> Result<String, FrontError>
-    ensures text { (strings : Strings) (text : List ℕ) → lexed.now ≡ lexed_text strings text
-        → IfOk result (λ out. spec.IsSqueezed strings text (string_bytes out)) }
-    ensures keeps_tokens { (strings : Strings) (text : List ℕ)
-        → lexed.now ≡ lexed_text strings text
-        → IfOk result (λ out. spec.KeepsTokens strings text (string_bytes out)) }
-    ensures idempotent { (strings : Strings) (text : List ℕ) → lexed.now ≡ lexed_text strings text
-        → IfOk result (λ out. spec.IsUnchangedBySqueezing strings (string_bytes out)) }
-    ensures no_longer { (strings : Strings) (text : List ℕ) → lexed.now ≡ lexed_text strings text
-        → IfOk result (λ out. length (string_bytes out) ≤ length text) }
+    ensures text { spec.OfItsText lexed.now result spec.IsSqueezed }
+    ensures keeps_tokens { spec.OfItsText lexed.now result spec.KeepsTokens }
+    ensures idempotent { spec.OfItsText lexed.now result (λ s _. spec.IsUnchangedBySqueezing s) }
+    ensures no_longer { spec.OfItsText lexed.now result (λ _ text out. length out ≤ length text) }
     ensures refusals { IfErr result IsOutOfMemory }
 {
     tokens_progress();

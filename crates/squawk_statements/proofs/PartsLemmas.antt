@@ -4,7 +4,7 @@ use Rattle.std.proofs.lemmas.List.{length-drop, take_rest, drop-drop}
 use Rattle.squawk_kinds.specs.Role.{Role}
 use Rattle.squawk_kinds.specs.Role.{role}
 use Rattle.squawk_events.specs.declared.steps.Step.{Step}
-use Rattle.squawk_statements.specs.Plain.{child_steps, children_steps}
+use Rattle.squawk_statements.specs.Plain.{child_steps, children_by}
 use Rattle.squawk_statements.specs.Children.{parts_from, parts, first_child, first_child_len}
 use Rattle.squawk_statements.specs.PlainIsLawful.{first_child_some, suc_minus_one}
 use Rattle.squawk_statements.specs.declared.division.Division.{Division}
@@ -38,9 +38,9 @@ pub steps_more : (before after start : List Step) (d : Division) (kinds rest par
     (at n : ℕ) → at < length kinds
     → rest ≡ take (length kinds - at) (drop at kinds) → n ≡ (first_child d (map role rest)).tokens
     → part ≡ take (at + n - at) (drop at kinds)
-    → before ++ children_steps d (parts role d (drop at kinds)) ≡ start
+    → before ++ children_by (child_steps d) (parts role d (drop at kinds)) ≡ start
     → after ≡ before ++ child_steps d part
-    → after ++ children_steps d (parts role d (drop (at + n) kinds)) ≡ start
+    → after ++ children_by (child_steps d) (parts role d (drop (at + n) kinds)) ≡ start
 steps_more before after start d kinds rest part at n some rest_is n_is part_is so_far more =
     let whole : rest ≡ drop at kinds = rest_is ∙ take_rest kinds at in
     let size : length (drop at kinds) ≡ length kinds - at = length-drop at kinds in
@@ -50,5 +50,5 @@ steps_more before after start d kinds rest part at n some rest_is n_is part_is s
     ∙ ap (λ m. take m (drop at kinds)) (omega arith) in
     let there : drop n (drop at kinds) ≡ drop (at + n) kinds = drop-drop n at kinds in
     rw more (append_assoc before (child_steps d part)
-    (children_steps d (parts role d (drop (at + n) kinds)))
-    ∙ rw (here, ← there) (ap (λ ps. before ++ children_steps d ps) (sym step)) ∙ so_far)
+    (children_by (child_steps d) (parts role d (drop (at + n) kinds)))
+    ∙ rw (here, ← there) (ap (λ ps. before ++ children_by (child_steps d) ps) (sym step)) ∙ so_far)

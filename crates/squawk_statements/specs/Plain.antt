@@ -67,11 +67,11 @@ abbrev pub child_steps : Division → List ℕ → List Step
 child_steps d kinds = Enter (node_of kinds) ∷ unknown_statement_error (node_of kinds)
     ++ body_steps d 0 kinds ++ Exit ∷ []
 
--- the steps of the children, which have these kinds
-abbrev pub children_steps : Division → List (List ℕ) → List Step
-children_steps d [] = []
-children_steps d (part ∷ rest) = child_steps d part ++ children_steps d rest
+-- the steps of the children that have these kinds, by those of each child
+abbrev pub children_by : (List ℕ → List Step) → List (List ℕ) → List Step
+children_by child [] = []
+children_by child (part ∷ rest) = child part ++ children_by child rest
 
 -- the steps of a list of kinds without trivia
 abbrev pub plain : Division → List ℕ → List Step
-plain d kinds = Enter SOURCE_FILE ∷ children_steps d (parts role d kinds) ++ Exit ∷ []
+plain d kinds = Enter SOURCE_FILE ∷ children_by (child_steps d) (parts role d kinds) ++ Exit ∷ []

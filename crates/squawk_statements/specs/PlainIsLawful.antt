@@ -10,7 +10,7 @@ use Rattle.squawk_kinds.specs.declared.numbers.TheConstants.Number.{ERROR}
 use Rattle.squawk_events.specs.declared.steps.Step.{Step}
 use Rattle.squawk_events.specs.declared.steps.Step.TheVariants.{Enter, Token, Exit, Error}
 use Rattle.squawk_statements.specs.Children.{ends_statement, parts, parts_from, first_child, first_child_len, statement_to, statement_end}
-use Rattle.squawk_statements.specs.Plain.{plain, node_of, body_steps, exits, kind_steps, groups_open_after, enters_before, exits_after, unknown_statement_error, child_steps, children_steps}
+use Rattle.squawk_statements.specs.Plain.{plain, node_of, body_steps, exits, kind_steps, groups_open_after, enters_before, exits_after, unknown_statement_error, child_steps, children_by}
 use Rattle.squawk_statements.specs.declared.division.Division.{Division}
 use Rattle.squawk_statements.specs.declared.division.Division.TheVariants.{Flat, Grouped}
 
@@ -83,11 +83,11 @@ closes_child d m kinds xs =
     ∙ closes_body d 0 (suc m) kinds (Exit ∷ xs)
 
 closes_children : (d : Division) (m : ℕ) (ps : List (List ℕ)) (xs : List Step)
-    → closes (suc m) (children_steps d ps ++ xs) ≡ closes (suc m) xs
+    → closes (suc m) (children_by (child_steps d) ps ++ xs) ≡ closes (suc m) xs
 closes_children d m [] xs = refl
 closes_children d m (p ∷ ps) xs =
-    ap (closes (suc m)) (append_assoc (child_steps d p) (children_steps d ps) xs)
-    ∙ closes_child d m p (children_steps d ps ++ xs) ∙ closes_children d m ps xs
+    ap (closes (suc m)) (append_assoc (child_steps d p) (children_by (child_steps d) ps) xs)
+    ∙ closes_child d m p (children_by (child_steps d) ps ++ xs) ∙ closes_children d m ps xs
 
 -- ---- tokens: the Token steps of kinds, of a child and of a list of children have these kinds in
 -- order
@@ -194,11 +194,11 @@ joined_parts role_of (suc n) d (x ∷ xs) = joined_parts role_of n d xs
 
 -- the tokens of a list of children
 tokens_children : (d : Division) (ps : List (List ℕ)) (xs : List Step)
-    → token_kinds (children_steps d ps ++ xs) ≡ joined ps ++ token_kinds xs
+    → token_kinds (children_by (child_steps d) ps ++ xs) ≡ joined ps ++ token_kinds xs
 tokens_children d [] xs = refl
 tokens_children d (p ∷ ps) xs =
-    ap token_kinds (append_assoc (child_steps d p) (children_steps d ps) xs)
-    ∙ tokens_child d p (children_steps d ps ++ xs)
+    ap token_kinds (append_assoc (child_steps d p) (children_by (child_steps d) ps) xs)
+    ∙ tokens_child d p (children_by (child_steps d) ps ++ xs)
     ∙ ap (λ ks. p ++ ks) (tokens_children d ps xs)
     ∙ sym (append_assoc p (joined ps) (token_kinds xs))
 
@@ -252,11 +252,11 @@ numbers_child d kinds xs =
     ∙ numbers_body d 0 kinds (Exit ∷ xs)
 
 numbers_children : (d : Division) (ps : List (List ℕ)) (xs : List Step)
-    → has_lawful_numbers (children_steps d ps ++ xs) ≡ has_lawful_numbers xs
+    → has_lawful_numbers (children_by (child_steps d) ps ++ xs) ≡ has_lawful_numbers xs
 numbers_children d [] xs = refl
 numbers_children d (p ∷ ps) xs =
-    ap has_lawful_numbers (append_assoc (child_steps d p) (children_steps d ps) xs)
-    ∙ numbers_child d p (children_steps d ps ++ xs) ∙ numbers_children d ps xs
+    ap has_lawful_numbers (append_assoc (child_steps d p) (children_by (child_steps d) ps) xs)
+    ∙ numbers_child d p (children_by (child_steps d) ps ++ xs) ∙ numbers_children d ps xs
 
 -- the steps of kinds without trivia are lawful
 pub plain_lawful : (d : Division) (kinds : List ℕ) → IsTrue (has_no_trivia kinds)
@@ -276,12 +276,12 @@ child_balanced d kinds =
     ∙ closes_unknown (node_of kinds == ERROR) 0 (body_steps d 0 kinds ++ Exit ∷ [])
     ∙ closes_body d 0 0 kinds (Exit ∷ [])
 
--- and its tokens have these kinds in order
+-- the tokens of a child's steps have its kinds, in order
 pub child_tokens : (d : Division) (kinds : List ℕ) → token_kinds (child_steps d kinds) ≡ kinds
 child_tokens d kinds = ap token_kinds (sym (append-nil (child_steps d kinds)))
     ∙ tokens_child d kinds [] ∙ append-nil kinds
 
--- and the numbers of its errors are lawful
+-- the errors in a child's steps have lawful numbers
 pub child_numbers : (d : Division) (kinds : List ℕ)
     → has_lawful_numbers (child_steps d kinds) ≡ true
 child_numbers d kinds = ap has_lawful_numbers (sym (append-nil (child_steps d kinds)))

@@ -1,6 +1,5 @@
 -- The errors that the steps of a child are merged with.
-use Rattle.std.proofs.Common.{◌≡◌, ℕ, zero, suc, ◌+◌, ◌<◌, Bool, true, false, List, [], ◌∷◌, ◌++◌, length, take, append_assoc, refl, ap, sym, subst, ◌∙◌, arith}
-use Rattle.std.specs.Prelude.{Option, Some, None}
+use Rattle.std.proofs.Common.{◌≡◌, ℕ, ◌+◌, ◌<◌, Bool, true, false, List, [], ◌∷◌, ◌++◌, length, take, append_assoc, refl, ap, sym, ◌∙◌, arith}
 use Rattle.squawk_events.specs.Kinds.{is_trivia_kind}
 use Rattle.squawk_events.specs.declared.steps.ParseError.{ParseError}
 use Rattle.squawk_events.specs.declared.steps.Step.{Step}
@@ -22,7 +21,7 @@ use Rattle.squawk_tree.specs.ParseOf.{lexed_role, token_steps}
 use Rattle.squawk_tree.specs.Steps.{has_no_errors, only_tokens}
 use Rattle.squawk_tree.specs.Walk.{merged_errors}
 use Rattle.squawk_tree.proofs.ChildShapeLemmas.{node_is}
-use Rattle.squawk_tree.proofs.ChildSpanLemmas.{first_parts}
+use Rattle.squawk_tree.proofs.FirstChildLemmas.{first_parts}
 use Rattle.squawk_tree.proofs.CutLemmas.{trivia_role}
 use Rattle.squawk_tree.proofs.FirstPart.{more_of}
 use Rattle.squawk_tree.proofs.FitsLemmas.{inner_tokens}

@@ -29,7 +29,7 @@ use Rattle.squawk_tree.specs.Steps.{without_errors}
 use Rattle.squawk_tree.specs.Walk.{merged_errors, merged_from}
 use Rattle.squawk_tree.specs.declared.children.ChildSpan.{ChildSpan}
 use Rattle.squawk_tree.proofs.ChildErrorLemmas.{error_first}
-use Rattle.squawk_tree.proofs.ChildSpanLemmas.{span_of, SpanFirst, leaf_steps, span_first}
+use Rattle.squawk_tree.proofs.FirstChildLemmas.{leaf_steps}
 use Rattle.squawk_tree.proofs.ChildShapeLemmas.{shape_is}
 use Rattle.squawk_tree.proofs.JoinIsParse.{without_errors_append}
 use Rattle.squawk_tree.proofs.JoinLemmas.{placed_by, total_append}

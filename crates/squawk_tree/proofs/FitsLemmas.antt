@@ -1,5 +1,5 @@
 -- Steps that use up their tokens, and the weave of such steps before others.
-use Rattle.std.proofs.Common.{◌≡◌, ℕ, zero, suc, ◌+◌, ◌==◌, Bool, true, false, not, ◌&&◌, cond, List, [], ◌∷◌, ◌++◌, drop, append_assoc, refl, ap, sym, ◌∙◌, arith}
+use Rattle.std.proofs.Common.{◌≡◌, ℕ, ◌+◌, ◌==◌, Bool, true, false, not, ◌&&◌, cond, List, [], ◌∷◌, ◌++◌, drop, append_assoc, refl, ap, sym, ◌∙◌, arith}
 use Rattle.std.proofs.lemmas.Bool.{and_parts}
 use Rattle.squawk_events.specs.Kinds.{is_trivia_kind}
 use Rattle.squawk_events.specs.Lawful.{token_kinds}
@@ -15,7 +15,7 @@ use Rattle.squawk_statements.specs.declared.division.Division.{Division}
 use Rattle.squawk_tree.specs.ChildGrammar.{has_token, is_inside, IsChildSteps}
 use Rattle.squawk_tree.specs.PlainChildren.{plain_child}
 use Rattle.squawk_tree.proofs.CutLemmas.{is_trimmed, is_trimmed_any}
-use Rattle.squawk_tree.proofs.LeavesLemmas.{Next, kinds_after_trivia, next_of as next_token}
+use Rattle.squawk_tree.proofs.LeavesLemmas.{kinds_after_trivia, next_of as next_token}
 
 -- ---- steps that use up their tokens
 

@@ -1,30 +1,28 @@
 -- The woven steps of a text are those of its children, each built from its own tokens, shifted.
-use Rattle.std.proofs.Common.{◌≡◌, ℕ, zero, suc, ◌+◌, ◌==◌, ◌≤◌, Bool, true, false, not, ◌&&◌, cond, List, [], ◌∷◌, ◌++◌, length, take, drop, map, append_assoc, refl, ap, sym, ◌∙◌, arith}
+use Rattle.std.proofs.Common.{◌≡◌, ℕ, zero, suc, ◌+◌, ◌≤◌, Bool, true, false, cond, List, [], ◌∷◌, ◌++◌, length, take, drop, map, append_assoc, refl, ap, sym, ◌∙◌, arith}
 use Rattle.std.proofs.lemmas.List.{take-append-drop, length-drop, map-append}
 use Rattle.squawk_events.specs.Kinds.{is_trivia_kind}
 use Rattle.squawk_kinds.specs.Role.{role}
 use Rattle.squawk_statements.specs.Kinds.{role_trivia}
-use Rattle.squawk_kinds.specs.Role.{Role, Trivia, Semicolon, Terminator, Command, Open, Close, Other}
 use Rattle.squawk_events.specs.declared.steps.ParseError.{ParseError}
 use Rattle.squawk_events.specs.declared.steps.Step.{Step}
 use Rattle.squawk_events.specs.declared.steps.Step.TheVariants.{Enter, Token, Exit, Error}
 use Rattle.squawk_events.specs.declared.steps.StrStep.{StrStep}
 use Rattle.squawk_events.specs.declared.steps.StrStep.TheVariants as out
-use Rattle.squawk_kinds.specs.declared.numbers.TheConstants.Number.{SOURCE_FILE, ERROR}
+use Rattle.squawk_kinds.specs.declared.numbers.TheConstants.Number.{SOURCE_FILE}
 use Rattle.squawk_lexed.specs.Weave.{kinds_without_trivia, leading_trivia, leading_trivia_end, after_leading_trivia, next_len, weave_step, offset_after_step, tokens_after_step, is_empty, weave_from, weave}
 use Rattle.squawk_lexed.specs.LexedText.{total_len}
 use Rattle.squawk_lexed.specs.LexedToken.{LexedToken}
-use Rattle.squawk_statements.specs.Children.{ends_statement, parts}
+use Rattle.squawk_statements.specs.Children.{parts}
 use Rattle.squawk_tree.proofs.FirstPart.{more, more_of, first_part}
-use Rattle.squawk_statements.specs.Plain.{body_steps, exits, kind_steps, groups_open_after, enters_before, exits_after, unknown_statement_error, child_steps, children_steps, plain}
+use Rattle.squawk_statements.specs.Plain.{child_steps, children_by, plain}
 use Rattle.squawk_statements.specs.declared.division.Division.{Division}
-use Rattle.squawk_statements.specs.declared.division.Division.TheVariants.{Flat, Grouped}
 use Rattle.squawk_tree.specs.Errors.{errors}
 use Rattle.squawk_tree.specs.Join.{woven_child, shifted_step, shifted_error, child_of, children_len}
 use Rattle.squawk_tree.specs.ParseOf.{lexed_role}
 use Rattle.squawk_tree.specs.ChildSteps.{woven_children}
-use Rattle.squawk_tree.specs.ChildGrammar.{AreChildSteps, children_by, woven_by, woven_children_by}
-use Rattle.squawk_tree.specs.PlainChildren.{plain_child, plain_children}
+use Rattle.squawk_tree.specs.ChildGrammar.{AreChildSteps, woven_by, woven_children_by}
+use Rattle.squawk_tree.specs.PlainChildren.{plain_child}
 use Rattle.squawk_tree.proofs.CutLemmas.{trivia_role, first_cut}
 use Rattle.squawk_tree.proofs.FitsLemmas.{append_woven, fits, fits_steps}
 
@@ -184,12 +182,10 @@ placed_by c law (suc n) d at (t ∷ ts) h =
 
 -- in the parse into statements
 pub placed : (n : ℕ) (d : Division) (at : ℕ) (ts : List LexedToken) → length ts ≤ n
-    → weave_from at ts (children_steps d (parts role d (kinds_without_trivia ts)) ++ Exit ∷ [])
+    → weave_from at ts (children_by (child_steps d) (parts role d (kinds_without_trivia ts))
+    ++ Exit ∷ [])
     ≡ woven_children d at (parts lexed_role d ts) ++ out.Exit ∷ []
-placed n d at ts h =
-    ap (λ xs. weave_from at ts (xs ++ Exit ∷ []))
-    (plain_children d (parts role d (kinds_without_trivia ts)))
-    ∙ placed_by (child_steps d) (plain_child d) n d at ts h
+placed n d at ts h = placed_by (child_steps d) (plain_child d) n d at ts h
 
 -- ---- shifts
 

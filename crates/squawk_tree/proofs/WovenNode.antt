@@ -1,5 +1,5 @@
 -- The weave of a child by the steps of a grammar of children.
-use Rattle.std.proofs.Common.{◌≡◌, ℕ, zero, suc, ◌+◌, ◌==◌, ◌&&◌, Bool, true, false, cond, List, [], ◌∷◌, ◌++◌, append_assoc, refl, ap, sym, ◌∙◌}
+use Rattle.std.proofs.Common.{◌≡◌, ℕ, ◌+◌, ◌==◌, Bool, true, false, cond, List, [], ◌∷◌, ◌++◌, append_assoc, refl, ap, sym, ◌∙◌}
 use Rattle.std.proofs.lemmas.Bool.{and_parts}
 use Rattle.squawk_events.specs.Kinds.{is_trivia_kind}
 use Rattle.squawk_events.specs.Lawful.{closes, is_balanced, token_kinds}
@@ -9,7 +9,7 @@ use Rattle.squawk_events.specs.declared.steps.StrStep.{StrStep}
 use Rattle.squawk_events.specs.declared.steps.StrStep.TheVariants as out
 use Rattle.squawk_kinds.specs.declared.numbers.TheConstants.Number.{ERROR}
 use Rattle.squawk_lexed.specs.LexedToken.{LexedToken}
-use Rattle.squawk_lexed.specs.Weave.{kinds_without_trivia, leading_trivia, leading_trivia_end, after_leading_trivia, next_len, is_empty, offset_after_step, tokens_after_step, weave_from, weave_step}
+use Rattle.squawk_lexed.specs.Weave.{kinds_without_trivia, leading_trivia, leading_trivia_end, after_leading_trivia, next_len, weave_from}
 use Rattle.squawk_statements.specs.Plain.{node_of, unknown_statement_error}
 use Rattle.squawk_tree.specs.ChildGrammar.{AreChildSteps, IsChildSteps, has_token, is_inside, woven_by}
 use Rattle.squawk_tree.specs.ChildSteps.{unknown_error}

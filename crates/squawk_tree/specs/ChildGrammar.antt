@@ -14,17 +14,12 @@ use Rattle.squawk_lexed.specs.Stored.{kinds_of}
 use Rattle.squawk_lexed.specs.Weave.{kinds_without_trivia, weave, weave_from}
 use Rattle.squawk_statements.specs.Children.{parts}
 use Rattle.squawk_statements.specs.First.{first_shape}
-use Rattle.squawk_statements.specs.Plain.{node_of, unknown_statement_error}
+use Rattle.squawk_statements.specs.Plain.{children_by, node_of, unknown_statement_error}
 use Rattle.squawk_statements.specs.declared.division.Division.{Division}
 use Rattle.squawk_statements.specs.declared.first.ChildShape.{ChildShape}
 use Rattle.squawk_tree.specs.Steps.{without_errors}
 
 -- ---- kinds
-
--- the steps of the children that have these kinds, by those of each child
-abbrev pub children_by : (List ℕ → List Step) → List (List ℕ) → List Step
-children_by child [] = []
-children_by child (part ∷ rest) = child part ++ children_by child rest
 
 -- whether a token is among the steps
 abbrev pub has_token : List Step → Bool

@@ -1,17 +1,15 @@
 -- The plain grammar is a grammar of children. A law of the trait `ChildGrammar` may cite
 -- definitions alone, so the proof stands here.
-use Rattle.std.specs.Prelude.{◌≡◌, ℕ, zero, suc, ◌==◌, Bool, true, false, List, [], ◌∷◌, ◌++◌, refl, if◌then◌else◌}
-use Rattle.std.proofs.Common.{ap, sym, ◌∙◌, append_assoc}
+use Rattle.std.specs.Prelude.{◌≡◌, ℕ, zero, suc, List, [], ◌∷◌, ◌++◌, refl}
+use Rattle.std.proofs.Common.{ap, ◌∙◌, append_assoc}
 use Rattle.squawk_events.specs.declared.steps.Step.{Step}
-use Rattle.squawk_events.specs.declared.steps.Step.TheVariants.{Enter, Token, Exit, Error}
+use Rattle.squawk_events.specs.declared.steps.Step.TheVariants.{Enter, Token, Exit}
 use Rattle.squawk_kinds.specs.Role.{Role, role, Trivia, Semicolon, Terminator, Command, Open, Close, Other}
-use Rattle.squawk_kinds.specs.declared.numbers.TheConstants.Number.{SOURCE_FILE}
-use Rattle.squawk_statements.specs.Children.{parts}
-use Rattle.squawk_statements.specs.Plain.{plain, node_of, body_steps, exits, kind_steps, groups_open_after, unknown_statement_error, child_steps, children_steps}
+use Rattle.squawk_statements.specs.Plain.{plain, node_of, body_steps, exits, kind_steps, groups_open_after, unknown_statement_error, child_steps}
 use Rattle.squawk_statements.specs.PlainIsLawful.{steps_by, plain_lawful, child_balanced, child_tokens}
 use Rattle.squawk_statements.specs.declared.division.Division.{Division}
 use Rattle.squawk_statements.specs.declared.division.Division.TheVariants.{Flat, Grouped}
-use Rattle.squawk_tree.specs.ChildGrammar.{children_by, is_inside, IsChildSteps, IsGrammarOf}
+use Rattle.squawk_tree.specs.ChildGrammar.{is_inside, IsChildSteps, IsGrammarOf}
 
 -- ---- no step inside a child is an `Error`, and each node there has tokens
 
@@ -59,16 +57,9 @@ plain_child d kinds = record {
   inside = inside_body d 0 kinds (Exit ∷ []);
 }
 
--- the steps of children
-pub plain_children : (d : Division) (ps : List (List ℕ))
-    → children_steps d ps ≡ children_by (child_steps d) ps
-plain_children d [] = refl
-plain_children d (p ∷ ps) = ap (λ xs. child_steps d p ++ xs) (plain_children d ps)
-
 pub plain_grammar : (d : Division) → IsGrammarOf d (child_steps d) (plain d)
 plain_grammar d = record {
-  root = λ kinds. ap (λ xs. Enter SOURCE_FILE ∷ xs ++ Exit ∷ [])
-      (plain_children d (parts role d kinds));
+  root = λ kinds. refl;
   lawful = plain_lawful d;
   children = plain_child d;
 }

@@ -13,19 +13,29 @@ use squawk_kinds::SyntaxKind;
 use squawk_lexed::LexedStr;
 use squawk_statements::{ChildShape, Division};
 
-/// Emits the nodes under the root from the tokens of a text.
+/// Emits the node of each child of the root from the tokens of the child. `parse_children` makes
+/// the rest of a tree: it divides the tokens, and emits the root, its leaves and the errors.
 ///
-/// An implementation states, for contracts only, which steps it has for the kinds of a text and for
-/// those of each child of the root, and proves that they are a grammar. The root and its leaves are
-/// emitted by `parse_children`.
+/// In contracts, an implementation stands for two functions on kinds without trivia: `told` returns
+/// the steps of a text, and `child` those of one child of the root. It proves that `emit_node`
+/// emits the steps of `child`, woven with the trivia of the child, and that the two functions are a
+/// grammar (`lawful`):
+///
+/// - the steps of a text are a root over the steps of its children, and a lawful tree of its kinds;
+/// - the steps of a child are its node, with the error of an unknown statement and no other, and a
+///   tree of its kinds in which each inner node has a token.
 pub trait ChildGrammar {
-    /// The steps for the kinds of a text.
+    /// The steps of a text, by its kinds without trivia.
     ghost told: { Self → divisions.Division → List ℕ → List steps.Step };
 
-    /// The steps for the kinds of a child of the root.
+    /// The steps of a child of the root, by its kinds without trivia.
     ghost child: { Self → divisions.Division → List ℕ → List steps.Step };
 
-    /// Emits the child of this shape and with this node, whose first token is that at `from`.
+    /// Appends the steps of a child that is a node to `tree`, trivia included, but not its error.
+    ///
+    /// `from` is the index in `lexed` of the first token of the child. `shape` is what `division`
+    /// makes of the tokens from there on: the next `shape.tokens` of them, trivia included, are the
+    /// child. `node` is the kind in `shape.node`.
     ///
     /// Fails only if memory runs out; what `tree` then holds is unspecified.
     fn emit_node(
@@ -44,7 +54,7 @@ pub trait ChildGrammar {
         ensures built { OnOk result (IsBuilt tree.new) }
         ensures refusals { IfErr result IsOutOfMemory };
 
-    /// The proof that these steps are a grammar.
+    /// The proof that `told` and `child` are a grammar.
     ghost lawful: { (g : Self) (d : divisions.Division) → IsGrammarOf d (child g d) (told g d) };
 }
 

@@ -5,14 +5,15 @@ mod ranges;
 mod sink;
 
 use crate::{
-    ChildGrammar, ChildSpan, Division, Parse, PlainChildren, Strings, parse_children,
-    parse_divided, parse_source, parse_statements, parse_with,
+    ChildSpan, Division, Parse, PlainChildren, Strings, parse_children, parse_divided,
+    parse_source, parse_statements, parse_with,
 };
-use squawk_events::{FrontError, ParseError, StrStep};
+use squawk_events::{ParseError, StrStep};
 use squawk_kinds::SyntaxKind;
 use squawk_lexed::LexedStr;
 use squawk_statements::GroupedGrammar;
 use std::alloc::{AllocError, Global};
+use std::process::Abort;
 use std::test::Fail;
 
 // The tree and the errors of a parse, one step or error on a line: `+`, the kind and the range of a
@@ -104,12 +105,18 @@ const ROWS: &[Row<'static>] = &[
     },
 ];
 
+// Compares the lines of a parse with those of its row.
+fn check_lines(rt: &impl Abort, alloc: Global, parse: &Parse, row: &Row) -> Result<(), Fail> {
+    let lines = render(alloc, parse, row.text)?;
+    assert_eq!(rt; lines.as_str(), row.lines);
+    Ok(())
+}
+
 #[test]
 fn texts_have_trees(rt: HostRuntime) -> Result<(), Fail> {
     for row in ROWS {
         let parse = parse_source(rt.alloc(), row.text).ok().ok_or(row.name)?;
-        let lines = render(rt.alloc(), &parse, row.text)?;
-        assert_eq!(rt; lines.as_str(), row.lines);
+        check_lines(&rt, rt.alloc(), &parse, row)?;
     }
     Ok(())
 }
@@ -199,35 +206,29 @@ fn divisions(rt: HostRuntime) -> Result<(), Fail> {
     Ok(())
 }
 
-// The tree of a text by a grammar of children.
-fn tree_by<G: ChildGrammar>(alloc: Global, text: &str, grammar: &G) -> Result<Parse, FrontError> {
-    let lexed = LexedStr::new_in(alloc, text, Strings::Standard)?;
-    parse_children(alloc, lexed, Division::Flat, grammar)
+// The tokens of a row's text.
+fn cut(alloc: Global, row: &Row) -> Result<LexedStr<'static>, Fail> {
+    Ok(LexedStr::new_in(alloc, row.text, Strings::Standard)
+        .ok()
+        .ok_or(row.name)?)
 }
 
-#[test]
-fn grammar_of_children(rt: HostRuntime) -> Result<(), Fail> {
-    for row in ROWS {
-        let parse = tree_by(rt.alloc(), row.text, &PlainChildren)
-            .ok()
-            .ok_or(row.name)?;
-        let lines = render(rt.alloc(), &parse, row.text)?;
-        assert_eq!(rt; lines.as_str(), row.lines);
-    }
-    Ok(())
+// Compares with a row the trees of its tokens, by both functions that take tokens.
+fn check_tokens(rt: &impl Abort, alloc: Global, row: &Row) -> Result<(), Fail> {
+    let parse = parse_statements(alloc, cut(alloc, row)?, Division::Flat)
+        .ok()
+        .ok_or(row.name)?;
+    check_lines(rt, alloc, &parse, row)?;
+    let parse = parse_children(alloc, cut(alloc, row)?, Division::Flat, &PlainChildren)
+        .ok()
+        .ok_or(row.name)?;
+    check_lines(rt, alloc, &parse, row)
 }
 
 #[test]
 fn tokens_have_trees(rt: HostRuntime) -> Result<(), Fail> {
     for row in ROWS {
-        let lexed = LexedStr::new_in(rt.alloc(), row.text, Strings::Standard)
-            .ok()
-            .ok_or(row.name)?;
-        let parse = parse_statements(rt.alloc(), lexed, Division::Flat)
-            .ok()
-            .ok_or(row.name)?;
-        let lines = render(rt.alloc(), &parse, row.text)?;
-        assert_eq!(rt; lines.as_str(), row.lines);
+        check_tokens(&rt, rt.alloc(), row)?;
     }
     Ok(())
 }

@@ -1,13 +1,13 @@
 use Rattle.std.proofs.Common.{◌≡◌, ◌+◌, ◌-◌, take, drop, sym, ap, ◌∙◌, arith}
 use Rattle.std.proofs.lemmas.Str.{IsCharBoundary-start, IsUtf8-string_bytes}
-use Rattle.squawk_squeeze.specs.Squeezed.{tokens_after}
+use Rattle.squawk_squeeze.specs.Squeezed.{text_tokens_at}
 use Rattle.squawk_squeeze.proofs.SqueezeLaws.{lexer_laws}
 use Rattle.squawk_squeeze.proofs.SqueezeBytes.{step, no_tokens, pushed, output_is, result_keeps_tokens, result_is_unchanged, result_is_no_longer}
 use Rattle.squawk_squeeze.proofs.text.squeeze.Goals as goal
 
 pub loop-at-init : goal.loop-at-init
 loop-at-init c = record {
-  text = no_tokens c.with_room-squeezer.result (tokens_after c.args.strings c.args.text.now 0)
+  text = no_tokens c.with_room-squeezer.result (text_tokens_at c.args.strings c.args.text.now 0)
       c.with_room-squeezer.ensures.out c.with_room-squeezer.ensures.run;
   boundary = IsCharBoundary-start c.args.text.now c.utf8.text;
   within = omega arith;
@@ -23,7 +23,8 @@ loop-at-preserved c =
     ∙ ap (λ n. take n (drop at text)) (let e : at + t.len - at ≡ t.len = omega arith in e) in
     record {
       text = pushed c.is_trivia.result part c.loop-at.squeezer c.push.new.self t.kind
-          (tokens_after c.args.strings text at) (tokens_after c.args.strings text (at + t.len)) _
+          (text_tokens_at c.args.strings text at)
+          (text_tokens_at c.args.strings text (at + t.len)) _
           c.in_ok-push.ensures (sym c.is_trivia.ensures)
           (step c.tokens_progress.ensures.some c.args.strings text at t part c.utf8.text
           c.loop-at.invariant.boundary c.loop-at-test.true c.cut_at_in-token.ensures.ends_between

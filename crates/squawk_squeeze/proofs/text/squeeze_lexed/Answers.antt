@@ -1,7 +1,7 @@
 use Rattle.std.proofs.Common.{◌+◌, ◌<◌, length, sym, subst, ◌∙◌, arith, IsUtf8}
 use Rattle.std.proofs.lemmas.Str.{IsUtf8-string_bytes}
 use Rattle.squawk_lexed.specs.LexedText.{token_start}
-use Rattle.squawk_squeeze.specs.Squeezed.{tokens_after}
+use Rattle.squawk_squeeze.specs.Squeezed.{text_tokens_at}
 use Rattle.squawk_squeeze.proofs.LexedSteps.{lexed_step, kind_within, ends_text, utf8_text}
 use Rattle.squawk_squeeze.proofs.SqueezeLaws.{lexer_laws}
 use Rattle.squawk_squeeze.proofs.SqueezeBytes.{no_tokens, pushed, output_is, result_keeps_tokens, result_is_unchanged, result_is_no_longer}
@@ -9,7 +9,7 @@ use Rattle.squawk_squeeze.proofs.text.squeeze_lexed.Goals as goal
 
 pub loop-i-init : goal.loop-i-init
 loop-i-init c = λ strings text is.
-    no_tokens c.with_room-squeezer.result (tokens_after strings text 0)
+    no_tokens c.with_room-squeezer.result (text_tokens_at strings text 0)
     c.with_room-squeezer.ensures.out c.with_room-squeezer.ensures.run
 
 pub loop-i-preserved : goal.loop-i-preserved
@@ -30,8 +30,8 @@ loop-i-preserved c = λ strings text is.
       part_utf8 = c.text.utf8;
     }) in
     pushed c.is_trivia.result c.text.result.now c.loop-i.squeezer c.push.new.self s.kind
-    (tokens_after strings text (token_start l.tokens i))
-    (tokens_after strings text (token_start l.tokens (i + 1))) _
+    (text_tokens_at strings text (token_start l.tokens i))
+    (text_tokens_at strings text (token_start l.tokens (i + 1))) _
     c.in_ok-push.ensures (s.is ∙ sym c.is_trivia.ensures.role) s.tokens
     (c.loop-i.invariant strings text is)
 

@@ -2,13 +2,14 @@ use Rattle.std.proofs.Common.{◌≡◌, ◌≤◌, ◌-◌, ◌++◌, drop, len
 use Rattle.squawk_events.specs.Depth.{depth_of}
 use Rattle.squawk_kinds.specs.Role.{role}
 use Rattle.squawk_statements.specs.Children.{parts}
-use Rattle.squawk_statements.specs.Plain.{children_steps}
+use Rattle.squawk_statements.specs.Plain.{child_steps, children_by}
 use Rattle.squawk_statements.proofs.plain.emit_plain.Given as goal
 
 abbrev pub invariant-loop-at : goal.invariant-loop-at
 invariant-loop-at l = record {
-  steps : l.output ++ children_steps l.division (parts role l.division (drop l.at l.kinds))
-      ≡ l.initial.output ++ children_steps l.division (parts role l.division l.kinds);
+  steps : l.output ++ children_by (child_steps l.division)
+      (parts role l.division (drop l.at l.kinds))
+      ≡ l.initial.output ++ children_by (child_steps l.division) (parts role l.division l.kinds);
   depth : depth_of l.output ≡ depth_of l.initial.output;
   within : l.at ≤ length l.kinds;
 }

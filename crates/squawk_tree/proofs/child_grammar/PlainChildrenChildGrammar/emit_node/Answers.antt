@@ -1,4 +1,3 @@
-use Rattle.std.proofs.Common.{arith}
 use Rattle.squawk_tree.proofs.ChildLoopLemmas.{plain_emitted}
 use Rattle.squawk_tree.proofs.child_grammar.PlainChildrenChildGrammar.emit_node.Goals as goal
 
