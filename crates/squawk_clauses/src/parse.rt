@@ -187,13 +187,15 @@ impl ChildGrammar for ClauseChildren {
 
 /// Parses the tokens of a text into statements and clauses, as `parse_with_in` parses the text with
 /// `ClauseGrammar`. The only error is `OutOfMemory`.
+///
+/// Takes the tokens, as `parse_children` does.
 pub fn parse_clauses(
     alloc: Global,
-    lexed: &LexedStr<'_>,
+    lexed: LexedStr<'_>,
     division: Division,
 ) -> Result<Parse, FrontError>
-    ensures parse { ParsesTokens (clauses division) lexed.now result }
-    ensures sound { IsTrue (are_sound lexed.now.tokens) }
+    ensures parse { ParsesTokens (clauses division) lexed.entry result }
+    ensures sound { IsTrue (are_sound lexed.entry.tokens) }
     ensures refusals { IfErr result IsOutOfMemory }
 {
     parse_children(alloc, lexed, division, &ClauseChildren)

@@ -324,7 +324,7 @@ fn lines_of(alloc: Global, text: &str, division: Division) -> Result<String, Fro
 // The lines of the tree of the tokens of a text by this division.
 fn lines_of_tokens(alloc: Global, text: &str, division: Division) -> Result<String, FrontError> {
     let lexed = LexedStr::new_in(alloc, text, Strings::Standard)?;
-    let parse = parse_clauses(alloc, &lexed, division)?;
+    let parse = parse_clauses(alloc, lexed, division)?;
     Ok(render(alloc, &parse, text)?)
 }
 

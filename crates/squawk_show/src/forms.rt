@@ -13,6 +13,7 @@ ghost use Rattle.squawk_tree.specs.Tree.{IsTree};
 use crate::program::Prepared;
 use crate::{Command, Form, Reading, ReportMemory, RunError, Source, read_all};
 use itoa::Buffer;
+use simdutf8::compat::from_utf8;
 use squawk_clauses::laws::clause_parses_are_plain;
 use squawk_clauses::parse_clauses;
 use squawk_events::{FrontError, LIMIT};
@@ -24,11 +25,11 @@ use squawk_tree::laws::parses_have_the_tokens;
 use squawk_tree::{Parse, parse_statements};
 use std::alloc::{AllocError, Global};
 
-// Makes the tree of a text with these tokens.
-fn parse_plain(alloc: Global, lexed: &LexedStr<'_>, reading: Reading) -> Result<Parse, FrontError>
-    requires lexed { lexed.now ≡ lexed_text reading.strings lexed.now.text }
-    requires within { length lexed.now.text ≤ limit }
-    ensures parsed { IfOk result (spec.IsParsed reading lexed.now.text) }
+// Makes the tree of a text with these tokens, which are freed on the way.
+fn parse_plain(alloc: Global, lexed: LexedStr<'_>, reading: Reading) -> Result<Parse, FrontError>
+    requires lexed { lexed ≡ lexed_text reading.strings lexed.text }
+    requires within { length lexed.text ≤ limit }
+    ensures parsed { IfOk result (spec.IsParsed reading lexed.entry.text) }
     ensures balanced { IfOk result IsTree }
     ensures refusals { IfErr result IsOutOfMemory }
 {
@@ -41,12 +42,12 @@ fn parse_plain(alloc: Global, lexed: &LexedStr<'_>, reading: Reading) -> Result<
 // Makes the tree of a text with these tokens, with the clauses of its `SELECT` statements.
 fn parse_with_clauses(
     alloc: Global,
-    lexed: &LexedStr<'_>,
+    lexed: LexedStr<'_>,
     reading: Reading,
 ) -> Result<Parse, FrontError>
-    requires lexed { lexed.now ≡ lexed_text reading.strings lexed.now.text }
-    requires within { length lexed.now.text ≤ limit }
-    ensures parsed { IfOk result (spec.IsParsedBy clause_tree_of reading lexed.now.text) }
+    requires lexed { lexed ≡ lexed_text reading.strings lexed.text }
+    requires within { length lexed.text ≤ limit }
+    ensures parsed { IfOk result (spec.IsParsedBy clause_tree_of reading lexed.entry.text) }
     ensures balanced { IfOk result IsTree }
     ensures refusals { IfErr result IsOutOfMemory }
 {
@@ -60,13 +61,13 @@ fn parse_with_clauses(
 // Makes the tree that goes with a form of a text with these tokens.
 fn parse_form(
     alloc: Global,
-    lexed: &LexedStr<'_>,
+    lexed: LexedStr<'_>,
     reading: Reading,
     form: Form,
 ) -> Result<Parse, FrontError>
-    requires lexed { lexed.now ≡ lexed_text reading.strings lexed.now.text }
-    requires within { length lexed.now.text ≤ limit }
-    ensures parsed { IfOk result (spec.IsParsedBy (form_tree form) reading lexed.now.text) }
+    requires lexed { lexed ≡ lexed_text reading.strings lexed.text }
+    requires within { length lexed.text ≤ limit }
+    ensures parsed { IfOk result (spec.IsParsedBy (form_tree form) reading lexed.entry.text) }
     ensures balanced { IfOk result IsTree }
     ensures refusals { IfErr result IsOutOfMemory }
 {
@@ -171,16 +172,24 @@ fn make_form(alloc: Global, text: &str, reading: Reading, form: Form) -> Result<
     ensures refusals { IfErr result (spec.IsFormRefusal form text.now) }
 {
     let lexed = LexedStr::new_in(alloc, text, reading.strings)?;
-    let parse = parse_form(alloc, &lexed, reading, form)?;
+    // The parse takes the tokens, so what else needs them comes first.
     match form {
-        Form::Report | Form::Clauses => Ok(with_report(alloc, parse, Vec::new(alloc))?),
-        Form::Pieces => Ok(with_text(parse, list_pieces(alloc, &lexed, reading)?)),
+        Form::Report | Form::Clauses => {
+            let parse = parse_form(alloc, lexed, reading, form)?;
+            Ok(with_report(alloc, parse, Vec::new(alloc))?)
+        }
+        Form::Pieces => {
+            let lines = list_pieces(alloc, &lexed, reading)?;
+            Ok(with_text(parse_form(alloc, lexed, reading, form)?, lines))
+        }
         Form::Quotes => {
-            // The three texts are longer than the tokens, which they do not need.
-            drop(lexed);
+            let parse = parse_form(alloc, lexed, reading, form)?;
             Ok(with_text(parse, quote(alloc, text)?))
         }
-        Form::Squeezed => Ok(with_text(parse, squeeze_lexed(alloc, &lexed)?)),
+        Form::Squeezed => {
+            let squeezed = squeeze_lexed(alloc, &lexed)?;
+            Ok(with_text(parse_form(alloc, lexed, reading, form)?, squeezed))
+        }
     }
 }
 
@@ -195,7 +204,7 @@ fn form_bytes(
     ensures formed { IfOk result (spec.IsFormed reading form bytes.now) }
     ensures refusals { IfErr result (spec.IsFormRefusal form bytes.now) }
 {
-    match std::str::from_utf8(bytes) {
+    match from_utf8(bytes) {
         Ok(text) => make_form(alloc, text, reading, form),
         Err(error) => Err(RunError::NotUtf8 {
             at: error.valid_up_to(),

@@ -12,6 +12,7 @@ ghost use Rattle.squawk_tree.specs.Tree.{IsTree};
 use crate::forms::with_report;
 use crate::program::Prepared;
 use crate::{Command, Reading, RunError, Source, read_all};
+use simdutf8::compat::from_utf8;
 use squawk_cut::PlainFront;
 use squawk_cut::laws::plain_fronts_parse;
 use squawk_document::Document;
@@ -63,7 +64,7 @@ fn replay_bytes(alloc: Global, reading: Reading, bytes: &[u8]) -> Result<(Parse,
     ensures replayed { IfOk result (λ r. spec.IsReplayed reading bytes.now r.0 r.1.items) }
     ensures refusals { IfErr result (spec.IsReplayRefusal bytes.now) }
 {
-    match std::str::from_utf8(bytes) {
+    match from_utf8(bytes) {
         Ok(text) => match Script::new(text) {
             Ok(script) => replay_script(alloc, reading, &script),
             Err(error) => Err(RunError::BadScript { at: error.at }),

@@ -22,7 +22,7 @@ pub mod ChildTokenLemmas
 pub mod ChildBodyLemmas
 pub mod ChildShapeLemmas
 pub mod WovenNode
-pub mod ChildSpanLemmas
+pub mod FirstChildLemmas
 pub mod ChildErrorLemmas
 pub mod ChildLoopLemmas
 pub mod ChildTrees

@@ -208,9 +208,11 @@ fn divisions(rt: HostRuntime) -> Result<(), Fail> {
 
 // The tokens of a row's text.
 fn cut(alloc: Global, row: &Row) -> Result<LexedStr<'static>, Fail> {
-    Ok(LexedStr::new_in(alloc, row.text, Strings::Standard)
-        .ok()
-        .ok_or(row.name)?)
+    Ok(
+        LexedStr::new_in(alloc, row.text, Strings::Standard)
+            .ok()
+            .ok_or(row.name)?,
+    )
 }
 
 // Compares with a row the trees of its tokens, by both functions that take tokens.

@@ -7,7 +7,7 @@ use Rattle.squawk_show.proofs.forms.parse_form.Goals as goal
 pub returns-in-Report : goal.returns-in-Report
 returns-in-Report c = record {
   parsed = subst (λ parse. IfOk c.parse_plain.result
-      (IsParsedBy parse c.args.reading c.args.lexed.now.text)) (plain_form c.args.form c.in-Report.is)
+      (IsParsedBy parse c.args.reading c.args.lexed.text)) (plain_form c.args.form c.in-Report.is)
       c.parse_plain.ensures.parsed;
   balanced = c.parse_plain.ensures.balanced;
   refusals = c.parse_plain.ensures.refusals;

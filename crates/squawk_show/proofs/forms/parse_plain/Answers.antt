@@ -8,7 +8,7 @@ use Rattle.squawk_show.proofs.forms.parse_plain.Goals as goal
 
 pub returns-clause-parsed : goal.returns-clause-parsed
 returns-clause-parsed c =
-    let text = c.args.lexed.now.text in
+    let text = c.args.lexed.text in
     let reading = c.args.reading in
     let utf8 = subst IsUtf8 c.as_str-text.ensures c.as_str-text.utf8 in
     if_ok _ (IsParsed reading text) (λ parse is.
