@@ -8,22 +8,24 @@ mod hostile;
 mod lines;
 mod readings;
 mod replay;
+mod runs;
 mod streams;
 
-use crate::{MemorySink, MemorySource, ReadSource, RunError, read_all, run};
+use crate::tests::runs::{
+    End, Refusal, Row, Run, Streams, WIDE_STREAMS, check_refusals, check_rows, check_run,
+};
+use crate::{MemorySource, ReadSource, RunError, read_all};
 use squawk_events::FrontError;
-use std::alloc::Global;
-use std::process::Abort;
 use std::test::Fail;
 
-const SELECT_ONE: &[u8] = b"0 N source file 0..9\n\
+const SELECT_ONE: &str = "0 N source file 0..9\n\
     1 N select 0..9\n\
     2 T `select` 0..6\n\
     2 T whitespace 6..7\n\
     2 T integer literal 7..8\n\
     2 T `;` 8..9\n";
 
-const LONE_COMMAND: &[u8] = b"0 N source file 0..7\n\
+const LONE_COMMAND: &str = "0 N source file 0..7\n\
     1 T whitespace 0..1\n\
     1 N empty stmt 1..2\n\
     2 T `;` 1..2\n\
@@ -32,7 +34,7 @@ const LONE_COMMAND: &[u8] = b"0 N source file 0..7\n\
     2 T psql meta-command 3..6\n\
     1 T whitespace 6..7\n";
 
-const COMMANDS: &[u8] = b"0 N source file 0..25\n\
+const COMMANDS: &str = "0 N source file 0..25\n\
     1 N select 0..25\n\
     2 T `select` 0..6\n\
     2 T whitespace 6..7\n\
@@ -41,7 +43,7 @@ const COMMANDS: &[u8] = b"0 N source file 0..25\n\
     2 T psql meta-command 9..17\n\
     2 T psql terminator 17..25\n";
 
-const SEMICOLON_IN_GROUP: &[u8] = b"0 N source file 0..8\n\
+const SEMICOLON_IN_GROUP: &str = "0 N source file 0..8\n\
     1 N error 0..7\n\
     2 T identifier 0..3\n\
     2 T whitespace 3..4\n\
@@ -54,94 +56,84 @@ const SEMICOLON_IN_GROUP: &[u8] = b"0 N source file 0..8\n\
     E 0..3 unknown statement\n\
     E 7..8 unknown statement\n";
 
-const MARK_AND_SEMICOLON: &[u8] = b"0 N source file 0..4\n\
+const MARK_AND_SEMICOLON: &str = "0 N source file 0..4\n\
     1 T whitespace 0..3\n\
     1 N empty stmt 3..4\n\
     2 T `;` 3..4\n";
 
-const COMMENT_HALF: &[u8] = b"0 N source file 0..3\n\
+const COMMENT_HALF: &str = "0 N source file 0..3\n\
     1 T comment 0..3\n\
     E 0..3 unterminated block comment\n";
 
-// A run: the bytes of the source; the most bytes that a read and a write move; and the expected
-// status, output and line on `err`.
-#[derive(Clone, Copy)]
-struct Row<'a> {
-    name: &'a str,
-    input: &'a [u8],
-    read: usize,
-    write: usize,
-    status: u8,
-    out: &'a [u8],
-    err: &'a [u8],
-}
+const ROWS: &[Row<'static>] = &[
+    Row {
+        name: "empty_text",
+        input: "",
+        out: "0 N source file 0..0\n",
+    },
+    Row {
+        name: "select_one",
+        input: "select 1;",
+        out: SELECT_ONE,
+    },
+    Row {
+        name: "lone_command",
+        input: " ;\n\\dt\n",
+        out: LONE_COMMAND,
+    },
+    Row {
+        name: "commands_in_statement",
+        input: "select 1 \\echo x \\gset x_",
+        out: COMMANDS,
+    },
+    Row {
+        name: "semicolon_in_group",
+        input: "foo (a;b",
+        out: SEMICOLON_IN_GROUP,
+    },
+    Row {
+        name: "mark_and_semicolon",
+        input: "\u{feff};",
+        out: MARK_AND_SEMICOLON,
+    },
+    Row {
+        name: "comment_half",
+        input: "/*/",
+        out: COMMENT_HALF,
+    },
+];
 
-impl<'a> Row<'a> {
-    // A run that reads and writes all at once.
-    fn new(name: &'a str, input: &'a [u8], status: u8, out: &'a [u8], err: &'a [u8]) -> Row<'a> {
-        Row {
-            name,
-            input,
-            read: 1000,
-            write: 1000,
-            status,
-            out,
-            err,
-        }
-    }
-}
-
-// Runs the program without words as a row says.
-fn check_row(rt: &impl Abort, alloc: Global, row: &Row<'_>) -> Result<(), Fail> {
-    assert!(rt; row.read > 0 && row.write > 0);
-    let mut source = MemorySource::new(alloc, row.input, row.read, &[])?;
-    let mut out = MemorySink::new(alloc, 1000, row.write, &[])?;
-    let mut err = MemorySink::new(alloc, 1000, 1000, &[])?;
-    let result = run(alloc, &[], &mut source, &mut out, &mut err);
-    assert_eq!(rt; result.status, row.status, "{}", row.name);
-    assert_eq!(rt; out.taken(), row.out, "{}", row.name);
-    assert_eq!(rt; err.taken(), row.err, "{}", row.name);
-    Ok(())
-}
+const REFUSED: &[Refusal<'static>] = &[Refusal {
+    name: "not_utf8",
+    input: b"\x73\xff",
+    status: 4,
+    line: "not UTF-8 at 1\n",
+}];
 
 #[test]
 fn runs_without_words(rt: HostRuntime) -> Result<(), Fail> {
-    let rows = [
-        Row::new("empty_text", b"", 0, b"0 N source file 0..0\n", b""),
-        Row::new("select_one", b"select 1;", 0, SELECT_ONE, b""),
-        Row::new("lone_command", b" ;\n\\dt\n", 0, LONE_COMMAND, b""),
-        Row::new(
-            "commands_in_statement",
-            b"select 1 \\echo x \\gset x_",
-            0,
-            COMMANDS,
-            b"",
-        ),
-        Row::new(
-            "semicolon_in_group",
-            b"foo (a;b",
-            0,
-            SEMICOLON_IN_GROUP,
-            b"",
-        ),
-        Row::new(
-            "mark_and_semicolon",
-            b"\xef\xbb\xbf;",
-            0,
-            MARK_AND_SEMICOLON,
-            b"",
-        ),
-        Row::new("comment_half", b"/*/", 0, COMMENT_HALF, b""),
-        Row::new("not_utf8", b"\x73\xff", 4, b"", b"not UTF-8 at 1\n"),
-        Row {
-            read: 1,
-            write: 1,
-            ..Row::new("a_byte_at_a_time", b"select 1;", 0, SELECT_ONE, b"")
-        },
-    ];
-    for row in &rows {
-        check_row(&rt, rt.alloc(), row)?;
-    }
+    check_rows(&rt, rt.alloc(), &[], ROWS)?;
+    check_refusals(&rt, rt.alloc(), &[], &WIDE_STREAMS, REFUSED)
+}
+
+#[test]
+fn reads_and_writes_a_byte_at_a_time(rt: HostRuntime) -> Result<(), Fail> {
+    let run = Run {
+        name: "a_byte_at_a_time",
+        words: &[],
+        input: b"select 1;",
+    };
+    let streams = Streams {
+        read: 1,
+        write: 1,
+        ..WIDE_STREAMS
+    };
+    let end = End {
+        status: 0,
+        out: SELECT_ONE.as_bytes(),
+        err: b"",
+    };
+    check_run(&rt, rt.alloc(), &run, &streams, &end)?;
     Ok(())
 }
 

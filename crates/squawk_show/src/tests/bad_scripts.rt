@@ -1,34 +1,23 @@
 //! Scripts that go bad in the middle: at the second record, after a cut, and far from the start.
-use crate::tests::commands::command_line;
-use crate::{MemorySink, MemorySource, run};
+use crate::tests::runs::{End, Run, WIDE_STREAMS, check_run};
 use std::alloc::{AllocError, Global};
 use std::process::Abort;
 use std::test::Fail;
 
-// The end of a run: its status, and what it writes to `out` and to `err`.
-#[derive(Clone, Copy)]
-struct End<'a> {
-    status: u8,
-    out: &'a str,
-    err: &'a str,
-}
-
 // Runs `replay` on a script, and checks how it ends.
-fn check_replay(
+fn check_replay<'a>(
     rt: &impl Abort,
     alloc: Global,
-    name: &str,
-    script: &[u8],
+    name: &'a str,
+    script: &'a str,
     end: &End<'_>,
 ) -> Result<(), Fail> {
-    let words = command_line(alloc, &["replay"])?;
-    let mut source = MemorySource::new(alloc, script, 1000, &[])?;
-    let mut out = MemorySink::new(alloc, 10_000, 1000, &[])?;
-    let mut err = MemorySink::new(alloc, 1000, 1000, &[])?;
-    let result = run(alloc, &words, &mut source, &mut out, &mut err);
-    assert_eq!(rt; result.status, end.status, "{name}");
-    assert_eq!(rt; out.taken(), end.out.as_bytes(), "{name}");
-    assert_eq!(rt; err.taken(), end.err.as_bytes(), "{name}");
+    let run = Run {
+        name,
+        words: &["replay"],
+        input: script.as_bytes(),
+    };
+    check_run(rt, alloc, &run, &WIDE_STREAMS, end)?;
     Ok(())
 }
 
@@ -41,14 +30,14 @@ struct Row<'a> {
 
 const BAD_RANGE: End<'static> = End {
     status: 9,
-    out: "",
-    err: "bad range\n",
+    out: b"",
+    err: b"bad range\n",
 };
 
 const BAD_SECOND: End<'static> = End {
     status: 8,
-    out: "",
-    err: "bad script at 9\n",
+    out: b"",
+    err: b"bad script at 9\n",
 };
 
 const ROWS: &[Row<'static>] = &[
@@ -67,10 +56,10 @@ const ROWS: &[Row<'static>] = &[
         record: "@0 1 0\n\n",
         end: End {
             status: 0,
-            out: "edit 1: tokens 0+1+0 children 0+1+0\n\
+            out: b"edit 1: tokens 0+1+0 children 0+1+0\n\
                 edit 2: tokens 0+0+0 children 0+0+0\n\
                 0 N source file 0..0\n",
-            err: "",
+            err: b"",
         },
     },
     Row {
@@ -126,7 +115,7 @@ fn second_records_go_bad(rt: HostRuntime) -> Result<(), Fail> {
     for row in ROWS {
         let record = row.record;
         let script = format!(in alloc; "@0 0 1\n;\n{record}")?;
-        check_replay(&rt, alloc, row.name, script.as_str().as_bytes(), &row.end)?;
+        check_replay(&rt, alloc, row.name, script.as_str(), &row.end)?;
     }
     Ok(())
 }
@@ -134,13 +123,13 @@ fn second_records_go_bad(rt: HostRuntime) -> Result<(), Fail> {
 // A record of a script, and the output of the script up to and with it.
 struct Step<'a> {
     record: &'a str,
-    out: &'a str,
+    out: &'a [u8],
 }
 
 const STEPS: &[Step<'static>] = &[
     Step {
         record: "@0 0 4\na;'@\n",
-        out: "edit 1: tokens 0+3+0 children 0+2+0\n\
+        out: b"edit 1: tokens 0+3+0 children 0+2+0\n\
             0 N source file 0..4\n\
             1 N error 0..2\n\
             2 T identifier 0..1\n\
@@ -153,7 +142,7 @@ const STEPS: &[Step<'static>] = &[
     },
     Step {
         record: "@1 3 1\n(\n",
-        out: "edit 1: tokens 0+3+0 children 0+2+0\n\
+        out: b"edit 1: tokens 0+3+0 children 0+2+0\n\
             edit 2: tokens 0+3+0 children 0+1+0\n\
             0 N source file 0..3\n\
             1 N error 0..3\n\
@@ -165,7 +154,7 @@ const STEPS: &[Step<'static>] = &[
     },
     Step {
         record: "@0 3 2\n\n;\n",
-        out: "edit 1: tokens 0+3+0 children 0+2+0\n\
+        out: b"edit 1: tokens 0+3+0 children 0+2+0\n\
             edit 2: tokens 0+3+0 children 0+1+0\n\
             edit 3: tokens 0+2+0 children 0+2+0\n\
             0 N source file 0..2\n\
@@ -185,10 +174,10 @@ fn check_cuts(rt: &impl Abort, alloc: Global, before: &str, record: &str) -> Res
         let script = format!(in alloc; "{before}{part}")?;
         let end = End {
             status: 8,
-            out: "",
-            err: line.as_str(),
+            out: b"",
+            err: line.as_bytes(),
         };
-        check_replay(rt, alloc, part, script.as_str().as_bytes(), &end)?;
+        check_replay(rt, alloc, part, script.as_str(), &end)?;
     }
     Ok(())
 }
@@ -203,9 +192,9 @@ fn cut_scripts_are_bad_at_the_cut_record(rt: HostRuntime) -> Result<(), Fail> {
         let end = End {
             status: 0,
             out: step.out,
-            err: "",
+            err: b"",
         };
-        check_replay(&rt, alloc, step.record, script.as_str().as_bytes(), &end)?;
+        check_replay(&rt, alloc, step.record, script.as_str(), &end)?;
     }
     Ok(())
 }
@@ -227,13 +216,13 @@ fn last_of_many_records_goes_bad(rt: HostRuntime) -> Result<(), Fail> {
     let alloc = rt.alloc();
     let script = long_script(alloc, "@1001 1001 0\n\n")?;
     let name = "range after the end";
-    check_replay(&rt, alloc, name, script.as_str().as_bytes(), &BAD_RANGE)?;
+    check_replay(&rt, alloc, name, script.as_str(), &BAD_RANGE)?;
     let script = long_script(alloc, "@0 1000 0\nx\n")?;
     let name = "text without length";
     let bad_last = End {
         status: 8,
-        out: "",
-        err: "bad script at 9000\n",
+        out: b"",
+        err: b"bad script at 9000\n",
     };
-    check_replay(&rt, alloc, name, script.as_str().as_bytes(), &bad_last)
+    check_replay(&rt, alloc, name, script.as_str(), &bad_last)
 }

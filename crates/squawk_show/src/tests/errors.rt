@@ -1,6 +1,9 @@
 //! The lines of errors: those of a text in the report, and those of a run.
-use crate::{MemorySink, MemorySource, RunError, run};
+use crate::RunError;
+use crate::tests::runs::{Run, WIDE_STREAMS, run_over};
 use squawk_events::FrontError;
+use std::alloc::Global;
+use std::process::Abort;
 use std::test::Fail;
 
 // A text, and the lines of its errors.
@@ -146,16 +149,23 @@ fn error_lines(report: &str) -> &str {
     }
 }
 
+// Checks the lines of errors in the report of a text.
+fn check_row(rt: &impl Abort, alloc: Global, row: &Row<'_>) -> Result<(), Fail> {
+    let run = Run {
+        name: row.name,
+        words: &[],
+        input: row.text.as_bytes(),
+    };
+    let ended = run_over(rt, alloc, &run, &WIDE_STREAMS)?;
+    let report = ended.report().ok_or(row.name)?;
+    assert_eq!(rt; error_lines(report), row.lines, "{}", row.name);
+    Ok(())
+}
+
 #[test]
 fn texts_have_errors(rt: HostRuntime) -> Result<(), Fail> {
     for row in ROWS {
-        let mut source = MemorySource::new(rt.alloc(), row.text.as_bytes(), 1000, &[])?;
-        let mut out = MemorySink::new(rt.alloc(), 10000, 1000, &[])?;
-        let mut err = MemorySink::new(rt.alloc(), 1000, 1000, &[])?;
-        let result = run(rt.alloc(), &[], &mut source, &mut out, &mut err);
-        assert_eq!(rt; result.status, 0, "{}", row.name);
-        let report = std::str::from_utf8(out.taken()).ok().ok_or(row.name)?;
-        assert_eq!(rt; error_lines(report), row.lines, "{}", row.name);
+        check_row(&rt, rt.alloc(), row)?;
     }
     Ok(())
 }

@@ -1,174 +1,168 @@
 //! Runs over sources and sinks that fail: at each call, one byte at a time, and with little room.
 use crate::tests::SELECT_ONE;
-use crate::tests::commands::command_line;
 use crate::tests::hostile::push_times;
-use crate::{MemorySink, MemorySource, run};
+use crate::tests::runs::{End, Run, Streams, WIDE_STREAMS, check_run, run_over};
 use std::alloc::Global;
 use std::process::Abort;
 use std::test::Fail;
 
-const READ_LINE: &[u8] = b"cannot read the input\n";
+const READ_LINE: &str = "cannot read the input\n";
 
-const WRITE_LINE: &[u8] = b"cannot write the output\n";
+const WRITE_LINE: &str = "cannot write the output\n";
 
-const BAD_WORDS_LINE: &[u8] = b"bad words\n";
+const BAD_WORDS_LINE: &str = "bad words\n";
 
-const NOT_UTF8_LINE: &[u8] = b"not UTF-8 at 0\n";
+const NOT_UTF8_LINE: &str = "not UTF-8 at 0\n";
+
+// Streams that move one byte at a time and do not fail.
+const NARROW_STREAMS: Streams<'static> = Streams {
+    read: 1,
+    failing_reads: &[],
+    write: 1,
+    failing_writes: &[],
+    room: 1000,
+    error_write: 1,
+    failing_error_writes: &[],
+};
 
 // A command, its input and its whole output.
-struct Run<'a> {
+struct Command<'a> {
     name: &'a str,
     words: &'a [&'a str],
     input: &'a [u8],
-    out: &'a [u8],
+    out: &'a str,
 }
 
-const REPORT: Run<'static> = Run {
+const REPORT: Command<'static> = Command {
     name: "report",
     words: &[],
     input: b"select 1;",
     out: SELECT_ONE,
 };
 
-const MAKE: Run<'static> = Run {
+const MAKE: Command<'static> = Command {
     name: "make",
     words: &["make", "1"],
     input: b"",
-    out: b"bytes 10 tokens 5 children 2 nodes 1 errors 0\n",
+    out: "bytes 10 tokens 5 children 2 nodes 1 errors 0\n",
 };
 
-const REPLAY: Run<'static> = Run {
+const REPLAY: Command<'static> = Command {
     name: "replay",
     words: &["replay"],
     input: b"@0 0 1\n;\n@0 1 0\n\n",
-    out: b"edit 1: tokens 0+1+0 children 0+1+0\n\
+    out: "edit 1: tokens 0+1+0 children 0+1+0\n\
         edit 2: tokens 0+0+0 children 0+0+0\n\
         0 N source file 0..0\n",
 };
 
-const SPLIT: Run<'static> = Run {
+const SPLIT: Command<'static> = Command {
     name: "split",
     words: &["split"],
     input: b"copy t from stdin;\n\\.\n",
-    out: b"S 0..18\nD 18..22\n",
+    out: "S 0..18\nD 18..22\n",
 };
 
-const QUOTE: Run<'static> = Run {
+const QUOTE: Command<'static> = Command {
     name: "quote",
     words: &["quote"],
     input: b"it's",
-    out: b"'it''s'\n$$it's$$\n\"it's\"\n",
+    out: "'it''s'\n$$it's$$\n\"it's\"\n",
 };
 
-const SQUEEZE: Run<'static> = Run {
+const SQUEEZE: Command<'static> = Command {
     name: "squeeze",
     words: &["squeeze"],
     input: b"a /**/ - --\n/**/-",
-    out: b"a -\n-",
+    out: "a -\n-",
 };
 
-const CLAUSES: Run<'static> = Run {
+const CLAUSES: Command<'static> = Command {
     name: "clauses",
     words: &["clauses"],
     input: b"select",
-    out: b"0 N source file 0..6\n\
+    out: "0 N source file 0..6\n\
         1 N select 0..6\n\
         2 N select clause 0..6\n\
         3 T `select` 0..6\n",
 };
 
-// The calls that fail, and what is expected then: the status, the number of bytes in `out`, and the
-// line on `err`.
-#[derive(Clone, Copy)]
-struct Row<'a> {
-    source: &'a [u64],
-    out: &'a [u64],
-    room: usize,
-    status: u8,
-    written: usize,
-    line: &'a [u8],
-}
-
-// Runs a command with pieces of one byte, and checks how it ends.
-fn check_run(rt: &impl Abort, alloc: Global, run_of: &Run<'_>, row: &Row<'_>) -> Result<(), Fail> {
-    let words = command_line(alloc, run_of.words)?;
-    let mut source = MemorySource::new(alloc, run_of.input, 1, row.source)?;
-    let mut out = MemorySink::new(alloc, row.room, 1, row.out)?;
-    let mut err = MemorySink::new(alloc, 100, 1, &[])?;
-    let result = run(alloc, &words, &mut source, &mut out, &mut err);
-    let (name, reads, writes) = (run_of.name, row.source, row.out);
-    assert_eq!(rt;
-        result.status,
-        row.status,
-        "{name}, read {reads:?}, write {writes:?}"
-    );
-    assert_eq!(rt;
-        Some(out.taken()),
-        run_of.out.get(..row.written),
-        "{name}, read {reads:?}, write {writes:?}"
-    );
-    assert_eq!(rt;
-        err.taken(),
-        row.line,
-        "{name}, read {reads:?}, write {writes:?}"
-    );
-    assert_eq!(rt;
-        source.faults() == 1,
-        row.status == 3,
-        "{name}, read {reads:?}"
-    );
-    assert_eq!(rt;
-        out.faults() == 1,
-        row.status == 7,
-        "{name}, write {writes:?}"
-    );
+// Checks a command over streams: a status and error line, and so many bytes of its output.
+fn check_command(
+    rt: &impl Abort,
+    alloc: Global,
+    command: &Command<'_>,
+    streams: &Streams<'_>,
+    ends: (u8, usize, &str),
+) -> Result<(), Fail> {
+    let (status, written, line) = ends;
+    let run = Run {
+        name: command.name,
+        words: command.words,
+        input: command.input,
+    };
+    let end = End {
+        status,
+        out: command.out.as_bytes().get(..written).ok_or(command.name)?,
+        err: line.as_bytes(),
+    };
+    check_run(rt, alloc, &run, streams, &end)?;
     Ok(())
 }
 
 // A source of so many bytes is read in one call more than it has bytes. Each of these calls fails
 // in turn, and then one that never comes.
-fn check_reads(rt: &impl Abort, alloc: Global, run_of: &Run<'_>) -> Result<(), Fail> {
-    let calls = run_of.input.len() as u64;
+fn check_reads(rt: &impl Abort, alloc: Global, command: &Command<'_>) -> Result<(), Fail> {
+    let calls = command.input.len() as u64;
     for before in 0..calls.saturating_add(2) {
         let failing = [before.saturating_add(1)];
-        let fails = before <= calls;
-        let row = Row {
-            source: &failing,
-            out: &[],
-            room: 1000,
-            status: if fails { 3 } else { 0 },
-            written: if fails { 0 } else { run_of.out.len() },
-            line: if fails { READ_LINE } else { b"" },
+        let streams = Streams {
+            failing_reads: &failing,
+            ..NARROW_STREAMS
         };
-        check_run(rt, alloc, run_of, &row)?;
+        let ends = match before <= calls {
+            true => (3, 0, READ_LINE),
+            false => (0, command.out.len(), ""),
+        };
+        check_command(rt, alloc, command, &streams, ends)?;
     }
     Ok(())
 }
 
 #[test]
 fn each_read_fails(rt: HostRuntime) -> Result<(), Fail> {
-    for run_of in &[REPORT, REPLAY, SPLIT, QUOTE, SQUEEZE, CLAUSES] {
-        check_reads(&rt, rt.alloc(), run_of)?;
+    for command in &[REPORT, REPLAY, SPLIT, QUOTE, SQUEEZE, CLAUSES] {
+        check_reads(&rt, rt.alloc(), command)?;
     }
     Ok(())
 }
 
+// Checks a run that writes so many bytes of its output, and has no room for more or cannot write
+// more if there are more.
+fn check_written(
+    rt: &impl Abort,
+    alloc: Global,
+    command: &Command<'_>,
+    streams: &Streams<'_>,
+    written: usize,
+) -> Result<(), Fail> {
+    let ends = match written < command.out.len() {
+        true => (7, written, WRITE_LINE),
+        false => (0, written, ""),
+    };
+    check_command(rt, alloc, command, streams, ends)
+}
+
 // Each byte of the output is written by a call of its own. Each of these calls fails in turn, and
 // then one that never comes.
-fn check_writes(rt: &impl Abort, alloc: Global, run_of: &Run<'_>) -> Result<(), Fail> {
-    let calls = run_of.out.len();
-    for before in 0..calls.saturating_add(1) {
+fn check_writes(rt: &impl Abort, alloc: Global, command: &Command<'_>) -> Result<(), Fail> {
+    for before in 0..command.out.len().saturating_add(1) {
         let failing = [(before as u64).saturating_add(1)];
-        let fails = before < calls;
-        let row = Row {
-            source: &[],
-            out: &failing,
-            room: 1000,
-            status: if fails { 7 } else { 0 },
-            written: before,
-            line: if fails { WRITE_LINE } else { b"" },
+        let streams = Streams {
+            failing_writes: &failing,
+            ..NARROW_STREAMS
         };
-        check_run(rt, alloc, run_of, &row)?;
+        check_written(rt, alloc, command, &streams, before)?;
     }
     Ok(())
 }
@@ -176,33 +170,28 @@ fn check_writes(rt: &impl Abort, alloc: Global, run_of: &Run<'_>) -> Result<(), 
 #[test]
 fn each_write_fails(rt: HostRuntime) -> Result<(), Fail> {
     assert_eq!(rt; SELECT_ONE.len(), 113);
-    for run_of in &[REPORT, MAKE, REPLAY, SPLIT, QUOTE, SQUEEZE, CLAUSES] {
-        check_writes(&rt, rt.alloc(), run_of)?;
+    for command in &[REPORT, MAKE, REPLAY, SPLIT, QUOTE, SQUEEZE, CLAUSES] {
+        check_writes(&rt, rt.alloc(), command)?;
     }
     Ok(())
 }
 
 // With room for fewer bytes than the output has, the run writes as many as there is room for.
-fn check_rooms(rt: &impl Abort, alloc: Global, run_of: &Run<'_>) -> Result<(), Fail> {
-    let all = run_of.out.len();
-    for room in 0..all.saturating_add(1) {
-        let row = Row {
-            source: &[],
-            out: &[],
+fn check_rooms(rt: &impl Abort, alloc: Global, command: &Command<'_>) -> Result<(), Fail> {
+    for room in 0..command.out.len().saturating_add(1) {
+        let streams = Streams {
             room,
-            status: if room < all { 7 } else { 0 },
-            written: room,
-            line: if room < all { WRITE_LINE } else { b"" },
+            ..NARROW_STREAMS
         };
-        check_run(rt, alloc, run_of, &row)?;
+        check_written(rt, alloc, command, &streams, room)?;
     }
     Ok(())
 }
 
 #[test]
 fn little_room(rt: HostRuntime) -> Result<(), Fail> {
-    for run_of in &[REPORT, MAKE, REPLAY, SPLIT, QUOTE, SQUEEZE, CLAUSES] {
-        check_rooms(&rt, rt.alloc(), run_of)?;
+    for command in &[REPORT, MAKE, REPLAY, SPLIT, QUOTE, SQUEEZE, CLAUSES] {
+        check_rooms(&rt, rt.alloc(), command)?;
     }
     Ok(())
 }
@@ -215,7 +204,7 @@ struct Refusal<'a> {
     reads: &'a [u64],
     writes: &'a [u64],
     status: u8,
-    line: &'a [u8],
+    line: &'a str,
 }
 
 const REFUSALS: &[Refusal<'static>] = &[
@@ -262,7 +251,7 @@ const REFUSALS: &[Refusal<'static>] = &[
         reads: &[],
         writes: &[],
         status: 8,
-        line: b"bad script at 0\n",
+        line: "bad script at 0\n",
     },
     Refusal {
         name: "bad_range",
@@ -271,28 +260,32 @@ const REFUSALS: &[Refusal<'static>] = &[
         reads: &[],
         writes: &[],
         status: 9,
-        line: b"bad range\n",
+        line: "bad range\n",
     },
 ];
 
 // Each write of the error line takes one byte and fails in turn. The status stays, and `err` has
 // the bytes before that write.
 fn check_refusal(rt: &impl Abort, alloc: Global, row: &Refusal<'_>) -> Result<(), Fail> {
-    let name = row.name;
     for before in 0..row.line.len().saturating_add(1) {
-        let words = command_line(alloc, row.words)?;
         let failing = [(before as u64).saturating_add(1)];
-        let mut source = MemorySource::new(alloc, row.input, 1, row.reads)?;
-        let mut out = MemorySink::new(alloc, 100, 100, row.writes)?;
-        let mut err = MemorySink::new(alloc, 100, 1, &failing)?;
-        let result = run(alloc, &words, &mut source, &mut out, &mut err);
-        assert_eq!(rt; result.status, row.status, "{name}, write {before}");
-        assert!(rt; out.taken().is_empty(), "{name}, write {before}");
-        assert_eq!(rt;
-            Some(err.taken()),
-            row.line.get(..before),
-            "{name}, write {before}"
-        );
+        let run = Run {
+            name: row.name,
+            words: row.words,
+            input: row.input,
+        };
+        let streams = Streams {
+            failing_reads: row.reads,
+            failing_writes: row.writes,
+            failing_error_writes: &failing,
+            ..NARROW_STREAMS
+        };
+        let end = End {
+            status: row.status,
+            out: b"",
+            err: row.line.as_bytes().get(..before).ok_or(row.name)?,
+        };
+        check_run(rt, alloc, &run, &streams, &end)?;
     }
     Ok(())
 }
@@ -353,15 +346,23 @@ fn written(
     failing: &[u64],
     status: u8,
 ) -> Result<Vec<u8>, Fail> {
-    let words = command_line(alloc, row.words)?;
     let mut input = String::new(alloc);
     push_times(&mut input, row.part, row.times)?;
-    let mut source = MemorySource::new(alloc, input.as_bytes(), 100_000, &[])?;
-    let mut out = MemorySink::new(alloc, 200_000, 200_000, failing)?;
-    let mut err = MemorySink::new(alloc, 100, 100, &[])?;
-    let result = run(alloc, &words, &mut source, &mut out, &mut err);
-    assert_eq!(rt; result.status, status, "{}, write {failing:?}", row.name);
-    Ok(Vec::from_slice(alloc, out.taken())?)
+    let run = Run {
+        name: row.name,
+        words: row.words,
+        input: input.as_bytes(),
+    };
+    let streams = Streams {
+        read: 100_000,
+        write: 200_000,
+        failing_writes: failing,
+        room: 200_000,
+        ..WIDE_STREAMS
+    };
+    let ended = run_over(rt, alloc, &run, &streams)?;
+    assert_eq!(rt; ended.status, status, "{}, write {failing:?}", row.name);
+    Ok(ended.out)
 }
 
 // Each write of a long output but the first fails in turn. What the sink has taken then begins the

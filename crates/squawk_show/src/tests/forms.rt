@@ -2,136 +2,126 @@
 mod options;
 mod refusals;
 
-use crate::tests::commands::command_line;
-use crate::{MemorySink, MemorySource, run};
-use std::alloc::Global;
-use std::process::Abort;
+use crate::tests::runs::{Row, Table, check_tables};
 use std::test::Fail;
 
-// A text, and what a command writes of it.
-struct Text<'a> {
-    name: &'a str,
-    text: &'a str,
-    out: &'a str,
-}
-
-const SPLIT: &[Text<'static>] = &[
-    Text {
+const SPLIT: &[Row<'static>] = &[
+    Row {
         name: "copy_data_is_no_sql",
-        text: "copy t from stdin;\n1\nit's\n\\.\nselect 1;",
+        input: "copy t from stdin;\n1\nit's\n\\.\nselect 1;",
         out: "S 0..18\nD 18..29\nS 29..38\n",
     },
-    Text {
+    Row {
         name: "space_semicolon_and_command",
-        text: " ;\\dt",
+        input: " ;\\dt",
         out: "G 0..1\nS 1..2\nC 2..5\n",
     },
-    Text {
+    Row {
         name: "nothing_after_copy",
-        text: "copy t from stdin;",
+        input: "copy t from stdin;",
         out: "S 0..18\n",
     },
-    Text {
+    Row {
         name: "end_marker_directly_after_copy",
-        text: "copy t from stdin;\\.",
+        input: "copy t from stdin;\\.",
         out: "S 0..18\nD 18..20\n",
     },
-    Text {
+    Row {
         name: "marker_on_the_line_of_the_semicolon",
-        text: "copy t from stdin;\\.\nx\n\\.\n;",
+        input: "copy t from stdin;\\.\nx\n\\.\n;",
         out: "S 0..18\nD 18..26\nS 26..27\n",
     },
-    Text {
+    Row {
         name: "stdin_in_parentheses",
-        text: "copy (select a from stdin) to stdout;x",
+        input: "copy (select a from stdin) to stdout;x",
         out: "S 0..37\nS 37..38\n",
     },
-    Text {
+    Row {
         name: "end_marker_at_the_end",
-        text: "copy t from stdin;\n1\n\\.",
+        input: "copy t from stdin;\n1\n\\.",
         out: "S 0..18\nD 18..23\n",
     },
-    Text {
+    Row {
         name: "data_without_end_marker",
-        text: "copy t from stdin;\nit's\n",
+        input: "copy t from stdin;\nit's\n",
         out: "S 0..18\nD 18..24\n",
     },
-    Text {
+    Row {
         name: "lines_end_in_cr_and_lf",
-        text: "copy t from stdin;\r\nit's\r\n\\.\r\n;",
+        input: "copy t from stdin;\r\nit's\r\n\\.\r\n;",
         out: "S 0..18\nD 18..30\nS 30..31\n",
     },
-    Text {
+    Row {
         name: "end_marker_before_cr_alone",
-        text: "copy t from stdin;\n\\.\rselect 1;",
+        input: "copy t from stdin;\n\\.\rselect 1;",
         out: "S 0..18\nD 18..31\n",
     },
-    Text {
+    Row {
         name: "data_of_two_statements",
-        text: "copy t from stdin;\n'\n\\.\ncopy u from stdin;\n'\n\\.\n;",
+        input: "copy t from stdin;\n'\n\\.\ncopy u from stdin;\n'\n\\.\n;",
         out: "S 0..18\nD 18..24\nS 24..42\nD 42..48\nS 48..49\n",
     },
-    Text {
+    Row {
         name: "end_marker_without_copy",
-        text: "select 1;\n\\.\n;",
+        input: "select 1;\n\\.\n;",
         out: "S 0..9\nG 9..10\nC 10..12\nG 12..13\nS 13..14\n",
     },
-    Text {
+    Row {
         name: "comments_are_gaps",
-        text: "-- a\n;/* b */",
+        input: "-- a\n;/* b */",
         out: "G 0..4\nG 4..5\nS 5..6\nG 6..13\n",
     },
-    Text {
+    Row {
         name: "offsets_are_bytes",
-        text: "\u{feff}select 'é';x",
+        input: "\u{feff}select 'é';x",
         out: "G 0..3\nS 3..15\nS 15..16\n",
     },
-    Text {
+    Row {
         name: "empty_text",
-        text: "",
+        input: "",
         out: "",
     },
 ];
 
-const QUOTE: &[Text<'static>] = &[
-    Text {
+const QUOTE: &[Row<'static>] = &[
+    Row {
         name: "quote_and_two_dollar_signs",
-        text: "it's $$q",
+        input: "it's $$q",
         out: "'it''s $$q'\n\
             $qq$it's $$q$qq$\n\
             \"it's $$q\"\n",
     },
-    Text {
+    Row {
         name: "empty_text",
-        text: "",
+        input: "",
         out: "''\n\
             $$$$\n\
             \"\"\n",
     },
-    Text {
+    Row {
         name: "dollar_sign",
-        text: "$",
+        input: "$",
         out: "'$'\n\
             $q$$$q$\n\
             \"$\"\n",
     },
-    Text {
+    Row {
         name: "double_quote",
-        text: "\"",
+        input: "\"",
         out: "'\"'\n\
             $$\"$$\n\
             \"\"\"\"\n",
     },
-    Text {
+    Row {
         name: "three_delimiters",
-        text: "$$ $q$ $qq",
+        input: "$$ $q$ $qq",
         out: "'$$ $q$ $qq'\n\
             $qqq$$$ $q$ $qq$qqq$\n\
             \"$$ $q$ $qq\"\n",
     },
-    Text {
+    Row {
         name: "backslash_and_two_lines",
-        text: "a\\'\né",
+        input: "a\\'\né",
         out: "'a\\''\n\
             é'\n\
             $$a\\'\n\
@@ -141,53 +131,53 @@ const QUOTE: &[Text<'static>] = &[
     },
 ];
 
-const SQUEEZE: &[Text<'static>] = &[
-    Text {
+const SQUEEZE: &[Row<'static>] = &[
+    Row {
         name: "spaces_and_comments",
-        text: "select  1 -- one\n/* two */ from t;",
+        input: "select  1 -- one\n/* two */ from t;",
         out: "select 1\nfrom t;",
     },
-    Text {
+    Row {
         name: "comment_between_operators",
-        text: "-/*a*/-",
+        input: "-/*a*/-",
         out: "- -",
     },
-    Text {
+    Row {
         name: "two_marks_at_the_beginning",
-        text: "\u{feff}\u{feff}x",
+        input: "\u{feff}\u{feff}x",
         out: " \u{feff}x",
     },
-    Text {
+    Row {
         name: "cr_and_lf_after_a_command",
-        text: "\\echo a\r\n;",
+        input: "\\echo a\r\n;",
         out: "\\echo a\n;",
     },
-    Text {
+    Row {
         name: "spaces_in_a_string",
-        text: "'a  --b'  c",
+        input: "'a  --b'  c",
         out: "'a  --b' c",
     },
-    Text {
+    Row {
         name: "no_white_space_or_comment",
-        text: "a+1;",
+        input: "a+1;",
         out: "a+1;",
     },
-    Text {
+    Row {
         name: "line_end_in_a_comment",
-        text: "a/*\n*/b --",
+        input: "a/*\n*/b --",
         out: "a\nb ",
     },
-    Text {
+    Row {
         name: "empty_text",
-        text: "",
+        input: "",
         out: "",
     },
 ];
 
-const CLAUSES: &[Text<'static>] = &[
-    Text {
+const CLAUSES: &[Row<'static>] = &[
+    Row {
         name: "three_clauses",
-        text: "select a from t where (x);",
+        input: "select a from t where (x);",
         out: "0 N source file 0..26\n\
             1 N select 0..26\n\
             2 N select clause 0..8\n\
@@ -209,9 +199,9 @@ const CLAUSES: &[Text<'static>] = &[
             4 T `)` 24..25\n\
             2 T `;` 25..26\n",
     },
-    Text {
+    Row {
         name: "none_in_an_inner_select",
-        text: "with q as (select 1) select 2",
+        input: "with q as (select 1) select 2",
         out: "0 N source file 0..29\n\
             1 N select 0..29\n\
             2 T `with` 0..4\n\
@@ -232,9 +222,9 @@ const CLAUSES: &[Text<'static>] = &[
             3 T whitespace 27..28\n\
             3 T integer literal 28..29\n",
     },
-    Text {
+    Row {
         name: "a_clause_of_each_word",
-        text: "select from where group having order limit offset;",
+        input: "select from where group having order limit offset;",
         out: "0 N source file 0..50\n\
             1 N select 0..50\n\
             2 N select clause 0..6\n\
@@ -262,9 +252,9 @@ const CLAUSES: &[Text<'static>] = &[
             3 T `offset` 43..49\n\
             2 T `;` 49..50\n",
     },
-    Text {
+    Row {
         name: "two_selects_in_a_union",
-        text: "select 1 union select 2",
+        input: "select 1 union select 2",
         out: "0 N source file 0..23\n\
             1 N select 0..23\n\
             2 N select clause 0..14\n\
@@ -279,9 +269,9 @@ const CLAUSES: &[Text<'static>] = &[
             3 T whitespace 21..22\n\
             3 T integer literal 22..23\n",
     },
-    Text {
+    Row {
         name: "none_in_another_statement",
-        text: "insert into t select 1;",
+        input: "insert into t select 1;",
         out: "0 N source file 0..23\n\
             1 N insert 0..23\n\
             2 T `insert` 0..6\n\
@@ -295,9 +285,9 @@ const CLAUSES: &[Text<'static>] = &[
             2 T integer literal 21..22\n\
             2 T `;` 22..23\n",
     },
-    Text {
+    Row {
         name: "errors_stay",
-        text: "select 1a from 'b",
+        input: "select 1a from 'b",
         out: "0 N source file 0..17\n\
             1 N select 0..17\n\
             2 N select clause 0..9\n\
@@ -312,59 +302,33 @@ const CLAUSES: &[Text<'static>] = &[
             E 8..9 trailing junk after number\n\
             E 15..17 unterminated string\n",
     },
-    Text {
+    Row {
         name: "empty_text",
-        text: "",
+        input: "",
         out: "0 N source file 0..0\n",
     },
 ];
 
-// A command, and texts.
-struct CommandTexts<'a> {
-    command: &'a str,
-    texts: &'a [Text<'a>],
-}
-
-const COMMANDS: &[CommandTexts<'static>] = &[
-    CommandTexts {
-        command: "split",
-        texts: SPLIT,
+const COMMANDS: &[Table<'static>] = &[
+    Table {
+        words: &["split"],
+        rows: SPLIT,
     },
-    CommandTexts {
-        command: "quote",
-        texts: QUOTE,
+    Table {
+        words: &["quote"],
+        rows: QUOTE,
     },
-    CommandTexts {
-        command: "squeeze",
-        texts: SQUEEZE,
+    Table {
+        words: &["squeeze"],
+        rows: SQUEEZE,
     },
-    CommandTexts {
-        command: "clauses",
-        texts: CLAUSES,
+    Table {
+        words: &["clauses"],
+        rows: CLAUSES,
     },
 ];
 
-// Runs a command on a text, which it reads to its end.
-fn check_text(rt: &impl Abort, alloc: Global, command: &str, row: &Text<'_>) -> Result<(), Fail> {
-    let words = command_line(alloc, &[command])?;
-    let mut source = MemorySource::new(alloc, row.text.as_bytes(), 1000, &[])?;
-    let mut out = MemorySink::new(alloc, 1000, 1000, &[])?;
-    let mut err = MemorySink::new(alloc, 1000, 1000, &[])?;
-    let result = run(alloc, &words, &mut source, &mut out, &mut err);
-    let name = row.name;
-    assert_eq!(rt; result.status, 0, "{command}, {name}");
-    assert_eq!(rt; out.taken(), row.out.as_bytes(), "{command}, {name}");
-    assert!(rt; err.taken().is_empty(), "{command}, {name}");
-    assert!(rt; source.left().is_empty(), "{command}, {name}");
-    Ok(())
-}
-
 #[test]
 fn commands_write_forms(rt: HostRuntime) -> Result<(), Fail> {
-    for of_command in COMMANDS {
-        for row in of_command.texts {
-            check_text(&rt, rt.alloc(), of_command.command, row)?;
-        }
-    }
-    Ok(())
+    check_tables(&rt, rt.alloc(), COMMANDS)
 }

@@ -51,7 +51,7 @@ const READINGS: &[NamedReading<'static>] = &[
 ];
 
 // Whether two parses have the same steps, errors and length.
-fn same_parse(a: &Parse, b: &Parse) -> bool {
+pub(crate) fn same_parse(a: &Parse, b: &Parse) -> bool {
     a.steps() == b.steps() && a.errors() == b.errors() && a.len() == b.len()
 }
 
@@ -155,7 +155,41 @@ struct Row<'a> {
 
 const MOST_CHILDREN: usize = 3;
 
-// Checks the parse of a text in a reading, and that an edit of an empty document has the same.
+// Whether a parse in a reading is that of `parse_source`, which has a reading of its own.
+fn agrees_with_source(
+    alloc: Global,
+    text: &str,
+    reading: Reading,
+    parse: &Parse,
+) -> Result<bool, Fail> {
+    if reading.strings == Strings::Standard && reading.division == Division::Flat {
+        let source = parse_source(alloc, text).ok().ok_or("no memory")?;
+        return Ok(same_parse(parse, &source));
+    }
+    Ok(true)
+}
+
+// Parses a text in a reading. Checks that an edit of an empty document has the same parse, and so
+// has `parse_source`.
+fn checked_parse(
+    rt: &impl Abort,
+    alloc: Global,
+    name: &str,
+    text: &str,
+    named: &NamedReading<'_>,
+) -> Result<Parse, Fail> {
+    let parse = whole_parse(alloc, text, named.reading)?;
+    let edited = edited_parse(alloc, text, named.reading)?;
+    let from_source = agrees_with_source(alloc, text, named.reading, &parse)?;
+    assert!(rt;
+        from_source && same_parse(&parse, &edited),
+        "{name}, {}",
+        named.name
+    );
+    Ok(parse)
+}
+
+// Checks the parse of a text in a reading.
 fn check_row(
     rt: &impl Abort,
     alloc: Global,
@@ -163,18 +197,11 @@ fn check_row(
     text: &str,
     named: &NamedReading<'_>,
 ) -> Result<(), Fail> {
-    let parse = whole_parse(alloc, text, named.reading)?;
-    let (name, read) = (row.name, named.name);
-    assert_eq!(rt; parse.steps().len(), row.steps, "{name}, {read}");
-    assert_eq!(rt; parse.children().len(), row.children, "{name}, {read}");
+    let parse = checked_parse(rt, alloc, row.name, text, named)?;
     let lines = render(alloc, &parse, MOST_CHILDREN)?;
-    assert_eq!(rt; lines.as_str(), row.lines, "{name}, {read}");
-    let edited = edited_parse(alloc, text, named.reading)?;
-    assert!(rt; same_parse(&parse, &edited), "{name}, {read}");
-    if named.reading.strings == Strings::Standard && named.reading.division == Division::Flat {
-        let source = parse_source(alloc, text).ok().ok_or("no memory")?;
-        assert!(rt; same_parse(&parse, &source), "{name}, {read}");
-    }
+    let found = (parse.steps().len(), parse.children().len(), lines.as_str());
+    let expected = (row.steps, row.children, row.lines);
+    assert_eq!(rt; found, expected, "{}, {}", row.name, named.name);
     Ok(())
 }
 
@@ -183,6 +210,13 @@ fn check_in_readings(rt: &impl Abort, alloc: Global, row: &Row<'_>) -> Result<()
     let text = repeated(alloc, row.parts)?;
     for named in READINGS {
         check_row(rt, alloc, row, text.as_str(), named)?;
+    }
+    Ok(())
+}
+
+fn check_rows(rt: &impl Abort, alloc: Global, rows: &[Row<'_>]) -> Result<(), Fail> {
+    for row in rows {
+        check_in_readings(rt, alloc, row)?;
     }
     Ok(())
 }
@@ -319,8 +353,5 @@ const ROWS: &[Row<'static>] = &[
 
 #[test]
 fn hostile_texts_parse_alike(rt: HostRuntime) -> Result<(), Fail> {
-    for row in ROWS {
-        check_in_readings(&rt, rt.alloc(), row)?;
-    }
-    Ok(())
+    check_rows(&rt, rt.alloc(), ROWS)
 }

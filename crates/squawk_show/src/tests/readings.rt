@@ -1,36 +1,30 @@
 //! The four readings of texts that the options choose.
-use crate::tests::commands::command_line;
-use crate::{MemorySink, MemorySource, RunError, run};
+use crate::tests::runs::{Row, Run, Table, WIDE_STREAMS, check_tables, run_over};
 use squawk_tree::Parse;
 use std::alloc::{AllocError, Global};
 use std::process::Abort;
 use std::test::Fail;
 
-// The words of a run, the bytes of its source, and what it writes to `out`.
-struct Report<'a> {
-    name: &'a str,
-    words: &'a [&'a str],
-    input: &'a str,
-    out: &'a str,
-}
-
-const REPORTS: &[Report<'static>] = &[
-    Report {
-        name: "backslash_ends_no_string",
+const REPORTS: &[Table<'static>] = &[
+    Table {
         words: &["--backslash"],
-        input: "select 'a\\'c';",
-        out: "0 N source file 0..14\n\
+        rows: &[Row {
+            name: "backslash_ends_no_string",
+            input: "select 'a\\'c';",
+            out: "0 N source file 0..14\n\
             1 N select 0..14\n\
             2 T `select` 0..6\n\
             2 T whitespace 6..7\n\
             2 T string literal 7..13\n\
             2 T `;` 13..14\n",
+        }],
     },
-    Report {
-        name: "backslash_is_a_character",
+    Table {
         words: &[],
-        input: "select 'a\\'c';",
-        out: "0 N source file 0..14\n\
+        rows: &[Row {
+            name: "backslash_is_a_character",
+            input: "select 'a\\'c';",
+            out: "0 N source file 0..14\n\
             1 N select 0..14\n\
             2 T `select` 0..6\n\
             2 T whitespace 6..7\n\
@@ -38,24 +32,28 @@ const REPORTS: &[Report<'static>] = &[
             2 T identifier 11..12\n\
             2 T string literal 12..14\n\
             E 12..14 unterminated string\n",
+        }],
     },
-    Report {
-        name: "semicolon_in_group_is_a_token",
+    Table {
         words: &["--grouped"],
-        input: "(a;\\g",
-        out: "0 N source file 0..5\n\
+        rows: &[Row {
+            name: "semicolon_in_group_is_a_token",
+            input: "(a;\\g",
+            out: "0 N source file 0..5\n\
             1 N paren select 0..5\n\
             2 N paren expr 0..3\n\
             3 T `(` 0..1\n\
             3 T identifier 1..2\n\
             3 T `;` 2..3\n\
             2 T psql terminator 3..5\n",
+        }],
     },
-    Report {
-        name: "backslash_in_a_replayed_text",
+    Table {
         words: &["--backslash", "replay"],
-        input: "@0 0 5\n'\\';'\n@1 2 0\n\n",
-        out: "edit 1: tokens 0+1+0 children 0+1+0\n\
+        rows: &[Row {
+            name: "backslash_in_a_replayed_text",
+            input: "@0 0 5\n'\\';'\n@1 2 0\n\n",
+            out: "edit 1: tokens 0+1+0 children 0+1+0\n\
             edit 2: tokens 0+3+0 children 0+2+0\n\
             0 N source file 0..4\n\
             1 N error 0..3\n\
@@ -66,12 +64,14 @@ const REPORTS: &[Report<'static>] = &[
             E 0..2 unknown statement\n\
             E 3..4 unknown statement\n\
             E 3..4 unterminated string\n",
+        }],
     },
-    Report {
-        name: "group_in_a_replayed_text",
+    Table {
         words: &["--grouped", "replay"],
-        input: "@0 0 4\n;a;b\n@1 1 1\n(\n",
-        out: "edit 1: tokens 0+4+0 children 0+3+0\n\
+        rows: &[Row {
+            name: "group_in_a_replayed_text",
+            input: "@0 0 4\n;a;b\n@1 1 1\n(\n",
+            out: "edit 1: tokens 0+4+0 children 0+3+0\n\
             edit 2: tokens 0+2+3 children 0+2+0\n\
             0 N source file 0..5\n\
             1 N empty stmt 0..1\n\
@@ -82,21 +82,13 @@ const REPORTS: &[Report<'static>] = &[
             3 T identifier 2..3\n\
             3 T `;` 3..4\n\
             3 T identifier 4..5\n",
+        }],
     },
 ];
 
 #[test]
 fn options_choose_a_reading(rt: HostRuntime) -> Result<(), Fail> {
-    for row in REPORTS {
-        let words = command_line(rt.alloc(), row.words)?;
-        let mut source = MemorySource::new(rt.alloc(), row.input.as_bytes(), 1000, &[])?;
-        let mut out = MemorySink::new(rt.alloc(), 1000, 1000, &[])?;
-        let mut err = MemorySink::new(rt.alloc(), 1000, 1000, &[])?;
-        let result = run(rt.alloc(), &words, &mut source, &mut out, &mut err);
-        assert_eq!(rt; result.status, 0, "{}", row.name);
-        assert_eq!(rt; out.taken(), row.out.as_bytes(), "{}", row.name);
-    }
-    Ok(())
+    check_tables(&rt, rt.alloc(), REPORTS)
 }
 
 const RULE: &str = "create rule r as on insert to t do (select 1; select 2);";
@@ -181,27 +173,26 @@ fn nodes(alloc: Global, parse: &Parse) -> Result<String, AllocError> {
     Ok(nodes)
 }
 
-// The outcome of a run with these words over a text.
-fn outcome(alloc: Global, words: &[&str], text: &str) -> Result<Result<Parse, RunError>, Fail> {
-    let words = command_line(alloc, words)?;
-    let mut source = MemorySource::new(alloc, text.as_bytes(), 1000, &[])?;
-    let mut out = MemorySink::new(alloc, 4000, 4000, &[])?;
-    let mut err = MemorySink::new(alloc, 1000, 1000, &[])?;
-    Ok(run(alloc, &words, &mut source, &mut out, &mut err).outcome)
+// Checks the nodes under the root of the tree that a run makes.
+fn check_nodes(rt: &impl Abort, alloc: Global, row: &DividedText<'_>) -> Result<(), Fail> {
+    let run = Run {
+        name: row.name,
+        words: row.words,
+        input: row.text.as_bytes(),
+    };
+    let parse = run_over(rt, alloc, &run, &WIDE_STREAMS)?
+        .outcome
+        .ok()
+        .ok_or(row.name)?;
+    let nodes = nodes(alloc, &parse)?;
+    assert_eq!(rt; nodes.as_str(), row.nodes, "{}", row.name);
+    Ok(())
 }
 
 #[test]
 fn readings_divide_texts(rt: HostRuntime) -> Result<(), Fail> {
     for row in DIVIDED_TEXTS {
-        let parse = outcome(rt.alloc(), row.words, row.text)?
-            .ok()
-            .ok_or(row.name)?;
-        assert_eq!(rt;
-            nodes(rt.alloc(), &parse)?.as_str(),
-            row.nodes,
-            "{}",
-            row.name
-        );
+        check_nodes(&rt, rt.alloc(), row)?;
     }
     Ok(())
 }

@@ -1,21 +1,13 @@
 //! The command `replay`: scripts of edits, and the status and output of each.
-use crate::tests::commands::command_line;
-use crate::{MemorySink, MemorySource, run};
-use std::alloc::Global;
-use std::process::Abort;
+use crate::tests::runs::{
+    End, Refusal, Row, Run, Streams, WIDE_STREAMS, check_refusals, check_rows, check_run,
+};
 use std::test::Fail;
-
-// A script, and what a run with it writes to `out`.
-struct Row<'a> {
-    name: &'a str,
-    script: &'a str,
-    out: &'a str,
-}
 
 const ACCEPTED: &[Row<'static>] = &[
     Row {
         name: "replay_script",
-        script: "@0 0 9\nselect 1;\n@7 8 1\n2\n",
+        input: "@0 0 9\nselect 1;\n@7 8 1\n2\n",
         out: "edit 1: tokens 0+4+0 children 0+1+0\n\
             edit 2: tokens 0+3+1 children 0+1+0\n\
             0 N source file 0..9\n\
@@ -27,19 +19,19 @@ const ACCEPTED: &[Row<'static>] = &[
     },
     Row {
         name: "empty_script",
-        script: "",
+        input: "",
         out: "0 N source file 0..0\n",
     },
     Row {
         name: "text_removed",
-        script: "@0 0 1\n;\n@0 1 0\n\n",
+        input: "@0 0 1\n;\n@0 1 0\n\n",
         out: "edit 1: tokens 0+1+0 children 0+1+0\n\
             edit 2: tokens 0+0+0 children 0+0+0\n\
             0 N source file 0..0\n",
     },
     Row {
         name: "leading_zeros",
-        script: "@0000000000 00 01\n;\n",
+        input: "@0000000000 00 01\n;\n",
         out: "edit 1: tokens 0+1+0 children 0+1+0\n\
             0 N source file 0..1\n\
             1 N empty stmt 0..1\n\
@@ -47,7 +39,7 @@ const ACCEPTED: &[Row<'static>] = &[
     },
     Row {
         name: "exponent_grows",
-        script: "@0 0 3\n1e+\n@3 3 1\n5\n",
+        input: "@0 0 3\n1e+\n@3 3 1\n5\n",
         out: "edit 1: tokens 0+2+0 children 0+1+0\n\
             edit 2: tokens 0+1+0 children 0+1+0\n\
             0 N source file 0..4\n\
@@ -57,7 +49,7 @@ const ACCEPTED: &[Row<'static>] = &[
     },
     Row {
         name: "mark_removed",
-        script: "@0 0 4\n\u{feff}a\n@0 3 0\n\n",
+        input: "@0 0 4\n\u{feff}a\n@0 3 0\n\n",
         out: "edit 1: tokens 0+2+0 children 0+2+0\n\
             edit 2: tokens 0+1+0 children 0+1+0\n\
             0 N source file 0..1\n\
@@ -67,7 +59,7 @@ const ACCEPTED: &[Row<'static>] = &[
     },
     Row {
         name: "quote_opens",
-        script: "@0 0 21\nselect 1; select 'a';\n@0 0 1\n'\n",
+        input: "@0 0 21\nselect 1; select 'a';\n@0 0 1\n'\n",
         out: "edit 1: tokens 0+9+0 children 0+3+0\n\
             edit 2: tokens 0+3+0 children 0+1+0\n\
             0 N source file 0..22\n\
@@ -80,7 +72,7 @@ const ACCEPTED: &[Row<'static>] = &[
     },
     Row {
         name: "edit_in_the_middle",
-        script: "@0 0 29\nselect 1; select 2; select 3;\n@17 18 2\n22\n",
+        input: "@0 0 29\nselect 1; select 2; select 3;\n@17 18 2\n22\n",
         out: "edit 1: tokens 0+14+0 children 0+5+0\n\
             edit 2: tokens 5+3+6 children 2+1+2\n\
             0 N source file 0..30\n\
@@ -104,156 +96,132 @@ const ACCEPTED: &[Row<'static>] = &[
     },
 ];
 
-// A script that is refused: its status, and the line on `err`.
-struct Refusal<'a> {
-    name: &'a str,
-    script: &'a [u8],
-    status: u8,
-    line: &'a str,
-}
-
 const REFUSED: &[Refusal<'static>] = &[
     Refusal {
         name: "range_after_end",
-        script: b"@0 1 0\n\n",
+        input: b"@0 1 0\n\n",
         status: 9,
         line: "bad range\n",
     },
     Refusal {
         name: "second_range_after_end",
-        script: b"@0 0 1\n;\n@2 2 0\n\n",
+        input: b"@0 0 1\n;\n@2 2 0\n\n",
         status: 9,
         line: "bad range\n",
     },
     Refusal {
         name: "end_before_start",
-        script: b"@0 0 1\n;\n@1 0 0\n\n",
+        input: b"@0 0 1\n;\n@1 0 0\n\n",
         status: 9,
         line: "bad range\n",
     },
     Refusal {
         name: "range_in_a_character",
-        script: b"@0 0 2\n\xc3\xa9\n@1 1 0\n\n",
+        input: b"@0 0 2\n\xc3\xa9\n@1 1 0\n\n",
         status: 9,
         line: "bad range\n",
     },
     Refusal {
         name: "largest_number",
-        script: b"@4294967295 4294967295 0\n\n",
+        input: b"@4294967295 4294967295 0\n\n",
         status: 9,
         line: "bad range\n",
     },
     Refusal {
         name: "text_too_short",
-        script: b"@0 0 3\nab",
+        input: b"@0 0 3\nab",
         status: 8,
         line: "bad script at 0\n",
     },
     Refusal {
         name: "second_record_bad",
-        script: b"@0 0 1\n;\n@0 1 0\nx\n",
+        input: b"@0 0 1\n;\n@0 1 0\nx\n",
         status: 8,
         line: "bad script at 9\n",
     },
     Refusal {
         name: "line_feed_after_the_last_record",
-        script: b"@0 0 1\n;\n\n",
+        input: b"@0 0 1\n;\n\n",
         status: 8,
         line: "bad script at 9\n",
     },
     Refusal {
         name: "bad_range_before_a_bad_record",
-        script: b"@5 5 0\n\nx",
+        input: b"@5 5 0\n\nx",
         status: 8,
         line: "bad script at 8\n",
     },
     Refusal {
         name: "no_record",
-        script: b"select 1;",
+        input: b"select 1;",
         status: 8,
         line: "bad script at 0\n",
     },
     Refusal {
         name: "eleven_digits",
-        script: b"@00000000000 0 0\n\n",
+        input: b"@00000000000 0 0\n\n",
         status: 8,
         line: "bad script at 0\n",
     },
     Refusal {
         name: "number_above_the_largest",
-        script: b"@4294967296 4294967296 0\n\n",
+        input: b"@4294967296 4294967296 0\n\n",
         status: 8,
         line: "bad script at 0\n",
     },
     Refusal {
         name: "text_ends_in_a_character",
-        script: b"@0 0 1\n\xc3\xa9\n",
+        input: b"@0 0 1\n\xc3\xa9\n",
         status: 8,
         line: "bad script at 0\n",
     },
     Refusal {
         name: "text_is_not_utf8",
-        script: b"@0 0 1\n\xff\n",
+        input: b"@0 0 1\n\xff\n",
         status: 4,
         line: "not UTF-8 at 7\n",
     },
 ];
 
-// Runs `replay` on a script, and checks status, output and error line.
-fn check_replay(
-    rt: &impl Abort,
-    alloc: Global,
-    name: &str,
-    script: &[u8],
-    expected: (u8, &str, &str),
-) -> Result<(), Fail> {
-    let words = command_line(alloc, &["replay"])?;
-    let mut source = MemorySource::new(alloc, script, 1000, &[])?;
-    let mut out = MemorySink::new(alloc, 1000, 1000, &[])?;
-    let mut err = MemorySink::new(alloc, 1000, 1000, &[])?;
-    let result = run(alloc, &words, &mut source, &mut out, &mut err);
-    let (status, written, line) = expected;
-    assert_eq!(rt; result.status, status, "{name}");
-    assert_eq!(rt; out.taken(), written.as_bytes(), "{name}");
-    assert_eq!(rt; err.taken(), line.as_bytes(), "{name}");
-    Ok(())
-}
-
 #[test]
 fn scripts_are_replayed(rt: HostRuntime) -> Result<(), Fail> {
-    for row in ACCEPTED {
-        let script = row.script.as_bytes();
-        check_replay(&rt, rt.alloc(), row.name, script, (0, row.out, ""))?;
-    }
-    Ok(())
+    check_rows(&rt, rt.alloc(), &["replay"], ACCEPTED)
 }
 
 #[test]
 fn scripts_are_refused(rt: HostRuntime) -> Result<(), Fail> {
-    for row in REFUSED {
-        let expected = (row.status, "", row.line);
-        check_replay(&rt, rt.alloc(), row.name, row.script, expected)?;
-    }
-    Ok(())
+    check_refusals(&rt, rt.alloc(), &["replay"], &WIDE_STREAMS, REFUSED)
 }
 
 #[test]
 fn replay_over_streams_that_fail(rt: HostRuntime) -> Result<(), Fail> {
-    let words = command_line(rt.alloc(), &["replay"])?;
-    let script = b"@0 0 1\n;\n";
-    let mut source = MemorySource::new(rt.alloc(), script, 4, &[2])?;
-    let mut out = MemorySink::new(rt.alloc(), 1000, 1000, &[])?;
-    let mut err = MemorySink::new(rt.alloc(), 1000, 1000, &[])?;
-    let result = run(rt.alloc(), &words, &mut source, &mut out, &mut err);
-    assert_eq!(rt; result.status, 3);
-    assert!(rt; out.taken().is_empty());
-    assert_eq!(rt; err.taken(), b"cannot read the input\n".as_slice());
-    let mut source = MemorySource::new(rt.alloc(), script, 4, &[])?;
-    let mut out = MemorySink::new(rt.alloc(), 1000, 8, &[2])?;
-    let mut err = MemorySink::new(rt.alloc(), 1000, 1000, &[])?;
-    let result = run(rt.alloc(), &words, &mut source, &mut out, &mut err);
-    assert_eq!(rt; result.status, 7);
-    assert_eq!(rt; out.taken(), b"edit 1: ".as_slice());
-    assert_eq!(rt; err.taken(), b"cannot write the output\n".as_slice());
+    let run = Run {
+        name: "one_record",
+        words: &["replay"],
+        input: b"@0 0 1\n;\n",
+    };
+    let streams = Streams {
+        read: 4,
+        failing_reads: &[2],
+        ..WIDE_STREAMS
+    };
+    let end = End {
+        status: 3,
+        out: b"",
+        err: b"cannot read the input\n",
+    };
+    check_run(&rt, rt.alloc(), &run, &streams, &end)?;
+    let streams = Streams {
+        read: 4,
+        write: 8,
+        failing_writes: &[2],
+        ..WIDE_STREAMS
+    };
+    let end = End {
+        status: 7,
+        out: b"edit 1: ",
+        err: b"cannot write the output\n",
+    };
+    check_run(&rt, rt.alloc(), &run, &streams, &end)?;
     Ok(())
 }

@@ -1,6 +1,6 @@
 //! The program over readers and writers of std.
 use crate::tests::SELECT_ONE;
-use crate::tests::commands::command_line;
+use crate::tests::runs::command_line;
 use crate::{Failed, ReadSource, RunError, Sink, Source, WriteSink, read_all, run, run_streams};
 use std::io;
 use std::io::BufWriter;
@@ -14,7 +14,7 @@ fn writes_the_report_to_a_writer(rt: HostRuntime) -> Result<(), Fail> {
     let mut err = WriteSink::new(Vec::<u8>::new(rt.alloc()));
     let result = run(rt.alloc(), &[], &mut source, &mut out, &mut err);
     assert_eq!(rt; result.status, 0);
-    assert_eq!(rt; written.as_slice(), SELECT_ONE);
+    assert_eq!(rt; written.as_slice(), SELECT_ONE.as_bytes());
     Ok(())
 }
 

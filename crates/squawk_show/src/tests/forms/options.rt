@@ -1,6 +1,7 @@
 //! The commands `split`, `quote`, `squeeze` and `clauses` after each of the options.
-use crate::tests::commands::command_line;
-use crate::{MemorySink, MemorySource, Reading, run};
+use crate::Reading;
+use crate::tests::hostile::same_parse;
+use crate::tests::runs::{End, Run, WIDE_STREAMS, check_run};
 use squawk_clauses::ClauseGrammar;
 use squawk_tree::{Division, Parse, Strings, parse_divided, parse_with_in};
 use std::alloc::Global;
@@ -148,47 +149,50 @@ const OPTIONS: &[Options<'static>] = &[
 ];
 
 // Runs a command after options. It writes this output, and the outcome is this tree.
-fn check_command(
+fn check_command<'a>(
     rt: &impl Abort,
     alloc: Global,
-    options: &Options<'_>,
-    command: &str,
+    options: &Options<'a>,
+    command: &'a str,
     written: &str,
     tree: &Parse,
 ) -> Result<(), Fail> {
-    let mut words = command_line(alloc, options.words)?;
-    words.push(String::from_str(alloc, command)?)?;
-    let mut source = MemorySource::new(alloc, TEXT.as_bytes(), 1000, &[])?;
-    let mut out = MemorySink::new(alloc, 1000, 1000, &[])?;
-    let mut err = MemorySink::new(alloc, 1000, 1000, &[])?;
-    let result = run(alloc, &words, &mut source, &mut out, &mut err);
-    let name = options.name;
-    assert_eq!(rt; result.status, 0, "{command}, {name}");
-    assert_eq!(rt; out.taken(), written.as_bytes(), "{command}, {name}");
-    let parse = result.outcome.ok().ok_or(name)?;
-    assert_eq!(rt; parse.steps(), tree.steps(), "{command}, {name}");
-    assert_eq!(rt; parse.errors(), tree.errors(), "{command}, {name}");
-    assert_eq!(rt; parse.len(), tree.len(), "{command}, {name}");
+    let mut words = Vec::from_slice(alloc, options.words)?;
+    words.push(command)?;
+    let run = Run {
+        name: options.name,
+        words: &words,
+        input: TEXT.as_bytes(),
+    };
+    let end = End {
+        status: 0,
+        out: written.as_bytes(),
+        err: b"",
+    };
+    let ended = check_run(rt, alloc, &run, &WIDE_STREAMS, &end)?;
+    let parse = ended.outcome.ok().ok_or(options.name)?;
+    assert!(rt; same_parse(&parse, tree), "{command}, {}", options.name);
     Ok(())
+}
+
+// Checks each command after options.
+fn check_options(rt: &impl Abort, alloc: Global, options: &Options<'_>) -> Result<(), Fail> {
+    let Reading { strings, division } = options.reading;
+    let plain = parse_divided(alloc, TEXT, strings, division);
+    let plain = plain.ok().ok_or("no memory")?;
+    let grammar = ClauseGrammar::new(division);
+    let clauses = parse_with_in(alloc, TEXT, strings, &grammar);
+    let clauses = clauses.ok().ok_or("no memory")?;
+    check_command(rt, alloc, options, "split", options.pieces, &plain)?;
+    check_command(rt, alloc, options, "quote", QUOTES, &plain)?;
+    check_command(rt, alloc, options, "squeeze", options.squeezed, &plain)?;
+    check_command(rt, alloc, options, "clauses", options.clauses, &clauses)
 }
 
 #[test]
 fn commands_follow_options(rt: HostRuntime) -> Result<(), Fail> {
     for options in OPTIONS {
-        let Reading { strings, division } = options.reading;
-        let plain = parse_divided(rt.alloc(), TEXT, strings, division);
-        let plain = plain.ok().ok_or("no memory")?;
-        let grammar = ClauseGrammar::new(division);
-        let clauses = parse_with_in(rt.alloc(), TEXT, strings, &grammar);
-        let clauses = clauses.ok().ok_or("no memory")?;
-        for (command, written, tree) in [
-            ("split", options.pieces, &plain),
-            ("quote", QUOTES, &plain),
-            ("squeeze", options.squeezed, &plain),
-            ("clauses", options.clauses, &clauses),
-        ] {
-            check_command(&rt, rt.alloc(), options, command, written, tree)?;
-        }
+        check_options(&rt, rt.alloc(), options)?;
     }
     Ok(())
 }

@@ -1,5 +1,5 @@
 //! Brackets and quotes in one another, and as deep as a text can have them.
-use super::{MANY, READINGS, Row, check_in_readings, edited_parse, same_parse, whole_parse};
+use super::{MANY, NamedReading, READINGS, Row, check_rows, checked_parse};
 use crate::{MemorySink, ReportMemory, write_report};
 use std::alloc::Global;
 use std::process::Abort;
@@ -305,19 +305,31 @@ const NESTED: &[Nested<'static>] = &[
     },
 ];
 
-// Checks the report of a text in each reading, and that an edit of an empty document has the same
-// parse.
+// Checks the report of a text in a reading.
+fn check_report(
+    rt: &impl Abort,
+    alloc: Global,
+    row: &Nested<'_>,
+    named: &NamedReading<'_>,
+) -> Result<(), Fail> {
+    let parse = checked_parse(rt, alloc, row.name, row.text, named)?;
+    let memory = ReportMemory::new(alloc, parse.steps().len())?;
+    let mut sink = MemorySink::new(alloc, 10_000, 10_000, &[])?;
+    let written = write_report(&mut sink, b"", &parse, memory);
+    written.ok().ok_or(row.name)?;
+    assert_eq!(rt;
+        sink.taken(),
+        row.report.as_bytes(),
+        "{}, {}",
+        row.name,
+        named.name
+    );
+    Ok(())
+}
+
 fn check_nested(rt: &impl Abort, alloc: Global, row: &Nested<'_>) -> Result<(), Fail> {
     for named in READINGS {
-        let parse = whole_parse(alloc, row.text, named.reading)?;
-        let memory = ReportMemory::new(alloc, parse.steps().len())?;
-        let mut sink = MemorySink::new(alloc, 10_000, 10_000, &[])?;
-        let (name, read) = (row.name, named.name);
-        let result = write_report(&mut sink, b"", &parse, memory);
-        assert!(rt; result.is_ok(), "{name}, {read}");
-        assert_eq!(rt; sink.taken(), row.report.as_bytes(), "{name}, {read}");
-        let edited = edited_parse(alloc, row.text, named.reading)?;
-        assert!(rt; same_parse(&parse, &edited), "{name}, {read}");
+        check_report(rt, alloc, row, named)?;
     }
     Ok(())
 }
@@ -447,8 +459,5 @@ const DEEP: &[Row<'static>] = &[
 
 #[test]
 fn brackets_and_quotes_nest_deeply(rt: HostRuntime) -> Result<(), Fail> {
-    for row in DEEP {
-        check_in_readings(&rt, rt.alloc(), row)?;
-    }
-    Ok(())
+    check_rows(&rt, rt.alloc(), DEEP)
 }

@@ -1,9 +1,35 @@
 //! Short texts: each is parsed at once, and by a document that takes its characters one by one.
 use super::{READINGS, empty_document, same_parse, whole_parse};
 use crate::Reading;
+use squawk_cut::PlainFront;
+use squawk_document::Document;
 use std::alloc::Global;
 use std::process::Abort;
 use std::test::Fail;
+
+// Puts a character into a document at an offset.
+fn put(
+    alloc: Global,
+    document: &mut Document<PlainFront>,
+    at: usize,
+    character: char,
+) -> Result<(), Fail> {
+    let mut piece = String::new(alloc);
+    piece.push(character)?;
+    document.edit(at, at, piece.as_str()).ok().ok_or("refused")?;
+    Ok(())
+}
+
+// Whether the parse of a document is that of its text.
+fn is_parse_of_text(
+    alloc: Global,
+    document: &Document<PlainFront>,
+    reading: Reading,
+) -> Result<bool, Fail> {
+    let parse = document.parse(alloc).ok().ok_or("no memory")?;
+    let whole = whole_parse(alloc, document.text(), reading)?;
+    Ok(same_parse(&parse, &whole))
+}
 
 // Whether a document that takes the characters of a text one by one, at its end, has the parse of
 // the text; and whether one that takes them at its start has the parse of what it holds then.
@@ -11,24 +37,13 @@ fn parses_by_characters(alloc: Global, text: &str, reading: Reading) -> Result<b
     let mut forward = empty_document(alloc, reading)?;
     let mut backward = empty_document(alloc, reading)?;
     for character in text.chars() {
-        let mut piece = String::new(alloc);
-        piece.push(character)?;
         let end = forward.text().len();
-        forward
-            .edit(end, end, piece.as_str())
-            .ok()
-            .ok_or("refused")?;
-        backward.edit(0, 0, piece.as_str()).ok().ok_or("refused")?;
+        put(alloc, &mut forward, end, character)?;
+        put(alloc, &mut backward, 0, character)?;
     }
-    let parse = forward.parse(alloc).ok().ok_or("no memory")?;
-    let whole = whole_parse(alloc, text, reading)?;
-    let reversed = backward.parse(alloc).ok().ok_or("no memory")?;
-    let whole_reversed = whole_parse(alloc, backward.text(), reading)?;
-    Ok(
-        forward.text() == text
-            && same_parse(&parse, &whole)
-            && same_parse(&reversed, &whole_reversed),
-    )
+    let same = is_parse_of_text(alloc, &forward, reading)?;
+    let same_reversed = is_parse_of_text(alloc, &backward, reading)?;
+    Ok(forward.text() == text && same && same_reversed)
 }
 
 // Checks a text in each reading.

@@ -1,7 +1,5 @@
 //! Tokens of 16 MB, of each form.
-use super::{Row, check_in_readings};
-use std::alloc::Global;
-use std::process::Abort;
+use super::{Row, check_rows};
 use std::test::Fail;
 
 // So many times 64 bytes are 16 MB.
@@ -346,30 +344,22 @@ const NUMBERS_AND_COMMANDS: &[Row<'static>] = &[
     },
 ];
 
-// Checks texts of one token in each reading.
-fn check_tokens(rt: &impl Abort, alloc: Global, rows: &[Row<'_>]) -> Result<(), Fail> {
-    for row in rows {
-        check_in_readings(rt, alloc, row)?;
-    }
-    Ok(())
-}
-
 #[test]
 fn long_words_and_trivia(rt: HostRuntime) -> Result<(), Fail> {
-    check_tokens(&rt, rt.alloc(), WORDS_AND_TRIVIA)
+    check_rows(&rt, rt.alloc(), WORDS_AND_TRIVIA)
 }
 
 #[test]
 fn long_quoted_identifiers(rt: HostRuntime) -> Result<(), Fail> {
-    check_tokens(&rt, rt.alloc(), QUOTED_IDENTIFIERS)
+    check_rows(&rt, rt.alloc(), QUOTED_IDENTIFIERS)
 }
 
 #[test]
 fn long_strings(rt: HostRuntime) -> Result<(), Fail> {
-    check_tokens(&rt, rt.alloc(), STRINGS)
+    check_rows(&rt, rt.alloc(), STRINGS)
 }
 
 #[test]
 fn long_numbers_and_commands(rt: HostRuntime) -> Result<(), Fail> {
-    check_tokens(&rt, rt.alloc(), NUMBERS_AND_COMMANDS)
+    check_rows(&rt, rt.alloc(), NUMBERS_AND_COMMANDS)
 }
