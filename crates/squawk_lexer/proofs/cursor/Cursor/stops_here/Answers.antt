@@ -1,6 +1,5 @@
 use Rattle.std.proofs.Common.{arith}
 use Rattle.std.proofs.lemmas.Bool.Decides.{nat_tests}
-use Rattle.squawk_lexer.specs.Stops.{is_neither}
 use Rattle.squawk_lexer.proofs.StopSteps.{stops_on_byte}
 use Rattle.squawk_lexer.proofs.cursor.Cursor.stops_here.Goals as goal
 
