@@ -1,7 +1,7 @@
 -- The loops that emit a node and all children.
 use Rattle.std.proofs.Common.{◌≡◌, ℕ, zero, suc, ◌+◌, ◌-◌, ◌==◌, ◌<◌, ◌≤◌, Bool, true, false, cond, List, [], ◌∷◌, ◌++◌, length, take, drop, map, slice_range, append_assoc, refl, ap, sym, subst, ◌∙◌, arith}
 use Rattle.std.proofs.Math.Seq.{take-add}
-use Rattle.std.proofs.lemmas.List.{take-append-drop, append-nil, length-append, drop-drop, drop-take, take_rest, drop_all, length-drop, length-take-le}
+use Rattle.std.proofs.lemmas.List.{take-append-drop, append-nil, drop-drop, drop-take, take_rest, drop_all, length-drop, length-take-le}
 use Rattle.std.specs.Prelude.{None, OnOk, Result}
 use Rattle.squawk_events.specs.declared.error.FrontError.{FrontError}
 use Rattle.squawk_events.specs.declared.steps.ParseError.{ParseError}
@@ -20,14 +20,12 @@ use Rattle.squawk_statements.specs.Plain.{child_steps}
 use Rattle.squawk_statements.specs.declared.division.Division.{Division}
 use Rattle.squawk_statements.specs.declared.first.ChildShape.{ChildShape}
 use Rattle.squawk_tree.specs.ChildSteps.{unknown_error, exit_steps, steps_in_groups, nested_steps, body_len, steps_of_node, node_steps, child_error, child_steps_by}
-use Rattle.squawk_tree.specs.ChildSpans.{child_spans, child_spans_from}
 use Rattle.squawk_tree.specs.ChildGrammar.{AreChildSteps, IsFirstNode, IsGrammarOf, child_at, woven_by, woven_children_by, woven_text}
 use Rattle.squawk_tree.specs.ParseOf.{lexed_role, token_steps}
 use Rattle.squawk_tree.proofs.ChildTokenLemmas.{kinds_len, kinds_take, kinds_drop, kinds_roles}
 use Rattle.squawk_tree.proofs.FirstPart.{more_of, first_part, first_tokens}
 use Rattle.squawk_tree.specs.Steps.{without_errors}
 use Rattle.squawk_tree.specs.Walk.{merged_errors, merged_from}
-use Rattle.squawk_tree.specs.declared.children.ChildSpan.{ChildSpan}
 use Rattle.squawk_tree.proofs.ChildErrorLemmas.{error_first}
 use Rattle.squawk_tree.proofs.FirstChildLemmas.{leaf_steps}
 use Rattle.squawk_tree.proofs.ChildShapeLemmas.{shape_is}

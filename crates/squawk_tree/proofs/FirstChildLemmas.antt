@@ -1,36 +1,24 @@
 -- The first child of tokens, by its shape, and the steps of a leaf.
-use Rattle.std.proofs.Common.{◌≡◌, ℕ, zero, suc, ◌+◌, ◌<◌, Bool, true, false, List, [], ◌∷◌, ◌++◌, length, take, map, refl, ap, sym, subst, ◌∙◌, arith}
-use Rattle.std.specs.Prelude.{Option, Some, None}
+use Rattle.std.proofs.Common.{◌≡◌, ℕ, suc, ◌<◌, Bool, true, false, List, [], ◌∷◌, length, take, map, refl, ap, sym, ◌∙◌, arith}
+use Rattle.std.specs.Prelude.{None}
 use Rattle.squawk_events.specs.Kinds.{is_trivia_kind}
 use Rattle.squawk_events.specs.declared.steps.Step.{Step}
-use Rattle.squawk_events.specs.declared.steps.StrStep.{StrStep}
-use Rattle.squawk_events.specs.declared.steps.StrStep.TheVariants as out
 use Rattle.squawk_kinds.specs.Role.{role}
-use Rattle.squawk_lexed.specs.LexedText.{total_len}
 use Rattle.squawk_lexed.specs.LexedToken.{LexedToken}
 use Rattle.squawk_lexed.specs.Stored.{kinds_of}
-use Rattle.squawk_lexed.specs.Weave.{kinds_without_trivia, weave_from}
 use Rattle.squawk_statements.specs.Children.{first_child}
 use Rattle.squawk_statements.specs.First.{child_node, first_shape}
 use Rattle.squawk_statements.specs.Kinds.{role_trivia}
-use Rattle.squawk_statements.specs.Plain.{node_of, unknown_statement_error}
 use Rattle.squawk_statements.specs.declared.division.Division.{Division}
 use Rattle.squawk_statements.specs.declared.first.ChildShape.{ChildShape}
-use Rattle.squawk_tree.specs.ChildSpans.{child_spans_from, node_tokens}
-use Rattle.squawk_tree.specs.ChildGrammar.{AreChildSteps, woven_by}
+use Rattle.squawk_tree.specs.ChildGrammar.{woven_by}
 use Rattle.squawk_tree.specs.ParseOf.{lexed_role, token_steps}
-use Rattle.squawk_tree.specs.Ranges.{node_end}
-use Rattle.squawk_tree.specs.Steps.{closes, only_tokens, without_errors}
-use Rattle.squawk_tree.specs.Taken.{end_after}
-use Rattle.squawk_tree.specs.declared.children.ChildSpan.{ChildSpan}
-use Rattle.squawk_tree.proofs.Balanced.{closes_woven}
+use Rattle.squawk_tree.specs.Steps.{without_errors}
 use Rattle.squawk_tree.proofs.ChildShapeLemmas.{node_is}
 use Rattle.squawk_tree.proofs.ChildTokenLemmas.{kinds_roles, kinds_take}
 use Rattle.squawk_tree.proofs.CutLemmas.{trivia_role}
 use Rattle.squawk_tree.proofs.FirstPart.{more_of, first_tokens}
-use Rattle.squawk_tree.proofs.WovenNode.{after_balanced, after_enter, after_tokens, leaf_by}
-use Rattle.squawk_tree.proofs.LeavesLemmas.{leaves_woven, leaves_kept, never_closed}
-use Rattle.squawk_tree.proofs.RootLemmas.{length_token_steps}
+use Rattle.squawk_tree.proofs.WovenNode.{leaf_by}
 
 -- its tokens are the first and some after it, and its node is that of their kinds
 pub record FirstParts (d : Division) (t : LexedToken) (ts : List LexedToken) (shape : ChildShape)

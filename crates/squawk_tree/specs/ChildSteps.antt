@@ -6,7 +6,7 @@ use Rattle.squawk_events.specs.declared.steps.StrStep.{StrStep}
 use Rattle.squawk_events.specs.declared.steps.StrStep.TheVariants.{Enter, Token, Exit, Error}
 use Rattle.squawk_kinds.specs.Role.{Role, role, Trivia, Semicolon, Terminator, Command, Open, Close, Other}
 use Rattle.squawk_kinds.specs.declared.numbers.TheConstants.Number.{PAREN_EXPR, ERROR}
-use Rattle.squawk_lexed.specs.LexedText.{token_start, total_len}
+use Rattle.squawk_lexed.specs.LexedText.{total_len}
 use Rattle.squawk_lexed.specs.LexedToken.{LexedToken}
 use Rattle.squawk_lexed.specs.Weave.{kinds_without_trivia, weave}
 use Rattle.squawk_statements.specs.Children.{open_groups_after, trimmed_len}
@@ -15,7 +15,6 @@ use Rattle.squawk_statements.specs.declared.division.Division.{Division}
 use Rattle.squawk_statements.specs.declared.first.ChildShape.{ChildShape}
 use Rattle.squawk_tree.specs.ChildGrammar.{woven_children_by}
 use Rattle.squawk_tree.specs.ParseOf.{lexed_role, token_steps}
-use Rattle.squawk_tree.specs.declared.children.ChildSpan.{ChildSpan}
 
 -- the steps of the children of these tokens, the first of which begins at an offset
 abbrev pub woven_children : Division → ℕ → List (List LexedToken) → List StrStep

@@ -1,4 +1,4 @@
-use Rattle.std.proofs.Common.{◌≡◌, ◌∷◌, ◌+◌, ◌<◌, drop, length, ap, sym, refl, ◌∙◌, arith}
+use Rattle.std.proofs.Common.{◌∷◌, ◌+◌, ◌<◌, drop, length, ap, sym, refl, ◌∙◌, arith}
 use Rattle.std.proofs.lemmas.List.{drop_more}
 use Rattle.squawk_tree.proofs.NodeRangeLemmas.{counts_start}
 use Rattle.squawk_tree.proofs.SpanLemmas.{so_far_start, so_far_step, spans_counted}
