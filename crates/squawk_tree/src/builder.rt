@@ -17,7 +17,7 @@ use std::alloc::{AllocError, Global};
 // for so many tokens.
 const TOKENS_PER_NODE_STEP: usize = 4;
 
-/// A tree while it is built: the steps so far, and what a `Parse` keeps beside them.
+/// A tree while it is built: the steps so far, and the ranges of its nodes.
 ///
 /// `parse_children` makes it and hands it to a `ChildGrammar`.
 // Counts may be missing for the steps after the last `Enter` or `Exit`: up to the next one they are
