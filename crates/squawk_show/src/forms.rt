@@ -25,7 +25,7 @@ use squawk_tree::laws::parses_have_the_tokens;
 use squawk_tree::{Parse, parse_statements};
 use std::alloc::{AllocError, Global};
 
-// Makes the tree of a text with these tokens, which are freed on the way.
+// Makes the tree of a text with these tokens.
 fn parse_plain(alloc: Global, lexed: LexedStr<'_>, reading: Reading) -> Result<Parse, FrontError>
     requires lexed { lexed ≡ lexed_text reading.strings lexed.text }
     requires within { length lexed.text ≤ limit }
@@ -58,7 +58,8 @@ fn parse_with_clauses(
     parse_clauses(alloc, lexed, reading.division)
 }
 
-// Makes the tree that goes with a form of a text with these tokens.
+// Makes the tree that goes with a form of a text with these tokens. Takes the tokens, as
+// `parse_children` does.
 fn parse_form(
     alloc: Global,
     lexed: LexedStr<'_>,

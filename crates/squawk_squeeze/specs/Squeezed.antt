@@ -103,8 +103,8 @@ IsUnchangedBySqueezing strings out = squeezed_text strings (chars out) ≡ chars
 
 -- ---- what `squeeze_lexed` returns
 
--- A property of a reading of strings, a text and the bytes of a result. It holds if there is a
--- result, for each reading and text whose tokens these are.
+-- If there is a result, its bytes have this property, for each reading of strings and each text
+-- whose tokens these are.
 abbrev pub OfItsText : LexedText → Result (String Global) FrontError
     → (Strings → List ℕ → List ℕ → Type 0) → Type 0
 OfItsText lexed result Property =

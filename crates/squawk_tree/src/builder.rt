@@ -6,7 +6,7 @@ ghost use Rattle.squawk_tree.specs.Built.{end_of_last, AreCountsSoFar, IsBuilt, 
 ghost use Rattle.squawk_tree.specs.NodeRanges.{node_step_count, stride};
 ghost use Rattle.squawk_tree.specs.Tree.{IsTree};
 
-use crate::children::children_of;
+use crate::children::child_spans;
 use crate::parse::{Parse, TreeParts};
 use crate::spans::{STRIDE, add_step};
 use crate::tables::Tables;
@@ -17,7 +17,8 @@ use std::alloc::{AllocError, Global};
 // for so many tokens.
 const TOKENS_PER_NODE_STEP: usize = 4;
 
-/// A tree while it is built: the steps so far, and the ranges of its nodes.
+/// A tree while it is built: the steps so far, and the ranges of its nodes with the counts to find
+/// them.
 ///
 /// `parse_children` makes it and hands it to a `ChildGrammar`.
 // Counts may be missing for the steps after the last `Enter` or `Exit`: up to the next one they are
@@ -143,7 +144,9 @@ impl TreeBuilder {
     {
         let mut counts = self.counts;
         fill_counts(&mut counts, self.steps.len(), self.spans.len())?;
-        let children = children_of(alloc, &self.steps, self.spans.len())?;
+        // In most SQL a child is a statement with white space after it: there is about one child
+        // for each `Enter` or `Exit`.
+        let children = child_spans(alloc, &self.steps, self.spans.len())?;
         let parts = TreeParts {
             steps: self.steps,
             errors,

@@ -1,6 +1,6 @@
 //! The parse into statements, child by child: the steps of each child of the root are emitted with
-//! its trivia, without the steps of a grammar or a list of the kinds that are not trivia. The ranges
-//! of the nodes are found with them, and the children of the root at the end.
+//! its trivia, without the steps of a grammar or a list of the kinds that are not trivia. The
+//! ranges of the nodes are found with them, and the children of the root at the end.
 ghost use Rattle.std.specs.Prelude.{◌≡◌, ◌≤◌, ◌<◌, ◌+◌, ◌-◌, ◌^◌, ◌++◌, ◌∷◌, [], if◌then◌else◌, length, map, take, drop, slice_range, OnOk, IfOk, IfErr, IsTrue};
 ghost use Rattle.squawk_events.specs.Refusals.{IsOutOfMemory};
 ghost use Rattle.squawk_kinds.specs.Role.{role};

@@ -172,7 +172,7 @@ fn children_with_room(alloc: Global, room: usize) -> Vec<ChildSpan>
 }
 
 // The root's children, in a list that has room for `room` of them from the start.
-pub(crate) fn children_of(
+pub(crate) fn child_spans(
     alloc: Global,
     steps: &[StrStep],
     room: usize,

@@ -1,11 +1,11 @@
-//! What a tree keeps beside its steps, found in passes over them.
+//! What a tree keeps beside its steps, found in two passes over them.
 ghost use Rattle.std.specs.Prelude.{◌≡◌, ◌+◌, ◌<◌, ◌^◌, ℕ, List, OnOk, IfOk, IsTrue, [], take};
 ghost use Rattle.squawk_events.specs.declared.steps.StrStep.{StrStep as Given};
 ghost use Rattle.squawk_tree.specs.ChildSpans.{child_spans};
 ghost use Rattle.squawk_tree.specs.NodeRanges.{node_step_count, node_ranges, AreNodeStepCounts, AreCountsUpTo};
 ghost use Rattle.squawk_tree.specs.Steps.{is_balanced};
 
-use crate::children::{ChildSpan, children_of};
+use crate::children::{ChildSpan, child_spans};
 use crate::spans::{STRIDE, add_step};
 use squawk_events::StrStep;
 use std::alloc::{AllocError, Global};
@@ -51,7 +51,7 @@ pub(crate) fn tables_of(
         push_count(&mut counts, i, spans.len())?;
         at = add_step(&mut spans, &mut open_nodes, at, steps[i])?;
     }
-    let children = children_of(alloc, steps, node_steps)?;
+    let children = child_spans(alloc, steps, node_steps)?;
     Ok(Tables {
         spans,
         counts,

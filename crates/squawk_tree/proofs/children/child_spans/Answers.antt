@@ -3,7 +3,7 @@ use Rattle.std.proofs.lemmas.List.{drop_more}
 use Rattle.squawk_tree.specs.ChildPass.{remaining, depth}
 use Rattle.squawk_tree.specs.Steps.{closes}
 use Rattle.squawk_tree.proofs.SpanChildren.{root_first}
-use Rattle.squawk_tree.proofs.children.children_of.Goals as goal
+use Rattle.squawk_tree.proofs.children.child_spans.Goals as goal
 
 pub loop-i-init : goal.loop-i-init
 loop-i-init c =

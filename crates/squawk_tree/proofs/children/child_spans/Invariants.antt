@@ -3,7 +3,7 @@ use Rattle.std.specs.Prelude.{IsTrue}
 use Rattle.squawk_tree.specs.ChildPass.{remaining, depth, IsCounted}
 use Rattle.squawk_tree.specs.ChildSpans.{child_spans}
 use Rattle.squawk_tree.specs.Steps.{closes}
-use Rattle.squawk_tree.proofs.children.children_of.Given as goal
+use Rattle.squawk_tree.proofs.children.child_spans.Given as goal
 
 -- the children that were completed, and those that the steps that are left complete, are all
 abbrev pub invariant-loop-i : goal.invariant-loop-i
