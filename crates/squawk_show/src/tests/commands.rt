@@ -116,9 +116,9 @@ fn check_words<'a>(
         failing_reads: &[1],
         ..WIDE_STREAMS
     };
-    let ended = check_run(rt, alloc, &run, &streams, end)?;
+    let result = check_run(rt, alloc, &run, &streams, end)?;
     assert!(rt;
-        ended.left.as_slice() == run.input && ended.read_faults == 0,
+        result.left.as_slice() == run.input && result.read_faults == 0,
         "{name}"
     );
     Ok(())

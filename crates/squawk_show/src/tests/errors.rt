@@ -156,8 +156,8 @@ fn check_row(rt: &impl Abort, alloc: Global, row: &Row<'_>) -> Result<(), Fail> 
         words: &[],
         input: row.text.as_bytes(),
     };
-    let ended = run_over(rt, alloc, &run, &WIDE_STREAMS)?;
-    let report = ended.report().ok_or(row.name)?;
+    let result = run_over(rt, alloc, &run, &WIDE_STREAMS)?;
+    let report = result.report().ok_or(row.name)?;
     assert_eq!(rt; error_lines(report), row.lines, "{}", row.name);
     Ok(())
 }

@@ -87,7 +87,8 @@ const CLAUSES: Command<'static> = Command {
         3 T `select` 0..6\n",
 };
 
-// Checks a command over streams: a status and error line, and so many bytes of its output.
+// Runs a command over streams. Checks its status, how many bytes of its output it writes, and the
+// error line.
 fn check_command(
     rt: &impl Abort,
     alloc: Global,
@@ -137,8 +138,7 @@ fn each_read_fails(rt: HostRuntime) -> Result<(), Fail> {
     Ok(())
 }
 
-// Checks a run that writes so many bytes of its output, and has no room for more or cannot write
-// more if there are more.
+// Checks a run that writes this many bytes of its output: if that is not all, it ends with status 7.
 fn check_written(
     rt: &impl Abort,
     alloc: Global,
@@ -197,7 +197,7 @@ fn little_room(rt: HostRuntime) -> Result<(), Fail> {
 }
 
 // A run that ends with an error: its status, and the line on `err`.
-struct Refusal<'a> {
+struct FailedRun<'a> {
     name: &'a str,
     words: &'a [&'a str],
     input: &'a [u8],
@@ -207,8 +207,8 @@ struct Refusal<'a> {
     line: &'a str,
 }
 
-const REFUSALS: &[Refusal<'static>] = &[
-    Refusal {
+const FAILED_RUNS: &[FailedRun<'static>] = &[
+    FailedRun {
         name: "not_utf8",
         words: &[],
         input: b"\xff",
@@ -217,7 +217,7 @@ const REFUSALS: &[Refusal<'static>] = &[
         status: 4,
         line: NOT_UTF8_LINE,
     },
-    Refusal {
+    FailedRun {
         name: "bad_words",
         words: &["x"],
         input: b"",
@@ -226,7 +226,7 @@ const REFUSALS: &[Refusal<'static>] = &[
         status: 2,
         line: BAD_WORDS_LINE,
     },
-    Refusal {
+    FailedRun {
         name: "read_fails",
         words: &[],
         input: b"",
@@ -235,7 +235,7 @@ const REFUSALS: &[Refusal<'static>] = &[
         status: 3,
         line: READ_LINE,
     },
-    Refusal {
+    FailedRun {
         name: "write_fails",
         words: &[],
         input: b"",
@@ -244,7 +244,7 @@ const REFUSALS: &[Refusal<'static>] = &[
         status: 7,
         line: WRITE_LINE,
     },
-    Refusal {
+    FailedRun {
         name: "bad_script",
         words: &["replay"],
         input: b"x",
@@ -253,7 +253,7 @@ const REFUSALS: &[Refusal<'static>] = &[
         status: 8,
         line: "bad script at 0\n",
     },
-    Refusal {
+    FailedRun {
         name: "bad_range",
         words: &["replay"],
         input: b"@1 1 0\n\n",
@@ -266,7 +266,7 @@ const REFUSALS: &[Refusal<'static>] = &[
 
 // Each write of the error line takes one byte and fails in turn. The status stays, and `err` has
 // the bytes before that write.
-fn check_refusal(rt: &impl Abort, alloc: Global, row: &Refusal<'_>) -> Result<(), Fail> {
+fn check_failed_run(rt: &impl Abort, alloc: Global, row: &FailedRun<'_>) -> Result<(), Fail> {
     for before in 0..row.line.len().saturating_add(1) {
         let failing = [(before as u64).saturating_add(1)];
         let run = Run {
@@ -292,8 +292,8 @@ fn check_refusal(rt: &impl Abort, alloc: Global, row: &Refusal<'_>) -> Result<()
 
 #[test]
 fn each_write_of_the_error_line_fails(rt: HostRuntime) -> Result<(), Fail> {
-    for row in REFUSALS {
-        check_refusal(&rt, rt.alloc(), row)?;
+    for row in FAILED_RUNS {
+        check_failed_run(&rt, rt.alloc(), row)?;
     }
     Ok(())
 }
@@ -360,9 +360,9 @@ fn written(
         room: 200_000,
         ..WIDE_STREAMS
     };
-    let ended = run_over(rt, alloc, &run, &streams)?;
-    assert_eq!(rt; ended.status, status, "{}, write {failing:?}", row.name);
-    Ok(ended.out)
+    let result = run_over(rt, alloc, &run, &streams)?;
+    assert_eq!(rt; result.status, status, "{}, write {failing:?}", row.name);
+    Ok(result.out)
 }
 
 // Each write of a long output but the first fails in turn. What the sink has taken then begins the
@@ -373,10 +373,10 @@ fn check_long(rt: &impl Abort, alloc: Global, row: &Long<'_>) -> Result<(), Fail
     let mut failing = 1u64;
     for &taken in row.taken {
         failing = failing.saturating_add(1);
-        let begun = written(rt, alloc, row, &[failing], 7)?;
-        assert_eq!(rt; begun.len(), taken, "{}, write {failing}", row.name);
+        let prefix = written(rt, alloc, row, &[failing], 7)?;
+        assert_eq!(rt; prefix.len(), taken, "{}, write {failing}", row.name);
         assert!(rt;
-            whole.as_slice().starts_with(begun.as_slice()),
+            whole.as_slice().starts_with(prefix.as_slice()),
             "{}, write {failing}",
             row.name
         );

@@ -155,7 +155,8 @@ struct Row<'a> {
 
 const MOST_CHILDREN: usize = 3;
 
-// Whether a parse in a reading is that of `parse_source`, which has a reading of its own.
+// Whether a parse is that of `parse_source`, which has one reading. In the other readings there is
+// nothing to compare, and it is true.
 fn agrees_with_source(
     alloc: Global,
     text: &str,
@@ -169,8 +170,8 @@ fn agrees_with_source(
     Ok(true)
 }
 
-// Parses a text in a reading. Checks that an edit of an empty document has the same parse, and so
-// has `parse_source`.
+// Parses a text in a reading. Checks that an edit of an empty document and, in its reading,
+// `parse_source` have the same parse.
 fn checked_parse(
     rt: &impl Abort,
     alloc: Global,
@@ -214,7 +215,7 @@ fn check_in_readings(rt: &impl Abort, alloc: Global, row: &Row<'_>) -> Result<()
     Ok(())
 }
 
-fn check_rows(rt: &impl Abort, alloc: Global, rows: &[Row<'_>]) -> Result<(), Fail> {
+fn check_texts(rt: &impl Abort, alloc: Global, rows: &[Row<'_>]) -> Result<(), Fail> {
     for row in rows {
         check_in_readings(rt, alloc, row)?;
     }
@@ -353,5 +354,5 @@ const ROWS: &[Row<'static>] = &[
 
 #[test]
 fn hostile_texts_parse_alike(rt: HostRuntime) -> Result<(), Fail> {
-    check_rows(&rt, rt.alloc(), ROWS)
+    check_texts(&rt, rt.alloc(), ROWS)
 }

@@ -18,6 +18,7 @@ pub(crate) struct Streams<'a> {
     pub(crate) failing_error_writes: &'a [u64],
 }
 
+// Streams that move 1000 bytes at a time and do not fail.
 pub(crate) const WIDE_STREAMS: Streams<'static> = Streams {
     read: 1000,
     failing_reads: &[],
@@ -47,7 +48,7 @@ pub(crate) struct End<'a> {
 // What a run left: its status and outcome, the bytes that `out` and `err` took, those that the
 // source has left, and how often the source and `out` failed.
 #[derive(Drop)]
-pub(crate) struct Ended {
+pub(crate) struct RunResult {
     pub(crate) status: u8,
     pub(crate) outcome: Result<Parse, RunError>,
     pub(crate) out: Vec<u8>,
@@ -57,7 +58,7 @@ pub(crate) struct Ended {
     pub(crate) write_faults: u64,
 }
 
-impl Ended {
+impl RunResult {
     fn end(&self) -> End<'_> {
         End {
             status: self.status,
@@ -94,19 +95,24 @@ pub(crate) fn command_line(alloc: Global, words: &[&str]) -> Result<Vec<String>,
 pub(crate) fn run_over(
     rt: &impl Abort,
     alloc: Global,
-    of: &Run<'_>,
+    program_run: &Run<'_>,
     streams: &Streams<'_>,
-) -> Result<Ended, Fail> {
+) -> Result<RunResult, Fail> {
     assert!(rt; streams.read > 0 && streams.write > 0 && streams.error_write > 0);
-    let words = command_line(alloc, of.words)?;
-    let mut source = MemorySource::new(alloc, of.input, streams.read, streams.failing_reads)?;
+    let words = command_line(alloc, program_run.words)?;
+    let mut source = MemorySource::new(
+        alloc,
+        program_run.input,
+        streams.read,
+        streams.failing_reads,
+    )?;
     let mut out = MemorySink::new(alloc, streams.room, streams.write, streams.failing_writes)?;
     let failing = streams.failing_error_writes;
     let mut err = MemorySink::new(alloc, 1000, streams.error_write, failing)?;
-    let shown = run(alloc, &words, &mut source, &mut out, &mut err);
-    Ok(Ended {
-        status: shown.status,
-        outcome: shown.outcome,
+    let result = run(alloc, &words, &mut source, &mut out, &mut err);
+    Ok(RunResult {
+        status: result.status,
+        outcome: result.outcome,
         out: Vec::from_slice(alloc, out.taken())?,
         err: Vec::from_slice(alloc, err.taken())?,
         left: Vec::from_slice(alloc, source.left())?,
@@ -119,18 +125,23 @@ pub(crate) fn run_over(
 pub(crate) fn check_run(
     rt: &impl Abort,
     alloc: Global,
-    of: &Run<'_>,
+    program_run: &Run<'_>,
     streams: &Streams<'_>,
     end: &End<'_>,
-) -> Result<Ended, Fail> {
-    let ended = run_over(rt, alloc, of, streams)?;
+) -> Result<RunResult, Fail> {
+    let result = run_over(rt, alloc, program_run, streams)?;
     let name = format!(in alloc;
-        "{}, {:?}, reads {:?} and writes {:?} fail",
-        of.name, of.words, streams.failing_reads, streams.failing_writes
+        "{}, {:?}, reads {:?}, writes {:?} and error writes {:?} fail, room {}",
+        program_run.name,
+        program_run.words,
+        streams.failing_reads,
+        streams.failing_writes,
+        streams.failing_error_writes,
+        streams.room
     )?;
-    assert_eq!(rt; ended.end(), *end, "{name}");
-    assert!(rt; ended.has_faults_of_its_status(), "{name}");
-    Ok(ended)
+    assert_eq!(rt; result.end(), *end, "{name}");
+    assert!(rt; result.has_faults_of_its_status(), "{name}");
+    Ok(result)
 }
 
 // An input of the program, and the whole output for it.
@@ -157,8 +168,8 @@ fn check_row<'a>(
         out: row.out.as_bytes(),
         err: b"",
     };
-    let ended = check_run(rt, alloc, &run, &WIDE_STREAMS, &end)?;
-    assert!(rt; ended.left.is_empty(), "{}", row.name);
+    let result = check_run(rt, alloc, &run, &WIDE_STREAMS, &end)?;
+    assert!(rt; result.left.is_empty(), "{}", row.name);
     Ok(())
 }
 

@@ -169,8 +169,8 @@ fn check_command<'a>(
         out: written.as_bytes(),
         err: b"",
     };
-    let ended = check_run(rt, alloc, &run, &WIDE_STREAMS, &end)?;
-    let parse = ended.outcome.ok().ok_or(options.name)?;
+    let result = check_run(rt, alloc, &run, &WIDE_STREAMS, &end)?;
+    let parse = result.outcome.ok().ok_or(options.name)?;
     assert!(rt; same_parse(&parse, tree), "{command}, {}", options.name);
     Ok(())
 }

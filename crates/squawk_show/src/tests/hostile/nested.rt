@@ -1,5 +1,5 @@
 //! Brackets and quotes in one another, and as deep as a text can have them.
-use super::{MANY, NamedReading, READINGS, Row, check_rows, checked_parse};
+use super::{MANY, NamedReading, READINGS, Row, check_texts, checked_parse};
 use crate::{MemorySink, ReportMemory, write_report};
 use std::alloc::Global;
 use std::process::Abort;
@@ -459,5 +459,5 @@ const DEEP: &[Row<'static>] = &[
 
 #[test]
 fn brackets_and_quotes_nest_deeply(rt: HostRuntime) -> Result<(), Fail> {
-    check_rows(&rt, rt.alloc(), DEEP)
+    check_texts(&rt, rt.alloc(), DEEP)
 }

@@ -1,5 +1,5 @@
 //! Tokens of 16 MB, of each form.
-use super::{Row, check_rows};
+use super::{Row, check_texts};
 use std::test::Fail;
 
 // So many times 64 bytes are 16 MB.
@@ -346,20 +346,20 @@ const NUMBERS_AND_COMMANDS: &[Row<'static>] = &[
 
 #[test]
 fn long_words_and_trivia(rt: HostRuntime) -> Result<(), Fail> {
-    check_rows(&rt, rt.alloc(), WORDS_AND_TRIVIA)
+    check_texts(&rt, rt.alloc(), WORDS_AND_TRIVIA)
 }
 
 #[test]
 fn long_quoted_identifiers(rt: HostRuntime) -> Result<(), Fail> {
-    check_rows(&rt, rt.alloc(), QUOTED_IDENTIFIERS)
+    check_texts(&rt, rt.alloc(), QUOTED_IDENTIFIERS)
 }
 
 #[test]
 fn long_strings(rt: HostRuntime) -> Result<(), Fail> {
-    check_rows(&rt, rt.alloc(), STRINGS)
+    check_texts(&rt, rt.alloc(), STRINGS)
 }
 
 #[test]
 fn long_numbers_and_commands(rt: HostRuntime) -> Result<(), Fail> {
-    check_rows(&rt, rt.alloc(), NUMBERS_AND_COMMANDS)
+    check_texts(&rt, rt.alloc(), NUMBERS_AND_COMMANDS)
 }
