@@ -144,9 +144,10 @@ impl TreeBuilder {
     {
         let mut counts = self.counts;
         fill_counts(&mut counts, self.steps.len(), self.spans.len())?;
-        // In most SQL a child is a statement with white space after it: there is about one child
-        // for each `Enter` or `Exit`.
-        let children = child_spans(alloc, &self.steps, self.spans.len())?;
+        // Each child has a token. A list that grew in the heap would leave memory behind there, so
+        // room for as many children is reserved at once.
+        let tokens = self.steps.len().saturating_sub(self.spans.len());
+        let children = child_spans(alloc, &self.steps, tokens)?;
         let parts = TreeParts {
             steps: self.steps,
             errors,
