@@ -207,16 +207,13 @@ fn divisions(rt: HostRuntime) -> Result<(), Fail> {
 }
 
 // The tokens of a row's text.
-fn cut(alloc: Global, row: &Row) -> Result<LexedStr<'static>, Fail> {
-    Ok(
-        LexedStr::new_in(alloc, row.text, Strings::Standard)
-            .ok()
-            .ok_or(row.name)?,
-    )
+fn cut<'a>(alloc: Global, row: &Row<'a>) -> Result<LexedStr<'a>, Fail> {
+    let lexed = LexedStr::new_in(alloc, row.text, Strings::Standard);
+    Ok(lexed.ok().ok_or(row.name)?)
 }
 
 // Compares with a row the trees of its tokens, by both functions that take tokens.
-fn check_tokens(rt: &impl Abort, alloc: Global, row: &Row) -> Result<(), Fail> {
+fn check_tokens(rt: &impl Abort, alloc: Global, row: &Row<'_>) -> Result<(), Fail> {
     let parse = parse_statements(alloc, cut(alloc, row)?, Division::Flat)
         .ok()
         .ok_or(row.name)?;
