@@ -138,7 +138,8 @@ fn each_read_fails(rt: HostRuntime) -> Result<(), Fail> {
     Ok(())
 }
 
-// Checks a run that writes this many bytes of its output: if that is not all, it ends with status 7.
+// Checks a run that writes this many bytes of its output: if that is not all, it ends with status
+// 7.
 fn check_written(
     rt: &impl Abort,
     alloc: Global,
