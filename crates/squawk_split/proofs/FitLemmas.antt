@@ -5,12 +5,12 @@ use Rattle.std.proofs.lemmas.Str.{IsUtf8-drop, IsCharBoundary-end, IsCharBoundar
 use Rattle.std.specs.Str.{IsCharBoundary}
 use Rattle.squawk_kinds.specs.Role.{Role, role, is_trivia}
 use Rattle.squawk_lexed.specs.LexedText.{total_len}
-use Rattle.squawk_lexed.specs.LexedToken.{LexedToken}
+use Rattle.squawk_lexed.specs.LexedToken.{LexedToken, lexed_role}
 use Rattle.squawk_lexer.specs.Classes.{line_feed, carriage_return, backslash}
 use Rattle.squawk_lexer.specs.LookAhead.{TextsProgress, TextsRestart}
 use Rattle.squawk_lexer.specs.declared.token.Strings.{Strings}
 use Rattle.squawk_split.specs.CopyData.{full_stop, end_marker_len, copy_data_len}
-use Rattle.squawk_split.specs.Pieces.{role_of, tokens_of, child_piece, first_piece}
+use Rattle.squawk_split.specs.Pieces.{tokens_of, child_piece, first_piece}
 use Rattle.squawk_split.specs.StatementEnds.{next_at}
 use Rattle.squawk_split.specs.declared.pieces.NextPiece.{NextPiece}
 use Rattle.squawk_split.proofs.TokenSteps.{begins, after}
@@ -112,15 +112,15 @@ statement_some d n f fs i = by (ends_statement d n f)
     by false None = rw i (omega arith)
 
 pub first_len_some : (d : Division) (t : LexedToken) (ts : List LexedToken)
-    → 0 < first_child_len role_of d (t ∷ ts)
+    → 0 < first_child_len lexed_role d (t ∷ ts)
 first_len_some d t ts = by (is_trivia (role t.kind)) (is_single_token (role t.kind)) refl
   where
     by : (b c : Bool) → is_trivia (role t.kind) ≡ b
         → 0 < (cond b trivia_child (cond c single_token
-        (statement d (map role_of (t ∷ ts))))).tokens
+        (statement d (map lexed_role (t ∷ ts))))).tokens
     by true c e = omega arith
     by false true e = omega arith
-    by false false e = statement_some d 0 (role t.kind) (map role_of ts) e
+    by false false e = statement_some d 0 (role t.kind) (map lexed_role ts) e
 
 child_fits : TextsProgress → TextsRestart → (strings : Strings) (d : Division) (at_start : Bool)
     (text : List ℕ) → IsUtf8 text → 0 < length text
@@ -128,9 +128,9 @@ child_fits : TextsProgress → TextsRestart → (strings : Strings) (d : Divisio
 child_fits progress restart strings d at_start text utf8 h =
     let s = begins progress restart strings at_start text utf8 h in
     let us = tokens_of strings false (drop s.first.len text) in
-    let n = first_child_len role_of d (tokens_of strings at_start text) in
-    let n_is : n ≡ first_child_len role_of d (s.first ∷ us) =
-    ap (first_child_len role_of d) s.tokens in
+    let n = first_child_len lexed_role d (tokens_of strings at_start text) in
+    let n_is : n ≡ first_child_len lexed_role d (s.first ∷ us) =
+    ap (first_child_len lexed_role d) s.tokens in
     record {
       some = subst (λ ts. 0 < total_len (take n ts)) (sym s.tokens)
           (some_len n s.first us (subst (λ m. 0 < m) (sym n_is) (first_len_some d s.first us))

@@ -5,10 +5,10 @@ use Rattle.std.proofs.Math.Seq.{take-append_seam, get_or-append_seam}
 use Rattle.squawk_kinds.specs.Role.{Role, role, Trivia, Semicolon, Terminator, Command, Open, Close, Other, is_trivia}
 use Rattle.squawk_kinds.specs.declared.numbers.TheConstants.Number as kind
 use Rattle.squawk_lexed.specs.LexedText.{total_len}
-use Rattle.squawk_lexed.specs.LexedToken.{LexedToken}
+use Rattle.squawk_lexed.specs.LexedToken.{LexedToken, lexed_role}
 use Rattle.squawk_lexed.specs.Weave.{kinds_without_trivia}
 use Rattle.squawk_split.specs.CopyFromStdin.{has_from_stdin, is_copy_from_stdin}
-use Rattle.squawk_split.specs.Pieces.{role_of, first_part, is_copy}
+use Rattle.squawk_split.specs.Pieces.{first_part, is_copy}
 use Rattle.squawk_split.specs.StatementEnds.{start_state, state_after, end_from}
 use Rattle.squawk_split.specs.declared.statements.StatementEnd.{StatementEnd}
 use Rattle.squawk_split.specs.declared.statements.StatementState.{StatementState}
@@ -63,7 +63,7 @@ trimmed_end_is (suc n) at ts = refl
 
 -- no token ends it
 pub record Unclosed (at trimmed : ℕ) (ts : List LexedToken) (r : StatementEnd) : Type 0 where
-  pub end_is : r.end ≡ trimmed_end (trimmed_len (map role_of ts)) at trimmed ts
+  pub end_is : r.end ≡ trimmed_end (trimmed_len (map lexed_role ts)) at trimmed ts
   pub found : r.from_stdin ≡ false
 
 abbrev Reading : StatementState → (at trimmed : ℕ) → List LexedToken → StatementEnd → Option ℕ
@@ -105,7 +105,7 @@ trivia_more s at trimmed t ts r (Some m) is h = record {
   found = h.found;
 }
 trivia_more s at trimmed t ts r None is h = record {
-  end_is = by (trimmed_len (map role_of ts)) h.end_is;
+  end_is = by (trimmed_len (map lexed_role ts)) h.end_is;
   found = h.found;
 }
   where
@@ -135,7 +135,7 @@ other_more s at trimmed t ts r (Some m) is h = record {
       (sym (parens_are_groups s.groups t.kind)));
 }
 other_more s at trimmed t ts r None is h = record {
-  end_is = by (trimmed_len (map role_of ts)) h.end_is;
+  end_is = by (trimmed_len (map lexed_role ts)) h.end_is;
   found = h.found;
 }
   where
@@ -147,7 +147,7 @@ other_more s at trimmed t ts r None is h = record {
 
 pub reads : (d : Division) (s : StatementState) (at trimmed : ℕ) (ts : List LexedToken)
     → Reading s at trimmed ts (end_from d s at trimmed ts)
-    (statement_end d s.groups (map role_of ts))
+    (statement_end d s.groups (map lexed_role ts))
 reads d s at trimmed [] = record { end_is = refl; found = refl }
 reads d s at trimmed (t ∷ ts) =
     by (ends_statement d s.groups (role t.kind)) (is_trivia (role t.kind)) refl refl
@@ -164,18 +164,18 @@ reads d s at trimmed (t ∷ ts) =
     read = end_from d (state_after s t.kind) (at + t.len) (at + t.len) ts
 
     by : (b c : Bool) → ends_statement d s.groups (role t.kind) ≡ b → is_trivia (role t.kind) ≡ c
-        → Reading s (at + t.len) trimmed ts skipped (statement_end d s.groups (map role_of ts))
+        → Reading s (at + t.len) trimmed ts skipped (statement_end d s.groups (map lexed_role ts))
         → Reading (state_after s t.kind) (at + t.len) (at + t.len) ts read
-        (statement_end d (open_groups_after s.groups (role t.kind)) (map role_of ts))
+        (statement_end d (open_groups_after s.groups (role t.kind)) (map lexed_role ts))
         → Reading s at trimmed (t ∷ ts) (cond b ended (cond c skipped read))
         (cond b (Some 1) (option_map suc
-        (statement_end d (open_groups_after s.groups (role t.kind)) (map role_of ts))))
+        (statement_end d (open_groups_after s.groups (role t.kind)) (map lexed_role ts))))
     by true c e i skip next = ends_here d s at t ts e
     by false true e i skip next =
         rw (trivia_keeps_groups s.groups (role t.kind) i) (trivia_more s at trimmed t ts skipped
-        (statement_end d s.groups (map role_of ts)) i skip)
+        (statement_end d s.groups (map lexed_role ts)) i skip)
     by false false e i skip next = other_more s at trimmed t ts read
-        (statement_end d (open_groups_after s.groups (role t.kind)) (map role_of ts)) i next
+        (statement_end d (open_groups_after s.groups (role t.kind)) (map lexed_role ts)) i next
 
 -- ---- a statement
 
@@ -214,12 +214,12 @@ copy_by k last ks body is first =
 -- the first child of tokens that begin a statement
 statement_first : (d : Division) (t : LexedToken) (ts : List LexedToken)
     → is_trivia (role t.kind) ≡ false → is_single_token (role t.kind) ≡ false
-    → first_child d (map role_of (t ∷ ts)) ≡ statement d (map role_of (t ∷ ts))
+    → first_child d (map lexed_role (t ∷ ts)) ≡ statement d (map lexed_role (t ∷ ts))
 statement_first d t ts i s = rw (i, s) refl
 
 by_reading : (d : Division) (at : ℕ) (t : LexedToken) (ts : List LexedToken) (r : StatementEnd)
     (o : Option ℕ) → is_trivia (role t.kind) ≡ false
-    → first_child d (map role_of (t ∷ ts)) ≡ statement_to o (map role_of (t ∷ ts))
+    → first_child d (map lexed_role (t ∷ ts)) ≡ statement_to o (map lexed_role (t ∷ ts))
     → Reading start_state at at (t ∷ ts) r o → IsRead d at t ts r
 by_reading d at t ts r (Some m) i is h = record {
   end_is = h.end_is ∙ ap (λ (c : Child). at + total_len (take c.tokens (t ∷ ts))) (sym is);
@@ -230,7 +230,7 @@ by_reading d at t ts r (Some m) i is h = record {
       ∙ ap (λ b. eqb t.kind kind.COPY_KW && b) (sym h.found);
 }
 by_reading d at t ts r None i is h = record {
-  end_is = h.end_is ∙ trimmed_end_is (trimmed_len (map role_of (t ∷ ts))) at (t ∷ ts)
+  end_is = h.end_is ∙ trimmed_end_is (trimmed_len (map lexed_role (t ∷ ts))) at (t ∷ ts)
       ∙ ap (λ (c : Child). at + total_len (take c.tokens (t ∷ ts))) (sym is);
   copy_is = ap (λ (c : Child).
       is_copy_from_stdin (kinds_without_trivia (take c.tokens (t ∷ ts))) c.closed) is
@@ -255,7 +255,7 @@ pub statement_is_read : (d : Division) (at : ℕ) (t : LexedToken) (ts : List Le
     (end_from d (state_after start_state t.kind) (at + t.len) (at + t.len) ts)
 statement_is_read d at t ts i s =
     subst (IsRead d at t ts) first_read (by_reading d at t ts (end_from d start_state at at (t ∷ ts))
-    (statement_end d 0 (map role_of (t ∷ ts))) i (statement_first d t ts i s)
+    (statement_end d 0 (map lexed_role (t ∷ ts))) i (statement_first d t ts i s)
     (reads d start_state at at (t ∷ ts)))
   where
     first_read : end_from d start_state at at (t ∷ ts)

@@ -2,9 +2,9 @@
 use Rattle.std.specs.Prelude.{⊤, ◌≡◌, ◌⊎◌, ℕ, ◌+◌, ◌<◌, ◌==◌, Bool, true, false, ◌||◌, List, [], ◌∷◌, ◌++◌, length, drop, slice_range}
 use Rattle.std.specs.Str.{IsCharBoundary}
 use Rattle.squawk_lexed.specs.LexedText.{lexed_text, total_len}
-use Rattle.squawk_lexed.specs.LexedToken.{LexedToken}
+use Rattle.squawk_lexed.specs.LexedToken.{LexedToken, lexed_role}
 use Rattle.squawk_lexer.specs.declared.token.Strings.{Strings}
-use Rattle.squawk_split.specs.Pieces.{role_of, tokens_of, child_kind, copy_data, child_piece, piece_at}
+use Rattle.squawk_split.specs.Pieces.{tokens_of, child_kind, copy_data, child_piece, piece_at}
 use Rattle.squawk_split.specs.declared.pieces.Piece.{Piece}
 use Rattle.squawk_split.specs.declared.pieces.PieceKind.{PieceKind}
 use Rattle.squawk_split.specs.declared.pieces.PieceKind.TheVariants.{Gap, Statement, Command, CopyData}
@@ -61,4 +61,4 @@ child_pieces at (part ∷ rest) =
 -- without COPY data, the pieces are the children of the root
 abbrev pub AreChildrenWithoutData : Strings → Division → List ℕ → List Piece → Type 0
 AreChildrenWithoutData strings division text ps = has_data ps ≡ false
-    → ps ≡ child_pieces 0 (parts role_of division (lexed_text strings text).tokens)
+    → ps ≡ child_pieces 0 (parts lexed_role division (lexed_text strings text).tokens)

@@ -2,9 +2,9 @@
 -- lists of bytes in UTF-8.
 use Rattle.std.specs.Prelude.{ℕ, zero, suc, ◌+◌, ◌-◌, ◌==◌, Bool, true, false, List, [], ◌∷◌, map, take}
 use Rattle.std.specs.Str.{chars}
-use Rattle.squawk_kinds.specs.Role.{Role, role, Trivia, Semicolon, Terminator, Command, Open, Close, Other}
+use Rattle.squawk_kinds.specs.Role.{Role, Trivia, Semicolon, Terminator, Command, Open, Close, Other}
 use Rattle.squawk_lexed.specs.LexedText.{lexed_tokens, total_len}
-use Rattle.squawk_lexed.specs.LexedToken.{LexedToken}
+use Rattle.squawk_lexed.specs.LexedToken.{LexedToken, lexed_role}
 use Rattle.squawk_lexed.specs.Weave.{kinds_without_trivia}
 use Rattle.squawk_lexer.specs.Cut.{tokens_from}
 use Rattle.squawk_lexer.specs.declared.token.Strings.{Strings}
@@ -18,10 +18,6 @@ use Rattle.squawk_statements.specs.declared.division.Division.{Division}
 
 -- ---- the first child of a text
 
--- the role of a token in the division into statements
-abbrev pub role_of : LexedToken → Role
-role_of t = role t.kind
-
 -- The tokens of a text, with the kinds of their leaves. `at_start` says that the script begins with
 -- the text, so that a byte order mark is white space.
 abbrev pub tokens_of : Strings → (at_start : Bool) → List ℕ → List LexedToken
@@ -29,13 +25,13 @@ tokens_of strings at_start text = lexed_tokens text 0 (tokens_from strings 0 at_
 
 -- the tokens of the first child
 abbrev pub first_part : Division → List LexedToken → List LexedToken
-first_part division ts = take (first_child_len role_of division ts) ts
+first_part division ts = take (first_child_len lexed_role division ts) ts
 
 -- whether the first child is a `COPY .. FROM STDIN ..;`
 abbrev pub is_copy : Division → List LexedToken → Bool
 is_copy division ts =
     is_copy_from_stdin (kinds_without_trivia (first_part division ts))
-    (first_child division (map role_of ts)).closed
+    (first_child division (map lexed_role ts)).closed
 
 -- what a child is as a piece, by the role of its first token
 abbrev pub kind_by_role : Role → PieceKind
@@ -50,7 +46,7 @@ kind_by_role Other = piece.Statement
 -- what a child of these tokens is as a piece
 abbrev pub child_kind : List LexedToken → PieceKind
 child_kind [] = piece.Gap
-child_kind (t ∷ ts) = kind_by_role (role_of t)
+child_kind (t ∷ ts) = kind_by_role (lexed_role t)
 
 -- ---- the pieces
 
