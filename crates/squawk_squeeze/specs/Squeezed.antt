@@ -9,7 +9,7 @@ use Rattle.squawk_lexed.specs.LexedText.{LexedText, lexed_text}
 use Rattle.squawk_lexer.specs.declared.token.TokenKind.{TokenKind}
 use Rattle.squawk_lexer.specs.declared.token.TokenKind.TheVariants.{Whitespace}
 use Rattle.squawk_lexer.specs.declared.token.Strings.{Strings}
-use Rattle.squawk_lexer.specs.Classes.{is_line_end, line_feed}
+use Rattle.squawk_lexer.specs.Classes.{is_line_end, line_feed, space}
 use Rattle.squawk_lexer.specs.Token.{lexeme_at}
 use Rattle.squawk_lexer.specs.Cut.{is_trivia}
 use Rattle.squawk_squeeze.specs.declared.text.Squeezer.{Squeezer}
@@ -59,9 +59,6 @@ TriviaRun = Option Bool
 abbrev pub extend_run : TriviaRun → List ℕ → TriviaRun
 extend_run None text = Some (list_any is_line_end text)
 extend_run (Some line_end) text = Some (line_end || list_any is_line_end text)
-
-abbrev pub space : ℕ
-space = 32
 
 -- the character that a run becomes: LF if it has a line end, or else a space
 abbrev pub separator : Bool → ℕ
