@@ -12,12 +12,12 @@ use Rattle.squawk_events.specs.declared.steps.StrStep.TheVariants.{Enter, Token,
 use Rattle.squawk_lexed.specs.Faults.{fault_within, faults_within}
 use Rattle.squawk_lexed.specs.LexedText.{are_sound, total_len}
 use Rattle.squawk_lexed.specs.LexedToken.{LexedToken}
-use Rattle.squawk_lexed.specs.Stored.{errors_at, errors_of}
+use Rattle.squawk_lexed.specs.Stored.{errors_at, errors_of, errors_from}
 use Rattle.squawk_lexed.specs.Weave.{next_len}
 use Rattle.squawk_lexed.specs.declared.fault.Fault.{Fault}
 use Rattle.squawk_tree.specs.Errors.{error}
 use Rattle.squawk_tree.specs.Steps.{has_no_errors}
-use Rattle.squawk_tree.specs.Walk.{step_error, errors_before, errors_not_before, errors_by_step, covers, merged_errors, EndsBelow}
+use Rattle.squawk_tree.specs.Walk.{step_error, errors_before, errors_by_step, covers, merged_errors, EndsBelow}
 
 -- a fault of a sound token begins before the end of the token and ends by it
 pub record InToken (len : ℕ) (f : Fault) : Type 0 where
@@ -67,13 +67,13 @@ none_before end at (t ∷ ts) le = by t.faults (none_before end (at + t.len) ts 
 
 -- all errors of tokens begin at the first of them or after it
 all_from : (end at : ℕ) (ts : List LexedToken) → end ≤ at
-    → errors_not_before end (errors_of at ts) ≡ errors_of at ts
+    → errors_from end (errors_of at ts) ≡ errors_of at ts
 all_from end at [] le = refl
 all_from end at (t ∷ ts) le = by t.faults (all_from end (at + t.len) ts (omega arith))
   where
     by : (fs : List Fault)
-        → errors_not_before end (errors_of (at + t.len) ts) ≡ errors_of (at + t.len) ts
-        → errors_not_before end (errors_at at fs ++ errors_of (at + t.len) ts)
+        → errors_from end (errors_of (at + t.len) ts) ≡ errors_of (at + t.len) ts
+        → errors_from end (errors_at at fs ++ errors_of (at + t.len) ts)
         ≡ errors_at at fs ++ errors_of (at + t.len) ts
     by [] rest = rest
     by (f ∷ fs) rest = let e = starts_after (at + f.start) end (omega arith) in rw e refl
@@ -116,7 +116,7 @@ errors_before_append n (e ∷ es) ys h =
     rw parts.0 (ap (λ zs. e ∷ zs) (errors_before_append n es ys parts.1))
 
 errors_not_before_append : (n : ℕ) (xs ys : List ParseError) → all_before n xs ≡ true
-    → errors_not_before n (xs ++ ys) ≡ errors_not_before n ys
+    → errors_from n (xs ++ ys) ≡ errors_from n ys
 errors_not_before_append n [] ys h = refl
 errors_not_before_append n (e ∷ es) ys h =
     let parts = and_parts (nat_lt e.start n) (all_before n es) h in
@@ -178,7 +178,7 @@ merged_with pending at ts (Error number offset ∷ xs) before h s =
     let appended : errors_before at (pending ++ errors_of at ts) ≡ pending =
     errors_before_append at pending (errors_of at ts) before
     ∙ ap (λ es. pending ++ es) (none_before at at ts (omega arith)) ∙ append-nil pending in
-    let left : errors_not_before at (pending ++ errors_of at ts) ≡ errors_of at ts =
+    let left : errors_from at (pending ++ errors_of at ts) ≡ errors_of at ts =
     errors_not_before_append at pending (errors_of at ts) before
     ∙ all_from at at ts (omega arith) in
     rw (appended, left) (ap (λ es. pending ++ (step_error at ts number ++ es))
@@ -338,13 +338,13 @@ pub so_far_error : (made : List ParseError) (ts : List LexedToken) (token error 
     → made' ≡ made ++ (errors_before (total_len (take token ts)) (drop error (errors_of 0 ts))
     ++ step_error (total_len (take token ts)) (drop token ts) number)
     → drop error' (errors_of 0 ts)
-    ≡ errors_not_before (total_len (take token ts)) (drop error (errors_of 0 ts))
+    ≡ errors_from (total_len (take token ts)) (drop error (errors_of 0 ts))
     → error' ≤ length (errors_of 0 ts) → WalkSoFar made' ts token error' xs all
 so_far_error made ts token error number at xs left all made' error' walk is made_is rest within =
     let start = total_len (take token ts) in
     let us = drop token ts in
     let lexical = drop error (errors_of 0 ts) in
-    let more = merged_errors start us (errors_not_before start lexical) xs in
+    let more = merged_errors start us (errors_from start lexical) xs in
     record {
       merged = rw (made_is, rest) (append_assoc made (errors_before start lexical
           ++ step_error start us number) more

@@ -5,7 +5,7 @@ use Rattle.squawk_events.specs.declared.steps.StrStep.{StrStep}
 use Rattle.squawk_events.specs.declared.steps.StrStep.TheVariants.{Enter, Token, Exit, Error}
 use Rattle.squawk_lexed.specs.LexedToken.{LexedToken}
 use Rattle.squawk_lexed.specs.LexedText.{token_start}
-use Rattle.squawk_lexed.specs.Stored.{errors_at, errors_of}
+use Rattle.squawk_lexed.specs.Stored.{errors_at, errors_of, errors_from}
 use Rattle.squawk_lexed.specs.Weave.{next_len, is_empty}
 use Rattle.squawk_tree.specs.Errors.{error}
 
@@ -46,11 +46,6 @@ abbrev pub errors_before : ℕ → List ParseError → List ParseError
 errors_before end [] = []
 errors_before end (e ∷ es) = if nat_lt e.start end then e ∷ errors_before end es else []
 
--- the remaining errors
-abbrev pub errors_not_before : ℕ → List ParseError → List ParseError
-errors_not_before end [] = []
-errors_not_before end (e ∷ es) = if nat_lt e.start end then errors_not_before end es else e ∷ es
-
 -- whether steps contain all of the tokens from an offset, each `Error` at the start of the next one
 abbrev pub covers : ℕ → List LexedToken → List StrStep → Bool
 covers at ts [] = is_empty ts
@@ -75,7 +70,7 @@ merged_errors at ts lexical (Token kind start end ∷ xs) =
 merged_errors at ts lexical (Exit ∷ xs) = merged_errors at ts lexical xs
 merged_errors at ts lexical (Error number offset ∷ xs) =
     errors_before at lexical
-    ++ (step_error at ts number ++ merged_errors at ts (errors_not_before at lexical) xs)
+    ++ (step_error at ts number ++ merged_errors at ts (errors_from at lexical) xs)
 
 -- the merged errors of the steps that remain, by the indices of the next token and of the next
 -- lexical error

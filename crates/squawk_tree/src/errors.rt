@@ -3,7 +3,7 @@ ghost use Rattle.std.specs.Prelude.{ℕ, List, [], ◌≡◌, ◌≤◌, ◌<◌
 ghost use Rattle.squawk_events.specs.Refusals.{IsOutOfMemory};
 ghost use Rattle.squawk_events.specs.declared.steps.StrStep.{StrStep as Given};
 ghost use Rattle.squawk_lexed.specs.LexedText.{total_len};
-ghost use Rattle.squawk_lexed.specs.Stored.{errors_of};
+ghost use Rattle.squawk_lexed.specs.Stored.{errors_of, errors_from};
 ghost use Rattle.squawk_lexed.specs.Weave.{next_len};
 ghost use Rattle.squawk_tree.specs.ChildSteps.{child_error};
 ghost use Rattle.squawk_tree.specs.Walk as spec;
@@ -35,7 +35,7 @@ fn push_errors_before(
     ensures ok { OnOk result (errors.new.items
         ≡ errors.old.items ++ spec.errors_before end (drop from lexical.now)) }
     ensures rest { IfOk result (λ next. drop next lexical.now
-        ≡ spec.errors_not_before end (drop from lexical.now)) }
+        ≡ errors_from end (drop from lexical.now)) }
     ensures within { IfOk result (λ next. next ≤ length lexical.now) }
     ensures refusals { IfErr result IsOutOfMemory }
 {
@@ -63,7 +63,7 @@ pub(crate) fn push_lexical_errors(
     ensures ok { OnOk result (errors.new.items
         ≡ errors.old.items ++ spec.errors_before end (drop from (errors_of 0 lexed.now.tokens))) }
     ensures rest { IfOk result (λ next. drop next (errors_of 0 lexed.now.tokens)
-        ≡ spec.errors_not_before end (drop from (errors_of 0 lexed.now.tokens))) }
+        ≡ errors_from end (drop from (errors_of 0 lexed.now.tokens))) }
     ensures within { IfOk result (λ next. next ≤ length (errors_of 0 lexed.now.tokens)) }
     ensures refusals { IfErr result IsOutOfMemory }
 {
@@ -121,7 +121,7 @@ fn push_errors_up_to(
         ++ spec.step_error (total_len (take walk.token lexed.now.tokens))
         (drop walk.token lexed.now.tokens) number)) }
     ensures rest { IfOk result (λ next. drop next (errors_of 0 lexed.now.tokens)
-        ≡ spec.errors_not_before (total_len (take walk.token lexed.now.tokens))
+        ≡ errors_from (total_len (take walk.token lexed.now.tokens))
         (drop walk.error (errors_of 0 lexed.now.tokens))) }
     ensures within { IfOk result (λ next. next ≤ length (errors_of 0 lexed.now.tokens)) }
     ensures refusals { IfErr result IsOutOfMemory }
