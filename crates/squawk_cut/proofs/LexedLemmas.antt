@@ -10,13 +10,13 @@ use Rattle.squawk_events.specs.declared.error.FrontError.{FrontError}
 use Rattle.squawk_kinds.specs.Role.{role}
 use Rattle.squawk_lexed.specs.Leaf.{leaf_kind}
 use Rattle.squawk_lexed.specs.LexedText.{LexedText, lexed_tokens, lexed_part}
-use Rattle.squawk_lexed.specs.LexedToken.{LexedToken}
+use Rattle.squawk_lexed.specs.LexedToken.{LexedToken, lexed_role}
 use Rattle.squawk_lexed.specs.Faults.{faults}
 use Rattle.squawk_lexed.specs.Stored as stored
 use Rattle.squawk_lexer.specs.declared.token.Token.{Token}
 use Rattle.squawk_statements.specs.Plain.{plain}
 use Rattle.squawk_statements.specs.declared.division.Division.{Division}
-use Rattle.squawk_tree.specs.ParseOf.{lexed_role, parse_by, parse_of_tokens}
+use Rattle.squawk_tree.specs.ParseOf.{parse_by, parse_of_tokens}
 use Rattle.squawk_tree.specs.Tree.{Tree}
 
 -- the slice of so many bytes from an offset on

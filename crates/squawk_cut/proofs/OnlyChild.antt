@@ -11,7 +11,7 @@ use Rattle.squawk_events.specs.declared.steps.StrStep.{StrStep}
 use Rattle.squawk_events.specs.declared.steps.StrStep.TheVariants.{Enter, Token, Exit, Error}
 use Rattle.squawk_kinds.specs.declared.numbers.TheConstants.Number.{SOURCE_FILE}
 use Rattle.squawk_lexed.specs.LexedText.{CutTokensAreSound, EndAtBoundaries, are_sound}
-use Rattle.squawk_lexed.specs.LexedToken.{LexedToken}
+use Rattle.squawk_lexed.specs.LexedToken.{LexedToken, lexed_role}
 use Rattle.squawk_lexer.specs.Flags.{AreCut}
 use Rattle.squawk_lexer.specs.declared.token.Token as lexer
 use Rattle.squawk_statements.specs.Children.{first_child}
@@ -20,7 +20,7 @@ use Rattle.squawk_statements.specs.declared.division.Division.{Division}
 use Rattle.squawk_statements.specs.declared.first.ChildShape.{ChildShape}
 use Rattle.squawk_tree.specs.Children.{ChildrenAreTrees, IsChildOf, node_of_steps, own_tokens}
 use Rattle.squawk_tree.specs.Join.{ChildTree, child_of, join, shifted_step, shifted_error}
-use Rattle.squawk_tree.specs.ParseOf.{lexed_role, parse_of_tokens}
+use Rattle.squawk_tree.specs.ParseOf.{parse_of_tokens}
 use Rattle.squawk_tree.specs.Steps.{leaves, root_children}
 use Rattle.squawk_tree.specs.Tree.{Tree}
 use Rattle.squawk_cut.proofs.LexedLemmas.{lexed_same, take_text_tokens, length_text_tokens, roles_same, kinds_same}

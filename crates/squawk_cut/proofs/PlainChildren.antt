@@ -9,7 +9,7 @@ use Rattle.squawk_cut.specs.PlainTells.{lexed_of, plain_child, plain_tells}
 use Rattle.squawk_cut.specs.Tells.{TextToken}
 use Rattle.squawk_cut.specs.Tokens.{tokens_of}
 use Rattle.squawk_lexed.specs.LexedText.{CutTokensAreSound, are_sound}
-use Rattle.squawk_lexed.specs.LexedToken.{LexedToken}
+use Rattle.squawk_lexed.specs.LexedToken.{LexedToken, lexed_role}
 use Rattle.squawk_lexer.specs.Cut.{tokens}
 use Rattle.squawk_lexer.specs.Flags.{TokensAreCut}
 use Rattle.squawk_lexer.specs.LookAhead.{TextsProgress, TextsRestart}
@@ -24,13 +24,13 @@ use Rattle.squawk_cut.proofs.PlainTokens.{plain_tokens}
 -- children of tokens, the first `inside` of which belong to a child before them
 children_same : (strings : Strings) (d : Division) (inside : ℕ) (xs : List TextToken)
     → map child_tree (children_from (plain_tells strings d) inside xs)
-    ≡ map (tree.child_of d) (parts_from parse.lexed_role inside d (map lexed_of xs))
+    ≡ map (tree.child_of d) (parts_from lexed_role inside d (map lexed_of xs))
 children_same strings d inside [] = refl
 children_same strings d (suc inside) (x ∷ xs) = children_same strings d inside xs
 children_same strings d zero (x ∷ xs) =
     let all = x ∷ xs in
     let n = (plain_child d all).tokens in
-    let m = (first_child d (map parse.lexed_role (map lexed_of all))).tokens in
+    let m = (first_child d (map lexed_role (map lexed_of all))).tokens in
     let same : n ≡ m = ap (λ roles. (first_child d roles).tokens) (sym (roles_same all)) in
     ap (λ k. tree.child_of d (map lexed_of (take k all))
     ∷ map child_tree (children_from (plain_tells strings d) (k - 1) xs)) same
@@ -43,7 +43,7 @@ children_same strings d zero (x ∷ xs) =
 -- the law that the parse of tokens is the join of its children
 abbrev pub ChildrenJoin : Type 0
 ChildrenJoin = (d : Division) (ts : List LexedToken) → are_sound ts ≡ true
-    → parse.parse_of_tokens d ts ≡ tree.join (map (tree.child_of d) (parts parse.lexed_role d ts))
+    → parse.parse_of_tokens d ts ≡ tree.join (map (tree.child_of d) (parts lexed_role d ts))
 
 -- the join of the children that a plain front tells is the parse of the text
 pub children_join : TextsProgress → TextsRestart → TokensAreCut → CutTokensAreSound → ChildrenJoin
@@ -58,5 +58,5 @@ children_join progress restart cut sound joins strings d text utf8 =
     ap (λ us. tree.join (map child_tree (children_from (plain_tells strings d) 0
     (text_tokens text us)))) told
     ∙ ap tree.join (children_same strings d 0 (text_tokens text ts))
-    ∙ ap (λ us. tree.join (map (tree.child_of d) (parts parse.lexed_role d us))) (sym read)
+    ∙ ap (λ us. tree.join (map (tree.child_of d) (parts lexed_role d us))) (sym read)
     ∙ sym (joins d (parse.tokens_of strings text) (sound text 0 ts (cut strings (chars text))))

@@ -3,9 +3,9 @@ use Rattle.std.proofs.Common.{◌≡◌, ℕ, zero, suc, ◌==◌, ◌≤◌, Bo
 use Rattle.std.proofs.lemmas.List.{length-take-le, take_all, drop_all, take-map}
 use Rattle.std.specs.Prelude.{Option, Some, None, option_map}
 use Rattle.squawk_tree.specs.Join.{child_of, join}
-use Rattle.squawk_tree.specs.ParseOf.{lexed_role, parse_of_tokens}
+use Rattle.squawk_tree.specs.ParseOf.{parse_of_tokens}
 use Rattle.squawk_lexed.specs.LexedText.{are_sound}
-use Rattle.squawk_lexed.specs.LexedToken.{LexedToken}
+use Rattle.squawk_lexed.specs.LexedToken.{LexedToken, lexed_role}
 use Rattle.squawk_kinds.specs.Role.{Role, is_trivia, Trivia, Semicolon, Terminator, Command, Open, Close, Other}
 use Rattle.squawk_statements.specs.Children.{ends_statement, open_groups_after, statement_end, trimmed_len, first_child_len, parts}
 use Rattle.squawk_tree.proofs.FirstPart.{rest_len, more, more_of, first_tokens, first_part}

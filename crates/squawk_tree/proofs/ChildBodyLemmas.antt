@@ -10,7 +10,7 @@ use Rattle.squawk_events.specs.declared.steps.StrStep.TheVariants as out
 use Rattle.squawk_kinds.specs.Role.{Role, role, Trivia, Semicolon, Terminator, Command, Open, Close, Other}
 use Rattle.squawk_kinds.specs.declared.numbers.TheConstants.Number.{PAREN_EXPR}
 use Rattle.squawk_lexed.specs.LexedText.{total_len}
-use Rattle.squawk_lexed.specs.LexedToken.{LexedToken}
+use Rattle.squawk_lexed.specs.LexedToken.{LexedToken, lexed_role}
 use Rattle.squawk_lexed.specs.Stored.{kinds_of}
 use Rattle.squawk_lexed.specs.Weave.{kinds_without_trivia, is_empty, weave_from}
 use Rattle.squawk_statements.specs.Children.{ends_statement, open_groups_after, is_single_token, trimmed_len}
@@ -21,7 +21,7 @@ use Rattle.squawk_statements.specs.Plain.{body_steps, exits, kind_steps, groups_
 use Rattle.squawk_statements.specs.declared.division.Division.{Division}
 use Rattle.squawk_statements.specs.declared.division.Division.TheVariants.{Flat, Grouped}
 use Rattle.squawk_tree.specs.ChildSteps.{exit_steps, nested_steps, steps_in_groups}
-use Rattle.squawk_tree.specs.ParseOf.{lexed_role, token_steps}
+use Rattle.squawk_tree.specs.ParseOf.{token_steps}
 use Rattle.squawk_tree.proofs.CutLemmas.{trivia_role, is_trimmed, is_trimmed_any, trimmed_cut}
 
 -- ---- trivia

@@ -11,7 +11,7 @@ use Rattle.squawk_events.specs.declared.steps.StrStep.TheVariants as out
 use Rattle.squawk_kinds.specs.Role.{Role, role, Trivia, Semicolon, Terminator, Command, Open, Close, Other}
 use Rattle.squawk_kinds.specs.declared.numbers.TheConstants.Number.{ERROR, SOURCE_FILE}
 use Rattle.squawk_lexed.specs.LexedText.{total_len, token_start}
-use Rattle.squawk_lexed.specs.LexedToken.{LexedToken}
+use Rattle.squawk_lexed.specs.LexedToken.{LexedToken, lexed_role}
 use Rattle.squawk_lexed.specs.Stored.{kinds_of, errors_of}
 use Rattle.squawk_lexed.specs.Weave.{kinds_without_trivia, weave}
 use Rattle.squawk_statements.specs.Children.{open_groups_after, parts, first_child, trimmed_len}
@@ -21,7 +21,7 @@ use Rattle.squawk_statements.specs.declared.division.Division.{Division}
 use Rattle.squawk_statements.specs.declared.first.ChildShape.{ChildShape}
 use Rattle.squawk_tree.specs.ChildSteps.{unknown_error, exit_steps, steps_in_groups, nested_steps, body_len, steps_of_node, node_steps, child_error, child_steps_by}
 use Rattle.squawk_tree.specs.ChildGrammar.{AreChildSteps, IsFirstNode, IsGrammarOf, child_at, woven_by, woven_children_by, woven_text}
-use Rattle.squawk_tree.specs.ParseOf.{lexed_role, token_steps}
+use Rattle.squawk_tree.specs.ParseOf.{token_steps}
 use Rattle.squawk_tree.proofs.ChildTokenLemmas.{kinds_len, kinds_take, kinds_drop, kinds_roles}
 use Rattle.squawk_tree.proofs.FirstPart.{more_of, first_part, first_tokens}
 use Rattle.squawk_tree.specs.Steps.{without_errors}

@@ -9,7 +9,7 @@ use Rattle.squawk_events.specs.declared.steps.StrStep.TheVariants as out
 use Rattle.squawk_kinds.specs.Role.{Role, role, is_trivia, Trivia, Semicolon, Terminator, Command, Open, Close, Other}
 use Rattle.squawk_kinds.specs.declared.numbers.TheConstants.Number.{ERROR}
 use Rattle.squawk_lexed.specs.LexedText.{total_len}
-use Rattle.squawk_lexed.specs.LexedToken.{LexedToken}
+use Rattle.squawk_lexed.specs.LexedToken.{LexedToken, lexed_role}
 use Rattle.squawk_lexed.specs.Stored.{kinds_of}
 use Rattle.squawk_lexed.specs.Weave.{kinds_without_trivia, weave_from}
 use Rattle.squawk_statements.specs.Children.{ends_statement, open_groups_after, is_single_token, statement_end, statement_to, statement, first_child, trimmed_len, Child, trivia_child, single_token}
@@ -22,7 +22,7 @@ use Rattle.squawk_statements.specs.declared.division.Division.{Division}
 use Rattle.squawk_statements.specs.declared.first.ChildShape.{ChildShape}
 use Rattle.squawk_tree.specs.ChildSteps.{nested_steps, unknown_error, body_len, steps_of_node, node_steps, child_steps_by, steps_of_shape}
 use Rattle.squawk_tree.specs.Join.{woven_child}
-use Rattle.squawk_tree.specs.ParseOf.{lexed_role, token_steps}
+use Rattle.squawk_tree.specs.ParseOf.{token_steps}
 use Rattle.squawk_tree.proofs.ChildBodyLemmas.{kept_other, enter_first, open_prefix, open_woven, closed_woven, alone_woven}
 use Rattle.squawk_tree.proofs.ChildTokenLemmas.{kinds_take, kinds_roles}
 use Rattle.squawk_tree.proofs.CutLemmas.{trivia_role, is_trimmed, is_trimmed_any, trimmed_cut, not_zero}

@@ -5,11 +5,11 @@ use Rattle.squawk_events.specs.declared.steps.StrStep.{StrStep}
 use Rattle.squawk_events.specs.declared.steps.StrStep.TheVariants as out
 use Rattle.squawk_kinds.specs.Role.{role, is_trivia}
 use Rattle.squawk_lexed.specs.LexedText.{token_start, total_len}
-use Rattle.squawk_lexed.specs.LexedToken.{LexedToken}
+use Rattle.squawk_lexed.specs.LexedToken.{LexedToken, lexed_role}
 use Rattle.squawk_lexed.specs.Stored.{kinds_of}
 use Rattle.squawk_statements.specs.Children.{open_groups_after, trimmed_len}
 use Rattle.squawk_tree.specs.ChildSteps.{exit_steps, nested_steps, steps_in_groups}
-use Rattle.squawk_tree.specs.ParseOf.{lexed_role, token_steps}
+use Rattle.squawk_tree.specs.ParseOf.{token_steps}
 use Rattle.squawk_tree.proofs.CutLemmas.{not_zero}
 
 -- ---- the kinds of tokens

@@ -10,7 +10,7 @@ use Rattle.squawk_events.specs.declared.steps.StrStep.TheVariants as out
 use Rattle.squawk_kinds.specs.Role.{Role, role, is_trivia, Trivia, Semicolon, Terminator, Command, Open, Close, Other}
 use Rattle.squawk_kinds.specs.declared.numbers.TheConstants.Number.{ERROR}
 use Rattle.squawk_lexed.specs.LexedText.{total_len, are_sound}
-use Rattle.squawk_lexed.specs.LexedToken.{LexedToken}
+use Rattle.squawk_lexed.specs.LexedToken.{LexedToken, lexed_role}
 use Rattle.squawk_lexed.specs.Stored.{errors_at, kinds_of}
 use Rattle.squawk_lexed.specs.Weave.{kinds_without_trivia, weave_from}
 use Rattle.squawk_statements.specs.First.{node_by, child_node}
@@ -21,7 +21,7 @@ use Rattle.squawk_statements.specs.declared.division.Division.{Division}
 use Rattle.squawk_tree.specs.Children.{is_leaf_or_node, IsChildOf, own_tokens}
 use Rattle.squawk_tree.specs.Errors.{error, numbers_at, errors_by_token, errors}
 use Rattle.squawk_tree.specs.Join.{ChildTree, child_of}
-use Rattle.squawk_tree.specs.ParseOf.{lexed_role, token_steps}
+use Rattle.squawk_tree.specs.ParseOf.{token_steps}
 use Rattle.squawk_tree.specs.Steps.{closes, has_no_errors, leaves, only_tokens, tiles, without_errors}
 use Rattle.squawk_tree.specs.Tree.{IsErrorWithin}
 use Rattle.squawk_tree.proofs.Balanced.{closes_woven, without_errors_has_none}

@@ -8,11 +8,10 @@ use Rattle.squawk_kinds.specs.Role.{role}
 use Rattle.squawk_statements.specs.Kinds.{role_trivia}
 use Rattle.squawk_kinds.specs.Role.{Role, is_trivia, Trivia, Semicolon, Terminator, Command, Open, Close, Other}
 use Rattle.squawk_lexed.specs.Weave.{kinds_without_trivia}
-use Rattle.squawk_lexed.specs.LexedToken.{LexedToken}
+use Rattle.squawk_lexed.specs.LexedToken.{LexedToken, lexed_role}
 use Rattle.squawk_statements.specs.Children.{ends_statement, open_groups_after, statement_end, trimmed_len}
 use Rattle.squawk_tree.proofs.FirstPart.{rest_len, more}
 use Rattle.squawk_statements.specs.declared.division.Division.{Division}
-use Rattle.squawk_tree.specs.ParseOf.{lexed_role}
 
 -- the role of trivia
 pub trivia_role : (f : Role) → is_trivia f ≡ true → f ≡ Trivia

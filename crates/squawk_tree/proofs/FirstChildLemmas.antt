@@ -4,7 +4,7 @@ use Rattle.std.specs.Prelude.{None}
 use Rattle.squawk_events.specs.Kinds.{is_trivia_kind}
 use Rattle.squawk_events.specs.declared.steps.Step.{Step}
 use Rattle.squawk_kinds.specs.Role.{role}
-use Rattle.squawk_lexed.specs.LexedToken.{LexedToken}
+use Rattle.squawk_lexed.specs.LexedToken.{LexedToken, lexed_role}
 use Rattle.squawk_lexed.specs.Stored.{kinds_of}
 use Rattle.squawk_statements.specs.Children.{first_child}
 use Rattle.squawk_statements.specs.First.{child_node, first_shape}
@@ -12,7 +12,7 @@ use Rattle.squawk_statements.specs.Kinds.{role_trivia}
 use Rattle.squawk_statements.specs.declared.division.Division.{Division}
 use Rattle.squawk_statements.specs.declared.first.ChildShape.{ChildShape}
 use Rattle.squawk_tree.specs.ChildGrammar.{woven_by}
-use Rattle.squawk_tree.specs.ParseOf.{lexed_role, token_steps}
+use Rattle.squawk_tree.specs.ParseOf.{token_steps}
 use Rattle.squawk_tree.specs.Steps.{without_errors}
 use Rattle.squawk_tree.proofs.ChildShapeLemmas.{node_is}
 use Rattle.squawk_tree.proofs.ChildTokenLemmas.{kinds_roles, kinds_take}

@@ -12,7 +12,7 @@ use Rattle.squawk_events.specs.declared.steps.StrStep.TheVariants as out
 use Rattle.squawk_lexed.specs.Weave.{kinds_without_trivia, leading_trivia, leading_trivia_end, after_leading_trivia, next_len, is_empty, weave_from, weave}
 use Rattle.squawk_lexed.specs.LexedText.{total_len, are_sound}
 use Rattle.squawk_lexed.specs.Faults.{faults_within}
-use Rattle.squawk_lexed.specs.LexedToken.{LexedToken}
+use Rattle.squawk_lexed.specs.LexedToken.{LexedToken, lexed_role}
 use Rattle.squawk_lexed.specs.declared.fault.Fault.{Fault}
 use Rattle.squawk_statements.specs.Children.{parts}
 use Rattle.squawk_tree.proofs.FirstPart.{more, more_of, first_part}
@@ -22,7 +22,6 @@ use Rattle.squawk_tree.specs.Errors.{error}
 use Rattle.squawk_tree.specs.Walk.{covers, errors_by_step}
 use Rattle.squawk_lexed.specs.Stored.{errors_at}
 use Rattle.squawk_tree.specs.Join.{woven_child, shifted_step, shifted_error}
-use Rattle.squawk_tree.specs.ParseOf.{lexed_role}
 use Rattle.squawk_tree.proofs.CutLemmas.{trivia_role, first_cut}
 use Rattle.squawk_tree.specs.Errors.{errors}
 use Rattle.squawk_tree.specs.ChildSteps.{woven_children}

@@ -5,14 +5,14 @@ use Rattle.squawk_events.specs.declared.steps.StrStep.TheVariants.{Enter, Token,
 use Rattle.squawk_kinds.specs.declared.numbers.TheConstants.Number.{SOURCE_FILE}
 use Rattle.squawk_lexed.specs.LexedText.{are_sound, total_len}
 use Rattle.squawk_lexed.specs.Weave.{kinds_without_trivia, weave}
-use Rattle.squawk_lexed.specs.LexedToken.{LexedToken}
+use Rattle.squawk_lexed.specs.LexedToken.{LexedToken, lexed_role}
 use Rattle.squawk_statements.specs.Children.{parts}
 use Rattle.squawk_statements.specs.Plain.{plain}
 use Rattle.squawk_statements.specs.PlainIsLawful.{plain_lawful}
 use Rattle.squawk_statements.specs.declared.division.Division.{Division}
 use Rattle.squawk_tree.specs.Errors.{errors}
 use Rattle.squawk_tree.specs.Join.{woven_child, shifted_step, shifted_error, child_of, steps_from, errors_from, join}
-use Rattle.squawk_tree.specs.ParseOf.{lexed_role, parse_of_tokens}
+use Rattle.squawk_tree.specs.ParseOf.{parse_of_tokens}
 use Rattle.squawk_tree.specs.Steps.{without_errors}
 use Rattle.squawk_tree.proofs.ErrorLemmas.{errors_whole}
 use Rattle.squawk_tree.proofs.JoinLemmas.{joined_from, joined_errors, join_law, parts_len}

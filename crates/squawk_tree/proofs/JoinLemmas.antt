@@ -12,14 +12,13 @@ use Rattle.squawk_events.specs.declared.steps.StrStep.TheVariants as out
 use Rattle.squawk_kinds.specs.declared.numbers.TheConstants.Number.{SOURCE_FILE}
 use Rattle.squawk_lexed.specs.Weave.{kinds_without_trivia, leading_trivia, leading_trivia_end, after_leading_trivia, next_len, weave_step, offset_after_step, tokens_after_step, is_empty, weave_from, weave}
 use Rattle.squawk_lexed.specs.LexedText.{total_len}
-use Rattle.squawk_lexed.specs.LexedToken.{LexedToken}
+use Rattle.squawk_lexed.specs.LexedToken.{LexedToken, lexed_role}
 use Rattle.squawk_statements.specs.Children.{parts}
 use Rattle.squawk_tree.proofs.FirstPart.{more, more_of, first_part}
 use Rattle.squawk_statements.specs.Plain.{child_steps, children_by, plain}
 use Rattle.squawk_statements.specs.declared.division.Division.{Division}
 use Rattle.squawk_tree.specs.Errors.{errors}
 use Rattle.squawk_tree.specs.Join.{woven_child, shifted_step, shifted_error, child_of, children_len}
-use Rattle.squawk_tree.specs.ParseOf.{lexed_role}
 use Rattle.squawk_tree.specs.ChildSteps.{woven_children}
 use Rattle.squawk_tree.specs.ChildGrammar.{AreChildSteps, woven_by, woven_children_by}
 use Rattle.squawk_tree.specs.PlainChildren.{plain_child}

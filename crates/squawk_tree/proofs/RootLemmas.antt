@@ -8,11 +8,11 @@ use Rattle.squawk_events.specs.declared.steps.Step.TheVariants.{Exit}
 use Rattle.squawk_events.specs.declared.steps.StrStep.{StrStep}
 use Rattle.squawk_events.specs.declared.steps.StrStep.TheVariants as out
 use Rattle.squawk_tree.specs.Join.{woven_child}
-use Rattle.squawk_tree.specs.ParseOf.{lexed_role, token_steps}
+use Rattle.squawk_tree.specs.ParseOf.{token_steps}
 use Rattle.squawk_tree.specs.Steps.{Node, closes, root_children_from, root_children, root_child, only_tokens, without_errors}
 use Rattle.squawk_lexed.specs.Weave.{kinds_without_trivia, weave_from, weave}
 use Rattle.squawk_lexed.specs.LexedText.{total_len}
-use Rattle.squawk_lexed.specs.LexedToken.{LexedToken}
+use Rattle.squawk_lexed.specs.LexedToken.{LexedToken, lexed_role}
 use Rattle.squawk_kinds.specs.Role.{Role, is_trivia, Trivia, Semicolon, Terminator, Command, Open, Close, Other}
 use Rattle.squawk_statements.specs.Children.{ends_statement, open_groups_after, statement_end, statement_to, trimmed_len, first_child, first_child_len, parts, parts_from, children, children_from}
 use Rattle.squawk_tree.proofs.FirstPart.{rest_len, more, more_of, first_tokens}

@@ -10,7 +10,7 @@ use Rattle.squawk_events.specs.declared.error.FrontError.TheVariants.{TooLong, O
 use Rattle.squawk_kinds.specs.Role.{role}
 use Rattle.squawk_lexed.specs.Leaf.{leaf_kind, token_role}
 use Rattle.squawk_lexed.specs.LexedText.{LexedText, are_sound, lexed_text, lexed_tokens}
-use Rattle.squawk_lexed.specs.LexedToken.{LexedToken}
+use Rattle.squawk_lexed.specs.LexedToken.{LexedToken, lexed_role}
 use Rattle.squawk_lexer.specs.Cut.{tokens, token_ends}
 use Rattle.squawk_lexer.specs.declared.token.Strings.{Strings}
 use Rattle.squawk_lexer.specs.declared.token.Token as lexer
@@ -20,7 +20,7 @@ use Rattle.squawk_statements.specs.Plain.{plain}
 use Rattle.squawk_statements.specs.declared.division.Division.{Division}
 use Rattle.squawk_tree.specs.Join.{child_of, children_of, join}
 use Rattle.squawk_tree.specs.Parses.{ParsesText, ParsesTokens}
-use Rattle.squawk_tree.specs.ParseOf.{lexed_role, roles_of, token_steps, tokens_of, parse_of_tokens}
+use Rattle.squawk_tree.specs.ParseOf.{roles_of, token_steps, tokens_of, parse_of_tokens}
 use Rattle.squawk_tree.specs.Steps.{leaves, only_tokens, ranges_through, root_children, root_child}
 use Rattle.squawk_tree.specs.Tree.{Tree}
 use Rattle.squawk_tree.proofs.TreeLaws.{leaves_only_tokens}

@@ -7,14 +7,14 @@ use Rattle.squawk_events.specs.declared.steps.StrStep.TheVariants.{Enter, Token,
 use Rattle.squawk_kinds.specs.Role.{Role, role, Trivia, Semicolon, Terminator, Command, Open, Close, Other}
 use Rattle.squawk_kinds.specs.declared.numbers.TheConstants.Number.{PAREN_EXPR, ERROR}
 use Rattle.squawk_lexed.specs.LexedText.{total_len}
-use Rattle.squawk_lexed.specs.LexedToken.{LexedToken}
+use Rattle.squawk_lexed.specs.LexedToken.{LexedToken, lexed_role}
 use Rattle.squawk_lexed.specs.Weave.{kinds_without_trivia, weave}
 use Rattle.squawk_statements.specs.Children.{open_groups_after, trimmed_len}
 use Rattle.squawk_statements.specs.Plain.{child_steps}
 use Rattle.squawk_statements.specs.declared.division.Division.{Division}
 use Rattle.squawk_statements.specs.declared.first.ChildShape.{ChildShape}
 use Rattle.squawk_tree.specs.ChildGrammar.{woven_children_by}
-use Rattle.squawk_tree.specs.ParseOf.{lexed_role, token_steps}
+use Rattle.squawk_tree.specs.ParseOf.{token_steps}
 
 -- the steps of the children of these tokens, the first of which begins at an offset
 abbrev pub woven_children : Division → ℕ → List (List LexedToken) → List StrStep

@@ -3,13 +3,12 @@ use Rattle.std.specs.Prelude.{◌≡◌, ℕ, ◌&&◌, Bool, true, false, IsTru
 use Rattle.squawk_events.specs.declared.steps.StrStep.{StrStep}
 use Rattle.squawk_events.specs.declared.steps.StrStep.TheVariants.{Enter, Token}
 use Rattle.squawk_lexed.specs.LexedText.{are_sound}
-use Rattle.squawk_lexed.specs.LexedToken.{LexedToken}
+use Rattle.squawk_lexed.specs.LexedToken.{LexedToken, lexed_role}
 use Rattle.squawk_lexed.specs.Stored.{kinds_of}
 use Rattle.squawk_statements.specs.Children.{first_child_len}
 use Rattle.squawk_statements.specs.First.{child_node}
 use Rattle.squawk_statements.specs.declared.division.Division.{Division}
 use Rattle.squawk_tree.specs.Join.{ChildTree, child_of}
-use Rattle.squawk_tree.specs.ParseOf.{lexed_role}
 use Rattle.squawk_tree.specs.Steps.{is_balanced, has_no_errors, leaves, tiles}
 use Rattle.squawk_tree.specs.Tree.{IsErrorWithin}
 

@@ -5,14 +5,14 @@ use Rattle.squawk_events.specs.declared.steps.StrStep.{StrStep}
 use Rattle.squawk_events.specs.declared.steps.StrStep.TheVariants.{Enter, Token, Exit, Error}
 use Rattle.squawk_kinds.specs.declared.numbers.TheConstants.Number.{SOURCE_FILE}
 use Rattle.squawk_lexed.specs.LexedText.{total_len}
-use Rattle.squawk_lexed.specs.LexedToken.{LexedToken}
+use Rattle.squawk_lexed.specs.LexedToken.{LexedToken, lexed_role}
 use Rattle.squawk_lexer.specs.declared.token.Strings.{Strings}
 use Rattle.squawk_statements.specs.Children.{parts}
 use Rattle.squawk_statements.specs.Plain.{child_steps}
 use Rattle.squawk_statements.specs.declared.division.Division.{Division}
 use Rattle.squawk_tree.specs.ChildGrammar.{woven_by}
 use Rattle.squawk_tree.specs.Errors.{error, errors}
-use Rattle.squawk_tree.specs.ParseOf.{lexed_role, tokens_of}
+use Rattle.squawk_tree.specs.ParseOf.{tokens_of}
 use Rattle.squawk_tree.specs.Steps.{without_errors}
 use Rattle.squawk_tree.specs.Tree.{Tree}
 

@@ -3,7 +3,7 @@ use Rattle.std.specs.Prelude.{ℕ, ◌+◌, List, [], ◌∷◌, map}
 use Rattle.squawk_events.specs.declared.steps.Step.{Step}
 use Rattle.squawk_events.specs.declared.steps.StrStep.{StrStep}
 use Rattle.squawk_events.specs.declared.steps.StrStep.TheVariants.{Token}
-use Rattle.squawk_kinds.specs.Role.{Role, role}
+use Rattle.squawk_kinds.specs.Role.{Role}
 use Rattle.squawk_lexed.specs.Leaf.{token_role}
 use Rattle.squawk_lexed.specs.LexedText.{lexed_text, total_len}
 use Rattle.squawk_lexed.specs.LexedToken.{LexedToken}
@@ -15,10 +15,6 @@ use Rattle.squawk_statements.specs.declared.division.Division.{Division}
 use Rattle.squawk_tree.specs.Errors.{errors}
 use Rattle.squawk_tree.specs.Steps.{without_errors}
 use Rattle.squawk_tree.specs.Tree.{Tree}
-
--- the role of a token in the division into statements
-abbrev pub lexed_role : LexedToken → Role
-lexed_role t = role t.kind
 
 -- the roles of the tokens that the lexer cuts
 abbrev pub roles_of : List lexer.Token → List Role

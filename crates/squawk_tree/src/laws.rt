@@ -5,7 +5,7 @@ ghost use Rattle.std.specs.Str.{chars};
 ghost use Rattle.squawk_events.specs.Lawful.{IsLawful};
 ghost use Rattle.squawk_events.specs.declared.steps.Step.{Step};
 ghost use Rattle.squawk_lexed.specs.LexedText.{are_sound};
-ghost use Rattle.squawk_lexed.specs.LexedToken.{LexedToken};
+ghost use Rattle.squawk_lexed.specs.LexedToken.{LexedToken, lexed_role};
 ghost use Rattle.squawk_lexed.specs.Weave.{kinds_without_trivia, weave};
 ghost use Rattle.squawk_lexer.specs.Cut.{tokens, token_ends};
 ghost use Rattle.squawk_lexer.specs.declared.token.Strings.{Strings};
@@ -13,7 +13,7 @@ ghost use Rattle.squawk_statements.specs.Children.{parts, children, first_child_
 ghost use Rattle.squawk_statements.specs.declared.division.Division.{Division};
 ghost use Rattle.squawk_tree.specs.Children.{ChildrenAreTrees};
 ghost use Rattle.squawk_tree.specs.Join.{child_of, join};
-ghost use Rattle.squawk_tree.specs.ParseOf.{lexed_role, parse_of, parse_of_tokens, roles_of, tree_of};
+ghost use Rattle.squawk_tree.specs.ParseOf.{parse_of, parse_of_tokens, roles_of, tree_of};
 ghost use Rattle.squawk_tree.specs.Steps.{leaves, ranges_through, root_children, root_child};
 ghost use Rattle.squawk_tree.specs.Tree.{IsTree};
 
