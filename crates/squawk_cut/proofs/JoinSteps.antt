@@ -12,7 +12,7 @@ use Rattle.squawk_events.specs.declared.steps.ParseError.{ParseError}
 use Rattle.squawk_events.specs.declared.steps.StrStep.{StrStep}
 use Rattle.squawk_events.specs.declared.steps.StrStep.TheVariants.{Enter, Token, Exit, Error}
 use Rattle.squawk_tree.specs.Children.{is_leaf_or_node}
-use Rattle.squawk_tree.specs.Join.{steps_from, errors_from, shifted_step, shifted_error, children_len}
+use Rattle.squawk_tree.specs.Join.{steps_from, child_errors_from, shifted_step, shifted_error, children_len}
 use Rattle.squawk_tree.specs.Steps.{closes, is_balanced, has_no_errors, leaves, tiles, without_errors}
 use Rattle.squawk_tree.specs.Taken.{EndsBy, end_after, tokens_end}
 use Rattle.squawk_tree.specs.Tree.{Tree, IsErrorWithin}
@@ -237,14 +237,14 @@ steps_left children i at b c steps more whole within is b_is push so_far =
 pub errors_left : (children : List ChildValue) (i at b : ℕ) (c : ChildValue)
     (errors more whole : List ParseError) → i < length children → c ≡ get_or children i c
     → b ≡ c.bytes → more ≡ errors ++ map (shifted_error at) c.errors
-    → errors ++ errors_from at (map child_tree (drop i children)) ≡ whole
-    → more ++ errors_from (at + b) (map child_tree (drop (i + 1) children)) ≡ whole
+    → errors ++ child_errors_from at (map child_tree (drop i children)) ≡ whole
+    → more ++ child_errors_from (at + b) (map child_tree (drop (i + 1) children)) ≡ whole
 errors_left children i at b c errors more whole within is b_is push so_far =
     let after : ℕ → List ParseError =
-    λ n. errors_from (at + n) (map child_tree (drop (i + 1) children)) in
+    λ n. child_errors_from (at + n) (map child_tree (drop (i + 1) children)) in
     ap (λ n. more ++ after n) b_is ∙ ap (λ xs. xs ++ after c.bytes) push
     ∙ append_assoc errors (map (shifted_error at) c.errors) (after c.bytes)
-    ∙ ap (λ cs. errors ++ errors_from at (map child_tree cs))
+    ∙ ap (λ cs. errors ++ child_errors_from at (map child_tree cs))
     (sym (next children i c within is)) ∙ so_far
 
 pub bytes_left : (children : List ChildValue) (i at b : ℕ) (c : ChildValue)
@@ -303,7 +303,7 @@ pub tree_is : (result : Result Tree FrontError) (children : List ChildValue) (i 
     → last ≡ steps ++ Exit ∷ [] → last_errors ≡ errors → IsWhole at last last_errors
     → steps ++ (steps_from at (map child_tree (drop i children)) ++ Exit ∷ [])
     ≡ (join_of children).steps
-    → errors ++ errors_from at (map child_tree (drop i children)) ≡ (join_of children).errors
+    → errors ++ child_errors_from at (map child_tree (drop i children)) ≡ (join_of children).errors
     → at + child_bytes (drop i children) ≡ child_bytes children
     → IfOk result (λ parse. parse.steps ≡ without_errors last)
     → IfOk result (λ parse. parse.errors ≡ last_errors)
@@ -319,7 +319,7 @@ tree_is (Ok parse) children i at steps last errors last_errors past last_is erro
     ∙ ap (λ cs. steps ++ (steps_from at (map child_tree cs) ++ Exit ∷ [])) (sym done) ∙ s in
     let errors_is : parse.errors ≡ (join_of children).errors =
     b ∙ errors_are ∙ sym (append-nil errors)
-    ∙ ap (λ cs. errors ++ errors_from at (map child_tree cs)) (sym done) ∙ es in
+    ∙ ap (λ cs. errors ++ child_errors_from at (map child_tree cs)) (sym done) ∙ es in
     let none : child_bytes (drop i children) ≡ 0 = ap child_bytes done in
     let len_is : parse.len ≡ (join_of children).len =
     l ∙ all.end ∙ (let e : at ≡ child_bytes children = omega (arith, n, none) in e)

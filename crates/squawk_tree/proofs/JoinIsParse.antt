@@ -11,7 +11,7 @@ use Rattle.squawk_statements.specs.Plain.{plain}
 use Rattle.squawk_statements.specs.PlainIsLawful.{plain_lawful}
 use Rattle.squawk_statements.specs.declared.division.Division.{Division}
 use Rattle.squawk_tree.specs.Errors.{errors}
-use Rattle.squawk_tree.specs.Join.{woven_child, shifted_step, shifted_error, child_of, steps_from, errors_from, join}
+use Rattle.squawk_tree.specs.Join.{woven_child, shifted_step, shifted_error, child_of, steps_from, child_errors_from, join}
 use Rattle.squawk_tree.specs.ParseOf.{parse_of_tokens}
 use Rattle.squawk_tree.specs.Steps.{without_errors}
 use Rattle.squawk_tree.proofs.ErrorLemmas.{errors_whole}
@@ -52,7 +52,7 @@ steps_joined d at (p ∷ ps) =
     ++ zs) (steps_joined d (at + total_len p) ps)
 
 errors_joined : (d : Division) (at : ℕ) (ps : List (List LexedToken))
-    → joined_errors d at ps ≡ errors_from at (map (child_of d) ps)
+    → joined_errors d at ps ≡ child_errors_from at (map (child_of d) ps)
 errors_joined d at [] = refl
 errors_joined d at (p ∷ ps) = ap (λ es. map (shifted_error at) (errors p (woven_child d 0 p))
     ++ es) (errors_joined d (at + total_len p) ps)
@@ -70,7 +70,7 @@ parse_joined d ts sound =
     (Exit ∷ []) ∙ ap (λ zs. zs ++ Exit ∷ []) (steps_joined d 0 (parts lexed_role d ts))) in
     let len = parts_len (length ts) d ts (omega arith) in
     let own : errors ts (weave ts (plain d (kinds_without_trivia ts)))
-    ≡ errors_from 0 (map (child_of d) (parts lexed_role d ts)) =
+    ≡ child_errors_from 0 (map (child_of d) (parts lexed_role d ts)) =
     join_errors_law d ts sound (errors_whole ts (plain d (kinds_without_trivia ts)) lawful.balanced
     lawful.tokens sound) ∙ errors_joined d 0 (parts lexed_role d ts) in
     rw (steps, own, len) refl

@@ -56,10 +56,10 @@ steps_from at (child ∷ rest) =
     map (shifted_step at) child.steps ++ steps_from (at + child.len) rest
 
 -- the errors of children, the first of which begins at an offset
-abbrev pub errors_from : ℕ → List ChildTree → List ParseError
-errors_from at [] = []
-errors_from at (child ∷ rest) =
-    map (shifted_error at) child.errors ++ errors_from (at + child.len) rest
+abbrev pub child_errors_from : ℕ → List ChildTree → List ParseError
+child_errors_from at [] = []
+child_errors_from at (child ∷ rest) =
+    map (shifted_error at) child.errors ++ child_errors_from (at + child.len) rest
 
 -- the length of children in bytes
 abbrev pub children_len : List ChildTree → ℕ
@@ -70,6 +70,6 @@ children_len (child ∷ rest) = child.len + children_len rest
 abbrev pub join : List ChildTree → Tree
 join children = record {
   steps = Enter SOURCE_FILE ∷ steps_from 0 children ++ Exit ∷ [];
-  errors = errors_from 0 children;
+  errors = child_errors_from 0 children;
   len = children_len children;
 }
