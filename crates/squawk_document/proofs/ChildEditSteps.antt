@@ -5,11 +5,12 @@ use Rattle.std.proofs.lemmas.Bool.{cases_lt}
 use Rattle.std.specs.List.{find}
 use Rattle.std.specs.Str.{IsUtf8}
 use Rattle.std.proofs.lemmas.Str.{IsUtf8-take, IsUtf8-drop, IsUtf8-append}
+use Rattle.squawk_lexer.specs.Cut.{token_ends}
 use Rattle.squawk_lexer.specs.declared.token.Token.{Token}
 use Rattle.squawk_cut.specs.ChildValue.{ChildValue}
 use Rattle.squawk_cut.specs.Tells.{Tells, IsLawful}
 use Rattle.squawk_cut.specs.Tokens.{tokens_of}
-use Rattle.squawk_document.specs.Boundaries.{IsRange, is_among, new_offset, splice, token_ends, total_len}
+use Rattle.squawk_document.specs.Boundaries.{IsRange, is_among, new_offset, splice, total_len}
 use Rattle.squawk_document.specs.ChildEdit.{EndsAtReturn, IsChildEdit, IsReparse, back_child_index}
 use Rattle.squawk_document.specs.DocumentValue.{DocumentValue}
 use Rattle.squawk_document.specs.EditedChildren.{back_children, child_counts_of, front_children}

@@ -5,10 +5,11 @@ use Rattle.std.proofs.lemmas.List.{drop-drop, drop_all, append-nil}
 use Rattle.std.specs.List.{list_any}
 use Rattle.std.specs.Str.{IsUtf8, IsCharBoundary}
 use Rattle.std.proofs.lemmas.Str.{IsUtf8-drop, IsCharBoundary-from_rest}
+use Rattle.squawk_lexer.specs.Cut.{token_ends}
 use Rattle.squawk_lexer.specs.declared.token.Token.{Token}
 use Rattle.squawk_cut.specs.Tells.{Tells, IsLawful}
 use Rattle.squawk_cut.specs.Tokens.{tokens_from}
-use Rattle.squawk_document.specs.Boundaries.{is_boundary, token_ends, total_len}
+use Rattle.squawk_document.specs.Boundaries.{is_boundary, total_len}
 use Rattle.squawk_document.specs.Recut.{EndsAtMeeting, IsCutSoFar, MeetsNowhere, is_new_meeting}
 use Rattle.squawk_document.proofs.OffsetTests.{total_len-append, token_ends-append, any-append}
 use Rattle.squawk_document.proofs.Cutting.{tokens_first, above_zero}

@@ -8,10 +8,11 @@ use Rattle.std.specs.List.{count_by}
 use Rattle.std.specs.Str.{IsUtf8, IsCharBoundary, chars, encode_utf8_all}
 use Rattle.std.specs.Char.{encode_utf8}
 use Rattle.std.proofs.lemmas.Str.{IsUtf8-drop, IsUtf8-between, IsUtf8-past_char, chars-nil, chars_past_char, encodes-chars, IsCharBoundary-from_rest, IsCharBoundary-from_take, IsCharBoundary-start}
+use Rattle.squawk_lexer.specs.Cut.{token_ends}
 use Rattle.squawk_lexer.specs.declared.token.Token.{Token}
 use Rattle.squawk_cut.specs.Tells.{Tells, IsLawful, HasTwo}
 use Rattle.squawk_cut.specs.Tokens.{tokens_from, tokens_of}
-use Rattle.squawk_document.specs.Boundaries.{has_two_before, is_among, token_ends, total_len}
+use Rattle.squawk_document.specs.Boundaries.{has_two_before, is_among, total_len}
 use Rattle.squawk_document.specs.EditedTokens.{front_tokens}
 use Rattle.squawk_document.specs.FrontPart.{IsLastButOne}
 use Rattle.squawk_document.proofs.OffsetTests.{token_ends-append, length-token_ends, or_parts, same_offset, end_within}

@@ -3,9 +3,10 @@ use Rattle.std.proofs.Common.{inl, inr, ◌⊎◌, ◌≡◌, ℕ, zero, suc, �
 use Rattle.std.proofs.lemmas.List.{append-nil}
 use Rattle.std.proofs.lemmas.Bool.Decides.{nat_tests}
 use Rattle.std.specs.List.{list_any, position_or_len, find}
-use Rattle.squawk_document.specs.Boundaries.{is_among, is_boundary, new_offset, token_ends, total_len}
+use Rattle.squawk_document.specs.Boundaries.{is_among, is_boundary, new_offset, total_len}
 use Rattle.squawk_document.specs.EditedTokens.{back_tokens, is_meeting, meeting}
 use Rattle.squawk_document.specs.Recut.{is_new_meeting}
+use Rattle.squawk_lexer.specs.Cut.{token_ends}
 use Rattle.squawk_lexer.specs.declared.token.Token.{Token}
 use Rattle.squawk_document.proofs.OffsetTests.{not_true, Positive, Positive-right, total_len-append, token_ends-append, length-token_ends, any-append, and_parts, or_parts, is_false, same_offset, none_by, member_fails, first_at, first_none, or_none, end_above, end_within, end_of_all}
 

@@ -2,8 +2,9 @@
 use Rattle.std.proofs.Common.{inl, inr, ◌⊎◌, ◌≡◌, ℕ, suc, ◌+◌, ◌<◌, ◌≤◌, Bool, true, false, not, ◌||◌, ◌&&◌, eqb, List, [], ◌∷◌, ◌++◌, length, refl, sym, ◌∙◌, ap, arith}
 use Rattle.std.proofs.lemmas.Bool.Decides.{nat_tests}
 use Rattle.std.specs.List.{list_any, position_or_len}
+use Rattle.squawk_lexer.specs.Cut.{token_ends}
 use Rattle.squawk_lexer.specs.declared.token.Token.{Token}
-use Rattle.squawk_document.specs.Boundaries.{is_among, token_ends, total_len}
+use Rattle.squawk_document.specs.Boundaries.{is_among, total_len}
 
 -- both hold
 pub and_parts : (a b : Bool) → (a && b) ≡ true → (a ≡ true) × (b ≡ true)

@@ -3,8 +3,9 @@ use Rattle.std.proofs.Common.{inl, inr, ◌≡◌, ℕ, zero, suc, ◌+◌, ◌-
 use Rattle.std.proofs.lemmas.Bool.{cases_lt}
 use Rattle.std.proofs.lemmas.Bool.Decides.{nat_tests}
 use Rattle.std.proofs.lemmas.List.{take-append-drop, take_more, drop_more}
+use Rattle.squawk_lexer.specs.Cut.{token_ends}
 use Rattle.squawk_lexer.specs.declared.token.Token.{Token}
-use Rattle.squawk_document.specs.Boundaries.{is_among, is_boundary, token_ends, total_len}
+use Rattle.squawk_document.specs.Boundaries.{is_among, is_boundary, total_len}
 use Rattle.squawk_document.specs.Recut.{is_new_meeting}
 use Rattle.squawk_document.proofs.OffsetTests.{total_len-append, token_ends-append, any-append, or_parts, same_offset, end_of_all, end_within}
 

@@ -7,10 +7,11 @@ use Rattle.std.specs.List.{list_any}
 use Rattle.std.specs.Option.{IfSome}
 use Rattle.std.proofs.lemmas.Bool.{cases_lt}
 use Rattle.std.proofs.lemmas.Str.{IsUtf8-take, IsUtf8-drop, IsUtf8-append, chars-nil, IsCharBoundary-start}
+use Rattle.squawk_lexer.specs.Cut.{token_ends}
 use Rattle.squawk_lexer.specs.declared.token.Token.{Token}
 use Rattle.squawk_cut.specs.Tells.{Tells, IsLawful}
 use Rattle.squawk_cut.specs.Tokens.{tokens_from, tokens_of}
-use Rattle.squawk_document.specs.Boundaries.{IsRange, splice, token_ends, total_len}
+use Rattle.squawk_document.specs.Boundaries.{IsRange, splice, total_len}
 use Rattle.squawk_document.specs.EditedTokens.{back_tokens, front_tokens, meeting, token_counts_of}
 use Rattle.squawk_document.specs.FrontPart.{IsFrontEnd, EndsByLimit, IsLastButOne}
 use Rattle.squawk_document.specs.Recut.{EndsAtMeeting, IsRecut, MeetsNowhere, is_new_meeting}

@@ -2,17 +2,13 @@
 use Rattle.std.specs.Prelude.{◌≤◌, ℕ, ◌+◌, ◌-◌, ◌==◌, ◌||◌, not, nat_lt, Bool, List, [], ◌∷◌, ◌++◌, length, take, drop}
 use Rattle.std.specs.List.{list_any}
 use Rattle.std.specs.Str.{chars, IsCharBoundary}
+use Rattle.squawk_lexer.specs.Cut.{token_ends}
 use Rattle.squawk_lexer.specs.declared.token.Token.{Token}
 
 -- the bytes of tokens
 abbrev pub total_len : List Token → ℕ
 total_len [] = 0
 total_len (t ∷ ts) = t.len + total_len ts
-
--- the end of each token, where the first begins at an offset
-abbrev pub token_ends : ℕ → List Token → List ℕ
-token_ends at [] = []
-token_ends at (t ∷ ts) = (at + t.len) ∷ token_ends (at + t.len) ts
 
 -- whether an offset is among these
 abbrev pub is_among : List ℕ → ℕ → Bool

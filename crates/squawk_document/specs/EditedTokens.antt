@@ -1,10 +1,11 @@
 -- The token counts of an edit. They compare the tokens of two whole texts.
 use Rattle.std.specs.Prelude.{ℕ, ◌+◌, ◌-◌, ◌&&◌, not, nat_lt, Bool, List, length, Option}
 use Rattle.std.specs.List.{count_by, find, position_or_len}
+use Rattle.squawk_lexer.specs.Cut.{token_ends}
 use Rattle.squawk_lexer.specs.declared.token.Token.{Token}
 use Rattle.squawk_cut.specs.Tells.{Tells}
 use Rattle.squawk_cut.specs.Tokens.{tokens_of}
-use Rattle.squawk_document.specs.Boundaries.{token_ends, has_two_before, is_boundary, new_offset, splice}
+use Rattle.squawk_document.specs.Boundaries.{has_two_before, is_boundary, new_offset, splice}
 use Rattle.squawk_document.specs.declared.edited.TokenCounts.{TokenCounts}
 
 -- the number of front tokens: old tokens with at least two characters between their end and start

@@ -4,10 +4,11 @@ use Rattle.std.specs.List.{list_any}
 use Rattle.std.specs.Option.{MatchOption}
 use Rattle.std.specs.Str.{IsCharBoundary}
 use Rattle.std.specs.declared.option.Option.{Option}
+use Rattle.squawk_lexer.specs.Cut.{token_ends}
 use Rattle.squawk_lexer.specs.declared.token.Token.{Token}
 use Rattle.squawk_cut.specs.Tells.{Tells}
 use Rattle.squawk_cut.specs.Tokens.{tokens_from}
-use Rattle.squawk_document.specs.Boundaries.{total_len, token_ends, is_boundary}
+use Rattle.squawk_document.specs.Boundaries.{total_len, is_boundary}
 use Rattle.squawk_document.specs.declared.skip.Position.{Position}
 
 -- whether the texts may meet at an offset of the new text: it is at or past new_end, where the new
