@@ -1,6 +1,7 @@
 -- What contracts see of a source and of a sink, and what calls do to them.
-use Rattle.std.specs.Prelude.{ℕ, ◌≡◌, ◌+◌, ◌-◌, ◌^◌, ◌≤◌, min, List, take, length, Option, Result, OnErr}
+use Rattle.std.specs.Prelude.{ℕ, ◌≡◌, ◌+◌, ◌≤◌, List, take, length, Option, Result, OnErr}
 use Rattle.std.specs.Io.KnownBytes.{Consumes, Appends}
+use Rattle.squawk_cut.specs.Tells.{next_count}
 
 -- a source: the bytes left, where it is observable, its count of faults, and a count that a read
 -- raises by at most one
@@ -13,10 +14,6 @@ pub record SourceView : Type 0 where
 pub record SinkView : Type 0 where
   pub taken : Option (List ℕ)
   pub faults : ℕ
-
--- a count plus one, saturating at the largest `u64`
-abbrev pub next_count : ℕ → ℕ
-next_count n = min (n + 1) (2 ^ 64 - 1)
 
 -- a count of faults rose, or is at the largest `u64`
 abbrev pub FaultRose : (old new : ℕ) → Type 0

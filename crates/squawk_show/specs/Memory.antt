@@ -1,6 +1,7 @@
 -- What contracts see of a source and a sink in memory, and what one call does to them.
 use Rattle.std.specs.Prelude.{ℕ, ◌-◌, min, List, [], ◌++◌, length, take, drop, Some}
-use Rattle.squawk_show.specs.Edge.{SourceView, SinkView, next_count}
+use Rattle.squawk_cut.specs.Tells.{next_count}
+use Rattle.squawk_show.specs.Edge.{SourceView, SinkView}
 
 -- a source: the bytes left, the most bytes of a call, the numbers of the calls that fail, and the
 -- counts of calls and of faults

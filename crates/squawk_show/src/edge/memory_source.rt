@@ -2,8 +2,9 @@
 ghost use Rattle.std.specs.Prelude.{◌≡◌, ◌<◌, ◌≤◌, ◌+◌, ◌↔◌, Some, length, take, IfOk, IfErr, OnErr, IsErr, Contains, min};
 ghost use Rattle.std.specs.Io.{ReadsAtMost};
 ghost use Rattle.std.specs.Io.KnownBytes.{ReadConsumes};
+ghost use Rattle.squawk_cut.specs.Tells.{next_count};
 ghost use Rattle.squawk_events.specs.Refusals.{IsOutOfMemory};
-ghost use Rattle.squawk_show.specs.Edge.{HasCause, next_count};
+ghost use Rattle.squawk_show.specs.Edge.{HasCause};
 ghost use Rattle.squawk_show.specs.Memory as spec;
 
 use crate::{Failed, Source};

@@ -2,7 +2,8 @@
 ghost use Rattle.std.specs.Prelude.{◌≡◌, ◌<◌, ◌≤◌, ◌+◌, take, length, IfOk, MatchResult};
 ghost use Rattle.std.specs.Io.{ReadsAtMost, WritesAtMost};
 ghost use Rattle.std.specs.Io.KnownBytes.{Appends, ReadConsumes};
-ghost use Rattle.squawk_show.specs.Edge.{HasCause, next_count};
+ghost use Rattle.squawk_cut.specs.Tells.{next_count};
+ghost use Rattle.squawk_show.specs.Edge.{HasCause};
 ghost use Rattle.squawk_show.specs.ReadWrite as spec;
 
 use crate::{Failed, Sink, Source};
