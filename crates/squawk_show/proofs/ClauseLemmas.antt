@@ -8,7 +8,7 @@ use Rattle.squawk_events.specs.declared.steps.StrStep.{StrStep}
 use Rattle.squawk_events.specs.declared.steps.StrStep.TheVariants.{Enter, Token, Exit, Error}
 use Rattle.squawk_lexer.specs.Cut.{tokens, token_ends}
 use Rattle.squawk_lexer.specs.declared.token.Strings.{Strings}
-use Rattle.squawk_show.specs.Forms.{clause_tree_of, tree_of}
+use Rattle.squawk_show.specs.Forms.{clause_tree_of, parse_under}
 use Rattle.squawk_show.specs.Run.{AddsClauses, ChildrenAreStatements, IsParsedBy, IsText, LeavesAreTokens}
 use Rattle.squawk_show.specs.declared.options.Reading.{Reading}
 use Rattle.squawk_statements.specs.Children.{children}
@@ -40,7 +40,7 @@ leaves_stay nodes (Error number at ∷ xs) = leaves_stay nodes xs
 -- the tree with clauses is the tree of the text but for the nodes of clauses
 pub adds_clauses : TreeWithoutClauses → ErrorsStay → (reading : Reading) (text : List ℕ)
     (tree : Tree) → tree ≡ clause_tree_of reading text → AddsClauses reading text tree
-unfolding tree_of clause_tree_of
+unfolding parse_under clause_tree_of
 adds_clauses steps errors reading text tree is = record {
   steps = ap (λ (t : Tree). tree_without_clauses t.steps) is
       ∙ steps reading.division (tokens_of reading.strings text);

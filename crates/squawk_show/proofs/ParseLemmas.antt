@@ -7,7 +7,7 @@ use Rattle.squawk_lexer.specs.Cut.{tokens, token_ends}
 use Rattle.squawk_lexer.specs.declared.token.Strings.{Strings}
 use Rattle.squawk_show.specs.Command.{asks}
 use Rattle.squawk_show.specs.Edge.{SourceView}
-use Rattle.squawk_show.specs.Forms.{form_tree, tree_of}
+use Rattle.squawk_show.specs.Forms.{form_tree, parse_under}
 use Rattle.squawk_show.specs.Made.{made}
 use Rattle.squawk_show.specs.Run.{IsText, IsParsed, IsPrepared, IsSummarized, prepared_output, LeavesAreTokens, ChildrenAreStatements}
 use Rattle.squawk_show.specs.declared.command.Command.TheVariants.{Make}
@@ -25,7 +25,7 @@ use Rattle.squawk_tree.specs.Tree.{Tree}
 -- the tree of bytes that are a text
 parsed : (reading : Reading) (bytes : List ℕ) (tree : Tree) → IsText bytes
     → ParsesText reading.strings reading.division bytes (Ok tree) → IsParsed reading bytes tree
-unfolding tree_of LeavesAreTokens ChildrenAreStatements
+unfolding parse_under LeavesAreTokens ChildrenAreStatements
 parsed reading bytes tree valid parses = record {
   text = valid;
   parsed = parses.tree;
@@ -43,11 +43,11 @@ text_parsed reading text (Err e) valid parses = tt
 -- the tree that goes with a form other than `Clauses`
 pub plain_form : (form : Form)
     → (form ≡ Report) ⊎ ((form ≡ Pieces) ⊎ ((form ≡ Quotes) ⊎ (form ≡ Squeezed)))
-    → tree_of ≡ form_tree form
-plain_form form (inl is) = subst (λ f. tree_of ≡ form_tree f) (sym is) refl
-plain_form form (inr (inl is)) = subst (λ f. tree_of ≡ form_tree f) (sym is) refl
-plain_form form (inr (inr (inl is))) = subst (λ f. tree_of ≡ form_tree f) (sym is) refl
-plain_form form (inr (inr (inr is))) = subst (λ f. tree_of ≡ form_tree f) (sym is) refl
+    → parse_under ≡ form_tree form
+plain_form form (inl is) = subst (λ f. parse_under ≡ form_tree f) (sym is) refl
+plain_form form (inr (inl is)) = subst (λ f. parse_under ≡ form_tree f) (sym is) refl
+plain_form form (inr (inr (inl is))) = subst (λ f. parse_under ≡ form_tree f) (sym is) refl
+plain_form form (inr (inr (inr is))) = subst (λ f. parse_under ≡ form_tree f) (sym is) refl
 
 -- the tree that `parse_divided` returned for a text of these bytes
 pub is_parsed : (reading : Reading) (bytes text : List ℕ) (tree : Tree)
@@ -67,7 +67,7 @@ module _ (leaves_are : (strings : Strings) (division : Division) (text : List �
   -- the tree that is the parse of bytes that are a text
   pub is_parse : (reading : Reading) (text : List ℕ) (tree : Tree) → IsText text
       → tree ≡ parse_of reading.strings reading.division text → IsParsed reading text tree
-  unfolding tree_of LeavesAreTokens ChildrenAreStatements
+  unfolding parse_under LeavesAreTokens ChildrenAreStatements
   is_parse reading text tree valid is = record {
     text = valid;
     parsed = is;

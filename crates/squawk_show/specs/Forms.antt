@@ -23,8 +23,8 @@ use Rattle.squawk_tree.specs.Tree.{Tree}
 -- Trees
 
 -- the tree of a text of these bytes, by a reading
-unfoldable pub tree_of : Reading → List ℕ → Tree
-tree_of reading text = parse_of reading.strings reading.division text
+unfoldable pub parse_under : Reading → List ℕ → Tree
+parse_under reading text = parse_of reading.strings reading.division text
 
 -- the tree of a text with the clauses of its `SELECT` statements
 unfoldable pub clause_tree_of : Reading → List ℕ → Tree
@@ -32,10 +32,10 @@ clause_tree_of reading text = clause_parse reading.division (tokens_of reading.s
 
 -- the tree that goes with a form
 abbrev pub form_tree : Form → Reading → List ℕ → Tree
-form_tree Report = tree_of
-form_tree Pieces = tree_of
-form_tree Quotes = tree_of
-form_tree Squeezed = tree_of
+form_tree Report = parse_under
+form_tree Pieces = parse_under
+form_tree Quotes = parse_under
+form_tree Squeezed = parse_under
 form_tree Clauses = clause_tree_of
 
 -- The pieces of a script

@@ -12,7 +12,7 @@ use Rattle.squawk_show.specs.Command.{Request}
 use Rattle.squawk_show.specs.Edge.{SourceView, SinkView, SourceFaultRose, SinkFaultRose, TakesExactly, TakesAtMost, AppendsAll, AppendsPrefix}
 use Rattle.squawk_show.specs.Outcome.{status_of_error, error_line}
 use Rattle.squawk_show.specs.Made.{made}
-use Rattle.squawk_show.specs.Forms.{AreQuotesWithin, IsFormWithin, form_of, form_tree, tree_of}
+use Rattle.squawk_show.specs.Forms.{AreQuotesWithin, IsFormWithin, form_of, form_tree, parse_under}
 use Rattle.squawk_show.specs.Report.{report_of}
 use Rattle.squawk_show.specs.Summary.{summary_line}
 use Rattle.squawk_show.specs.declared.command.Command.{Command}
@@ -65,13 +65,13 @@ pub record IsParsedBy (parse : Reading → List ℕ → Tree) (reading : Reading
 
 -- the bytes are a text, and this is its tree by a reading
 abbrev pub IsParsed : Reading → List ℕ → Tree → Type 0
-IsParsed reading bytes tree = IsParsedBy tree_of reading bytes tree
+IsParsed reading bytes tree = IsParsedBy parse_under reading bytes tree
 
 -- a tree with the nodes of clauses: without them its steps are those of the tree of a text, and
 -- both have the same errors
 pub record AddsClauses (reading : Reading) (text : List ℕ) (tree : Tree) : Type 0 where
-  pub steps : tree_without_clauses tree.steps ≡ (tree_of reading text).steps
-  pub errors : tree.errors ≡ (tree_of reading text).errors
+  pub steps : tree_without_clauses tree.steps ≡ (parse_under reading text).steps
+  pub errors : tree.errors ≡ (parse_under reading text).errors
 
 -- Forms
 
@@ -158,9 +158,9 @@ parsed_text (Err e) input = []
 -- the tree that a command makes of the text that it parses, by a reading
 abbrev pub command_tree : Result Command RunError → Reading → List ℕ → Tree
 command_tree (Ok (Show form)) = form_tree form
-command_tree (Ok (Make pieces)) = tree_of
-command_tree (Ok Replay) = tree_of
-command_tree (Err e) = tree_of
+command_tree (Ok (Make pieces)) = parse_under
+command_tree (Ok Replay) = parse_under
+command_tree (Err e) = parse_under
 
 -- what a command writes to `out` for its input and its tree, by a reading
 abbrev pub output_of : Reading → Result Command RunError → List ℕ → Tree → List ℕ
