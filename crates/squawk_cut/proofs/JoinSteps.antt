@@ -12,7 +12,7 @@ use Rattle.squawk_events.specs.declared.steps.ParseError.{ParseError}
 use Rattle.squawk_events.specs.declared.steps.StrStep.{StrStep}
 use Rattle.squawk_events.specs.declared.steps.StrStep.TheVariants.{Enter, Token, Exit, Error}
 use Rattle.squawk_tree.specs.Children.{is_leaf_or_node}
-use Rattle.squawk_tree.specs.Join.{steps_from, child_errors_from, shifted_step, shifted_error, children_len}
+use Rattle.squawk_tree.specs.Join.{child_steps_from, child_errors_from, shifted_step, shifted_error, children_len}
 use Rattle.squawk_tree.specs.Steps.{closes, is_balanced, has_no_errors, leaves, tiles, without_errors}
 use Rattle.squawk_tree.specs.Taken.{EndsBy, end_after, tokens_end}
 use Rattle.squawk_tree.specs.Tree.{Tree, IsErrorWithin}
@@ -220,13 +220,14 @@ next children i c within is =
 pub steps_left : (children : List ChildValue) (i at b : ℕ) (c : ChildValue)
     (steps more whole : List StrStep) → i < length children → c ≡ get_or children i c
     → b ≡ c.bytes → more ≡ steps ++ map (shifted_step at) c.steps
-    → steps ++ (steps_from at (map child_tree (drop i children)) ++ Exit ∷ []) ≡ whole
-    → more ++ (steps_from (at + b) (map child_tree (drop (i + 1) children)) ++ Exit ∷ []) ≡ whole
+    → steps ++ (child_steps_from at (map child_tree (drop i children)) ++ Exit ∷ []) ≡ whole
+    → more ++ (child_steps_from (at + b) (map child_tree (drop (i + 1) children)) ++ Exit ∷ [])
+    ≡ whole
 steps_left children i at b c steps more whole within is b_is push so_far =
     let left : List ChildValue → List StrStep =
-    λ cs. steps_from at (map child_tree cs) ++ Exit ∷ [] in
+    λ cs. child_steps_from at (map child_tree cs) ++ Exit ∷ [] in
     let after : ℕ → List StrStep =
-    λ n. steps_from (at + n) (map child_tree (drop (i + 1) children)) in
+    λ n. child_steps_from (at + n) (map child_tree (drop (i + 1) children)) in
     let own = map (shifted_step at) c.steps in
     ap (λ n. more ++ (after n ++ Exit ∷ [])) b_is
     ∙ ap (λ xs. xs ++ (after c.bytes ++ Exit ∷ [])) push
@@ -301,7 +302,7 @@ len_same (c ∷ cs) = ap (λ n. c.bytes + n) (len_same cs)
 pub tree_is : (result : Result Tree FrontError) (children : List ChildValue) (i at : ℕ)
     (steps last : List StrStep) (errors last_errors : List ParseError) → length children ≤ i
     → last ≡ steps ++ Exit ∷ [] → last_errors ≡ errors → IsWhole at last last_errors
-    → steps ++ (steps_from at (map child_tree (drop i children)) ++ Exit ∷ [])
+    → steps ++ (child_steps_from at (map child_tree (drop i children)) ++ Exit ∷ [])
     ≡ (join_of children).steps
     → errors ++ child_errors_from at (map child_tree (drop i children)) ≡ (join_of children).errors
     → at + child_bytes (drop i children) ≡ child_bytes children
@@ -316,7 +317,7 @@ tree_is (Ok parse) children i at steps last errors last_errors past last_is erro
     let done : drop i children ≡ [] = drop_all i children past in
     let steps_is : parse.steps ≡ (join_of children).steps =
     a ∙ all.kept ∙ last_is
-    ∙ ap (λ cs. steps ++ (steps_from at (map child_tree cs) ++ Exit ∷ [])) (sym done) ∙ s in
+    ∙ ap (λ cs. steps ++ (child_steps_from at (map child_tree cs) ++ Exit ∷ [])) (sym done) ∙ s in
     let errors_is : parse.errors ≡ (join_of children).errors =
     b ∙ errors_are ∙ sym (append-nil errors)
     ∙ ap (λ cs. errors ++ child_errors_from at (map child_tree cs)) (sym done) ∙ es in

@@ -4,7 +4,7 @@ use Rattle.std.specs.Str.{IsCharBoundary, IsUtf8, chars}
 use Rattle.squawk_cut.specs.ChildValue.{ChildValue}
 use Rattle.squawk_lexer.specs.declared.token.Token.{Token}
 
--- one more, or the last value of a `u64`
+-- a count plus one, saturating at the largest `u64`
 abbrev pub next_count : ℕ → ℕ
 next_count n = min (n + 1) (2 ^ 64 - 1)
 

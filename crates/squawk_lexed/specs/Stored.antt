@@ -37,10 +37,10 @@ faults_before at end (e ∷ es) =
     if nat_lt e.start end then record { number = e.number; start = e.start - at; end = e.end - at }
     ∷ faults_before at end es else []
 
--- the errors from the first on that begins at this end or after it
+-- the errors from the first on that begins at this offset or after it
 abbrev pub errors_from : ℕ → List ParseError → List ParseError
-errors_from end [] = []
-errors_from end (e ∷ es) = if nat_lt e.start end then errors_from end es else e ∷ es
+errors_from offset [] = []
+errors_from offset (e ∷ es) = if nat_lt e.start offset then errors_from offset es else e ∷ es
 
 -- the tokens that three lists store
 abbrev pub lexed_tokens_from : List ℕ → List ℕ → List ParseError → List LexedToken

@@ -8,7 +8,7 @@ use Rattle.squawk_events.specs.declared.steps.StrStep.{StrStep}
 use Rattle.squawk_events.specs.declared.steps.StrStep.TheVariants.{Enter, Token, Exit, Error}
 use Rattle.squawk_lexer.specs.Cut.{tokens, token_ends}
 use Rattle.squawk_lexer.specs.declared.token.Strings.{Strings}
-use Rattle.squawk_show.specs.Forms.{clause_tree_of, parse_under}
+use Rattle.squawk_show.specs.Forms.{clause_parse_under, parse_under}
 use Rattle.squawk_show.specs.Run.{AddsClauses, ChildrenAreStatements, IsParsedBy, IsText, LeavesAreTokens}
 use Rattle.squawk_show.specs.declared.options.Reading.{Reading}
 use Rattle.squawk_statements.specs.Children.{children}
@@ -39,8 +39,8 @@ leaves_stay nodes (Error number at ∷ xs) = leaves_stay nodes xs
 
 -- the tree with clauses is the tree of the text but for the nodes of clauses
 pub adds_clauses : TreeWithoutClauses → ErrorsStay → (reading : Reading) (text : List ℕ)
-    (tree : Tree) → tree ≡ clause_tree_of reading text → AddsClauses reading text tree
-unfolding parse_under clause_tree_of
+    (tree : Tree) → tree ≡ clause_parse_under reading text → AddsClauses reading text tree
+unfolding parse_under clause_parse_under
 adds_clauses steps errors reading text tree is = record {
   steps = ap (λ (t : Tree). tree_without_clauses t.steps) is
       ∙ steps reading.division (tokens_of reading.strings text);
@@ -59,13 +59,13 @@ module _ (leaves_are : (strings : Strings) (division : Division) (text : List �
   -- the tree with clauses of bytes that are a text
   pub is_clause_parse : (reading : Reading) (text : List ℕ) (tree : Tree) → IsText text
       → tree ≡ clause_parse reading.division (tokens_of reading.strings text)
-      → IsParsedBy clause_tree_of reading text tree
-  unfolding clause_tree_of LeavesAreTokens ChildrenAreStatements
+      → IsParsedBy clause_parse_under reading text tree
+  unfolding clause_parse_under LeavesAreTokens ChildrenAreStatements
   is_clause_parse reading text tree valid is = record {
     text = valid;
     parsed = is;
     leaves = ap (λ (t : Tree). leaves t.steps) is
-        ∙ sym (leaves_stay [] (clause_tree_of reading text).steps)
+        ∙ sym (leaves_stay [] (clause_parse_under reading text).steps)
         ∙ ap leaves (without reading.division (tokens_of reading.strings text))
         ∙ leaves_are reading.strings reading.division text;
     children = ap (λ (t : Tree). root_children t.steps) is

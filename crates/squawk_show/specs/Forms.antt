@@ -22,13 +22,13 @@ use Rattle.squawk_tree.specs.Tree.{Tree}
 
 -- Trees
 
--- the tree of a text of these bytes, by a reading
+-- the parse of a text under a reading
 unfoldable pub parse_under : Reading → List ℕ → Tree
 parse_under reading text = parse_of reading.strings reading.division text
 
--- the tree of a text with the clauses of its `SELECT` statements
-unfoldable pub clause_tree_of : Reading → List ℕ → Tree
-clause_tree_of reading text = clause_parse reading.division (tokens_of reading.strings text)
+-- the same with the clauses of its `SELECT` statements
+unfoldable pub clause_parse_under : Reading → List ℕ → Tree
+clause_parse_under reading text = clause_parse reading.division (tokens_of reading.strings text)
 
 -- the tree that goes with a form
 abbrev pub form_tree : Form → Reading → List ℕ → Tree
@@ -36,7 +36,7 @@ form_tree Report = parse_under
 form_tree Pieces = parse_under
 form_tree Quotes = parse_under
 form_tree Squeezed = parse_under
-form_tree Clauses = clause_tree_of
+form_tree Clauses = clause_parse_under
 
 -- The pieces of a script
 

@@ -5,7 +5,7 @@ ghost use Rattle.squawk_events.specs.Refusals.{IsOutOfMemory};
 ghost use Rattle.squawk_lexed.specs.LexedText.{lexed_text};
 ghost use Rattle.squawk_show.specs.Command.{asks};
 ghost use Rattle.squawk_show.specs.Edge.{TakesAtMost};
-ghost use Rattle.squawk_show.specs.Forms.{clause_tree_of, form_tree, piece_letter, piece_line, piece_lines, quotes_of, AreQuotesWithin, IsQuoteRefusal};
+ghost use Rattle.squawk_show.specs.Forms.{clause_parse_under, form_tree, piece_letter, piece_line, piece_lines, quotes_of, AreQuotesWithin, IsQuoteRefusal};
 ghost use Rattle.squawk_show.specs.Report.{report_of};
 ghost use Rattle.squawk_show.specs.Run as spec;
 ghost use Rattle.squawk_tree.specs.Tree.{IsTree};
@@ -47,7 +47,7 @@ fn parse_with_clauses(
 ) -> Result<Parse, FrontError>
     requires lexed { lexed ≡ lexed_text reading.strings lexed.text }
     requires within { length lexed.text ≤ limit }
-    ensures parsed { IfOk result (spec.IsParsedBy clause_tree_of reading lexed.entry.text) }
+    ensures parsed { IfOk result (spec.IsParsedBy clause_parse_under reading lexed.entry.text) }
     ensures balanced { IfOk result IsTree }
     ensures refusals { IfErr result IsOutOfMemory }
 {

@@ -11,7 +11,7 @@ use Rattle.squawk_statements.specs.Plain.{plain}
 use Rattle.squawk_statements.specs.PlainIsLawful.{plain_lawful}
 use Rattle.squawk_statements.specs.declared.division.Division.{Division}
 use Rattle.squawk_tree.specs.Errors.{errors}
-use Rattle.squawk_tree.specs.Join.{woven_child, shifted_step, shifted_error, child_of, steps_from, child_errors_from, join}
+use Rattle.squawk_tree.specs.Join.{woven_child, shifted_step, shifted_error, child_of, child_steps_from, child_errors_from, join}
 use Rattle.squawk_tree.specs.ParseOf.{parse_of_tokens}
 use Rattle.squawk_tree.specs.Steps.{without_errors}
 use Rattle.squawk_tree.proofs.ErrorLemmas.{errors_whole}
@@ -41,7 +41,7 @@ without_errors_shifted n (Error number at ∷ xs) = without_errors_shifted n xs
 
 -- the steps and the errors of joined children
 steps_joined : (d : Division) (at : ℕ) (ps : List (List LexedToken))
-    → without_errors (joined_from d at ps) ≡ steps_from at (map (child_of d) ps)
+    → without_errors (joined_from d at ps) ≡ child_steps_from at (map (child_of d) ps)
 steps_joined d at [] = refl
 steps_joined d at (p ∷ ps) =
     without_errors_append (map (shifted_step at) (woven_child d 0 p))
@@ -63,7 +63,8 @@ pub parse_joined : (d : Division) (ts : List LexedToken) → are_sound ts ≡ tr
 parse_joined d ts sound =
     let lawful = plain_lawful d (kinds_without_trivia ts) (has_no_trivia_kept ts) in
     let steps : without_errors (weave ts (plain d (kinds_without_trivia ts)))
-    ≡ Enter SOURCE_FILE ∷ steps_from 0 (map (child_of d) (parts lexed_role d ts)) ++ Exit ∷ [] =
+    ≡ Enter SOURCE_FILE
+    ∷ child_steps_from 0 (map (child_of d) (parts lexed_role d ts)) ++ Exit ∷ [] =
     ap without_errors (join_law d ts)
     ∙ ap (λ zs. Enter SOURCE_FILE ∷ zs)
     (without_errors_append (joined_from d 0 (parts lexed_role d ts))

@@ -115,12 +115,13 @@ errors_before_append n (e ∷ es) ys h =
     let parts = and_parts (nat_lt e.start n) (all_before n es) h in
     rw parts.0 (ap (λ zs. e ∷ zs) (errors_before_append n es ys parts.1))
 
-errors_not_before_append : (n : ℕ) (xs ys : List ParseError) → all_before n xs ≡ true
+-- errors that begin before an offset are none of those from it on
+errors_from_append : (n : ℕ) (xs ys : List ParseError) → all_before n xs ≡ true
     → errors_from n (xs ++ ys) ≡ errors_from n ys
-errors_not_before_append n [] ys h = refl
-errors_not_before_append n (e ∷ es) ys h =
+errors_from_append n [] ys h = refl
+errors_from_append n (e ∷ es) ys h =
     let parts = and_parts (nat_lt e.start n) (all_before n es) h in
-    rw parts.0 (errors_not_before_append n es ys parts.1)
+    rw parts.0 (errors_from_append n es ys parts.1)
 
 -- the faults of a sound token begin before its end
 faults_all_before : (at len : ℕ) (fs : List Fault) → faults_within len fs ≡ true
@@ -179,7 +180,7 @@ merged_with pending at ts (Error number offset ∷ xs) before h s =
     errors_before_append at pending (errors_of at ts) before
     ∙ ap (λ es. pending ++ es) (none_before at at ts (omega arith)) ∙ append-nil pending in
     let left : errors_from at (pending ++ errors_of at ts) ≡ errors_of at ts =
-    errors_not_before_append at pending (errors_of at ts) before
+    errors_from_append at pending (errors_of at ts) before
     ∙ all_from at at ts (omega arith) in
     rw (appended, left) (ap (λ es. pending ++ (step_error at ts number ++ es))
     (merged_with [] at ts xs refl rest s))

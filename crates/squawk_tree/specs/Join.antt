@@ -50,10 +50,10 @@ abbrev pub shifted_error : ℕ → ParseError → ParseError
 shifted_error n e = error (e.start + n) (e.end + n) e.number
 
 -- the steps of children, the first of which begins at an offset
-abbrev pub steps_from : ℕ → List ChildTree → List StrStep
-steps_from at [] = []
-steps_from at (child ∷ rest) =
-    map (shifted_step at) child.steps ++ steps_from (at + child.len) rest
+abbrev pub child_steps_from : ℕ → List ChildTree → List StrStep
+child_steps_from at [] = []
+child_steps_from at (child ∷ rest) =
+    map (shifted_step at) child.steps ++ child_steps_from (at + child.len) rest
 
 -- the errors of children, the first of which begins at an offset
 abbrev pub child_errors_from : ℕ → List ChildTree → List ParseError
@@ -69,7 +69,7 @@ children_len (child ∷ rest) = child.len + children_len rest
 -- the tree whose root has these children
 abbrev pub join : List ChildTree → Tree
 join children = record {
-  steps = Enter SOURCE_FILE ∷ steps_from 0 children ++ Exit ∷ [];
+  steps = Enter SOURCE_FILE ∷ child_steps_from 0 children ++ Exit ∷ [];
   errors = child_errors_from 0 children;
   len = children_len children;
 }
