@@ -55,25 +55,35 @@ pub run_kept : {X : Type 0} (F : ℕ → X) (p : ℕ → Bool) (u : List ℕ)
     → (i : ℕ) → F i ≡ F (run_end p u i)
 run_kept F p u step i = kept F p u step (prefix_len p (drop i u)) i refl
 
--- A search ends where it begins if the next byte is one of the two characters.
-pub stops_on_byte : (a b s x : ℕ) (u : List ℕ) (i : ℕ) → s < 128 → is_neither a b s ≡ false
-    → (IsAsciiRun u i 0 → x ≡ first_byte (get_or u (i + 0) 0)) → x ≡ s → stop_at a b u i ≡ i
-unfolding stop_at
-stops_on_byte a b s x u i small stops read e =
-    by (cases_lt (get_or u i 0) 128) (cases_lt i (length u))
+-- The first byte of a character is one of two ASCII characters exactly where the character is.
+pub byte_is_neither : (a b x : ℕ) (u : List ℕ) (i : ℕ) → a < 128 → b < 128
+    → (IsAsciiRun u i 0 → x ≡ first_byte (get_or u (i + 0) 0))
+    → is_neither a b x ≡ is_neither a b (get_or u i 0)
+byte_is_neither a b x u i p q read = by (cases_lt (get_or u i 0) 128)
   where
-    byte : first_byte (get_or u i 0) ≡ s
-    byte = ap (λ k. first_byte (get_or u k 0)) (sym (add-zero i))
-        ∙ sym (read (λ k below. absurd (omega arith))) ∙ e
+    byte : x ≡ first_byte (get_or u i 0)
+    byte = read (λ k below. absurd (omega arith))
+        ∙ ap (λ k. first_byte (get_or u k 0)) (add-zero i)
 
-    by : (get_or u i 0 < 128) ⊎ (128 ≤ get_or u i 0) → (i < length u) ⊎ (length u ≤ i)
-        → i + prefix_len (is_neither a b) (drop i u) ≡ i
-    by (inl low) (inl h) =
-        let c : get_or u i 0 ≡ s = sym (lead_ascii (get_or u i 0) low) ∙ byte in
-        rw (drop_read u i h, c, stops) (add-zero i)
-    by (inl low) (inr h) = rw (drop_past u i h) (add-zero i)
-    by (inr high) h =
-        absurd (omega (arith, byte, lead_high (get_or u i 0) high))
+    by : (get_or u i 0 < 128) ⊎ (128 ≤ get_or u i 0)
+        → is_neither a b x ≡ is_neither a b (get_or u i 0)
+    by (inl low) = ap (is_neither a b) (byte ∙ lead_ascii (get_or u i 0) low)
+    by (inr high) =
+        let beyond : 128 ≤ x = omega (arith, byte, lead_high (get_or u i 0) high) in
+        uniform_neither a b p q x (get_or u i 0) beyond high
+
+-- A search ends where it begins if the next character is one of the two.
+pub stops_at_once : (a b : ℕ) (u : List ℕ) (i : ℕ) → not (is_neither a b (get_or u i 0)) ≡ true
+    → stop_at a b u i ≡ i
+unfolding stop_at
+stops_at_once a b u i found = by (cases_lt i (length u))
+  where
+    stops : is_neither a b (get_or u i 0) ≡ false
+    stops = grind (arith, nat_tests)
+
+    by : (i < length u) ⊎ (length u ≤ i) → i + prefix_len (is_neither a b) (drop i u) ≡ i
+    by (inl h) = rw (drop_read u i h, stops) (add-zero i)
+    by (inr h) = rw (drop_past u i h) (add-zero i)
 
 -- A search ends at or after its start.
 pub stop_on : (a b : ℕ) (u : List ℕ) (i : ℕ) → i ≤ stop_at a b u i

@@ -49,10 +49,12 @@ fn ident_cont_len(bytes: &[u8]) -> usize
     let mut len = 0;
     while bytes.len() - len >= LANES {
         let run = ident_cont_run(&bytes[len..]);
-        len += run;
         if run < LANES {
-            return len;
+            return len + run;
         }
+        // `run` is `LANES` here. The constant lets the processor read the next bytes before `run`
+        // is known.
+        len += LANES;
     }
     len + last_ident_cont_len(&bytes[len..])
 }
@@ -100,46 +102,26 @@ pub(crate) fn quotes_len(quote: u8, bytes: &[u8]) -> usize
     len
 }
 
+// The number of bytes that are searched before `memchr` is called, which is faster in long runs.
+const NEAR: usize = 4 * LANES;
+
 // The number of bytes before the first `a` or `b`, or of all bytes if there is none.
 pub(crate) fn len_until2(a: u8, b: u8, bytes: &[u8]) -> usize
     ensures { result ≡ prefix_len (is_neither a b) bytes.now }
 {
-    let len = near_len_until2(a, b, bytes);
-    if len < LANES {
-        return len;
+    let mut len = 0;
+    while len < NEAR && bytes.len() - len >= LANES {
+        let run = run_until2(a, b, &bytes[len..]);
+        if run < LANES {
+            return len + run;
+        }
+        // `run` is `LANES` here too.
+        len += LANES;
     }
     len + memchr_len_until2(a, b, &bytes[len..])
 }
 
-// The same within the first `LANES` bytes.
-fn near_len_until2(a: u8, b: u8, bytes: &[u8]) -> usize
-    ensures within { result ≤ length bytes.now }
-    ensures prefix { result + prefix_len (is_neither a b) (drop result bytes.now)
-        ≡ prefix_len (is_neither a b) bytes.now }
-    ensures whole { result < LANES → result ≡ prefix_len (is_neither a b) bytes.now }
-{
-    if bytes.len() < LANES {
-        return short_len_until2(a, b, bytes);
-    }
-    run_until2(a, b, bytes)
-}
-
-// The same, byte by byte.
-fn short_len_until2(a: u8, b: u8, bytes: &[u8]) -> usize
-    ensures within { result ≤ length bytes.now }
-    ensures prefix { result + prefix_len (is_neither a b) (drop result bytes.now)
-        ≡ prefix_len (is_neither a b) bytes.now }
-    ensures whole { result < LANES → result ≡ prefix_len (is_neither a b) bytes.now }
-{
-    let mut len = 0;
-    while len < bytes.len() && len < LANES && bytes[len] != a && bytes[len] != b {
-        len += 1;
-    }
-    len
-}
-
-// The length of that run, found by `memchr`. Not inlined, so that `len_until2` stays small for
-// short runs.
+// The same, found by `memchr`. Not inlined, so that `len_until2` stays small for short runs.
 #[inline(never)]
 fn memchr_len_until2(a: u8, b: u8, bytes: &[u8]) -> usize
     ensures { result ≡ prefix_len (is_neither a b) bytes.now }

@@ -4,8 +4,8 @@ use Rattle.std.proofs.lemmas.List.Sums.{prefix_len-le-length}
 use Rattle.squawk_lexer.specs.Classes.{is_ident_cont}
 use Rattle.squawk_lexer.proofs.scan.ident_cont_len.Goals as goal
 
-pub overflow_add-result : goal.overflow_add-result
-overflow_add-result c =
+pub overflow_add-result-2 : goal.overflow_add-result-2
+overflow_add-result-2 c =
     let bytes = c.args.bytes.now in
     let len = c.loop-len.len in
     let rest = take (length bytes - len) (drop len bytes) in

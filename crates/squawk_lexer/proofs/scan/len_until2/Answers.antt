@@ -4,18 +4,17 @@ use Rattle.std.proofs.lemmas.List.Sums.{prefix_len-le-length}
 use Rattle.squawk_lexer.specs.Stops.{is_neither}
 use Rattle.squawk_lexer.proofs.scan.len_until2.Goals as goal
 
-pub overflow_add-result : goal.overflow_add-result
-overflow_add-result c =
+pub overflow_add-result-2 : goal.overflow_add-result-2
+overflow_add-result-2 c =
     let bytes = c.args.bytes.now in
-    let near = c.near_len_until2-len.result in
-    let rest = take (length bytes - near) (drop near bytes) in
-    let size : length rest ≡ length bytes - near =
-    length-take-le (length bytes - near) (drop near bytes)
-    (omega (arith, length-drop near bytes)) in
+    let len = c.loop-len.len in
+    let rest = take (length bytes - len) (drop len bytes) in
+    let size : length rest ≡ length bytes - len =
+    length-take-le (length bytes - len) (drop len bytes) (omega (arith, length-drop len bytes)) in
     omega (
       arith,
       size,
-      c.near_len_until2-len.ensures.within,
+      c.loop-len.invariant.within,
       c.memchr_len_until2.ensures,
       prefix_len-le-length (is_neither c.args.a c.args.b) rest,
     )
