@@ -1,5 +1,5 @@
 -- `ChildSpan` values, without their ranges, are the children of the root.
-use Rattle.std.proofs.Common.{◌≡◌, ℕ, zero, suc, ◌+◌, ◌==◌, true, List, [], ◌∷◌, drop, map, ap, refl, ◌∙◌, arith}
+use Rattle.std.proofs.Common.{◌≡◌, ℕ, zero, suc, ◌+◌, ◌==◌, true, List, [], ◌∷◌, map, ap, refl, ◌∙◌, arith}
 use Rattle.std.proofs.lemmas.Bool.{eqb-true}
 use Rattle.squawk_events.specs.declared.steps.StrStep.{StrStep}
 use Rattle.squawk_events.specs.declared.steps.StrStep.TheVariants.{Enter, Token, Exit, Error}
@@ -48,17 +48,3 @@ spans_are_children (Enter kind ∷ xs) h = under_root 1 0 xs h
 spans_are_children (Token kind start end ∷ xs) h = refl
 spans_are_children (Exit ∷ xs) h = refl
 spans_are_children (Error number at ∷ xs) h = refl
-
--- the first step of a balanced tree, and what its other steps are
-pub record RootFirst (steps : List StrStep) : Type 0 where
-  pub kind : ℕ
-  pub is : steps ≡ Enter kind ∷ drop 1 steps
-  pub closed : closes 1 (drop 1 steps) ≡ true
-  pub children : child_spans_from 0 1 0 (drop 1 steps) ≡ child_spans steps
-
-pub root_first : (steps : List StrStep) → is_balanced steps ≡ true → RootFirst steps
-root_first [] h = absurd (cc)
-root_first (Enter kind ∷ xs) h = record { kind = kind; is = refl; closed = h; children = refl }
-root_first (Token kind start end ∷ xs) h = absurd (cc)
-root_first (Exit ∷ xs) h = absurd (cc)
-root_first (Error number at ∷ xs) h = absurd (cc)

@@ -16,7 +16,6 @@ pub mod ChildSteps
 pub mod NodeRanges
 pub mod StepRangesModel
 pub mod Spans
-pub mod ChildPass
 pub mod Walk
 -- the proof that the plain grammar is one: the law of a trait cites definitions alone
 pub mod PlainChildren

@@ -1,10 +1,7 @@
-//! The children of a tree's root, found step by step.
-ghost use Rattle.std.specs.Prelude.{◌≡◌, ◌≤◌, ◌<◌, ◌+◌, ◌++◌, ◌^◌, ◌∷◌, [], ℕ, List, IfOk, IsTrue};
-ghost use Rattle.squawk_events.specs.declared.steps.StrStep.{StrStep as Given};
-ghost use Rattle.squawk_tree.specs.ChildPass.{remaining, depth, IsCounted};
-ghost use Rattle.squawk_tree.specs.ChildSpans.{child_spans};
-ghost use Rattle.squawk_tree.specs.Spans.{offset_after};
-ghost use Rattle.squawk_tree.specs.declared.children.PassState.TheVariants.{UnderRoot, InChild};
+//! The children of a tree's root, listed in one pass over its steps.
+ghost use Rattle.std.specs.Prelude.{◌≡◌, ◌<◌, [], IfOk, IsTrue, drop};
+ghost use Rattle.squawk_tree.specs.ChildSpans.{child_spans, child_spans_from, node_tokens};
+ghost use Rattle.squawk_tree.specs.Ranges.{node_end};
 ghost use Rattle.squawk_tree.specs.Steps.{closes, is_balanced};
 
 use squawk_events::StrStep;
@@ -26,138 +23,46 @@ pub struct ChildSpan {
     pub node: Option<SyntaxKind>,
 }
 
-// A child of the root whose `Exit` was not read yet: its first step, the number of its tokens that
-// were read, its start, its kind, and the number of nodes that are open inside it.
-#[derive(Clone, Copy)]
-struct OpenChild {
-    step: usize,
+// What `find_exit` finds: the number of the node's tokens, the offset after its last byte, and the
+// index of the step after its `Exit`.
+struct NodeExit {
     tokens: usize,
-    start: u32,
-    kind: SyntaxKind,
-    inner: usize,
+    end: u32,
+    next: usize,
 }
 
-// The state of a pass over the steps: after the root, directly inside it, or in a child of it.
-#[derive(Clone, Copy)]
-enum PassState {
-    Outside,
-    UnderRoot,
-    InChild { child: OpenChild },
-}
-
-// Reads a step directly under the root. Appends a child if the step is a leaf. Returns the next
-// state.
-#[inline(always)]
-fn pass_under_root(
-    children: &mut Vec<ChildSpan>,
-    at: u32,
-    index: usize,
-    step: StrStep,
-) -> Result<PassState, AllocError>
-    ensures children { IfOk result (λ state. (rest : List Given)
-        → children.new.items ++ remaining state (offset_after at step) (index + 1) rest
-        ≡ children.old.items ++ remaining UnderRoot at index (step ∷ rest)) }
-    ensures closes { IfOk result (λ state. (rest : List Given)
-        → IsTrue (closes 1 (step ∷ rest)) → IsTrue (closes (depth state) rest)) }
-    ensures counted { IfOk result (IsCounted (index + 1)) }
+// Returns where a child of the root ends. Its `Enter` is the step before `first`, at the offset
+// `start`.
+fn find_exit(steps: &[StrStep], first: usize, start: u32) -> NodeExit
+    requires open { IsTrue (closes 2 (drop first steps.now)) }
+    ensures tokens { result.tokens ≡ node_tokens 0 (drop first steps.now) }
+    ensures end { result.end ≡ node_end 0 start (drop first steps.now) }
+    ensures forward { first < result.next }
+    ensures closes { IsTrue (closes 1 (drop result.next steps.now)) }
+    ensures children { child_spans_from 0 result.next result.end (drop result.next steps.now)
+        ≡ child_spans_from 1 first start (drop first steps.now) }
 {
-    match step {
-        StrStep::Enter { kind } => Ok(PassState::InChild {
-            child: OpenChild {
-                step: index,
-                tokens: 0,
-                start: at,
-                kind,
-                inner: 0,
-            },
-        }),
-        StrStep::Token { start, end, .. } => {
-            children.push(ChildSpan {
-                step: index,
-                tokens: 1,
-                start,
-                end,
-                node: None,
-            })?;
-            Ok(PassState::UnderRoot)
+    // The number of nodes that are open inside it.
+    let mut depth = 0usize;
+    let (mut tokens, mut at, mut i) = (0, start, first);
+    loop {
+        match steps[i] {
+            StrStep::Enter { .. } => depth += 1,
+            StrStep::Token { end, .. } => {
+                tokens += 1;
+                at = end;
+            }
+            StrStep::Exit if depth > 0 => depth -= 1,
+            StrStep::Exit => {
+                return NodeExit {
+                    tokens,
+                    end: at,
+                    next: i + 1,
+                };
+            }
+            StrStep::Error { .. } => {}
         }
-        StrStep::Exit => Ok(PassState::Outside),
-        StrStep::Error { .. } => Ok(PassState::UnderRoot),
-    }
-}
-
-// Reads a step inside a child of the root. Appends the child if the step is its `Exit`. Returns the
-// next state.
-#[inline(always)]
-fn pass_in_child(
-    children: &mut Vec<ChildSpan>,
-    child: OpenChild,
-    at: u32,
-    step: StrStep,
-) -> Result<PassState, AllocError>
-    requires { (child.inner + 1 < 2 ^ 64) × (child.tokens + 1 < 2 ^ 64) }
-    ensures children { IfOk result (λ state. (index : ℕ) (rest : List Given)
-        → children.new.items ++ remaining state (offset_after at step) (index + 1) rest
-        ≡ children.old.items ++ remaining (InChild child) at index (step ∷ rest)) }
-    ensures closes { IfOk result (λ state. (rest : List Given)
-        → IsTrue (closes (depth (InChild child)) (step ∷ rest))
-        → IsTrue (closes (depth state) rest)) }
-    ensures counted { (index : ℕ) → IsCounted index (InChild child)
-        → IfOk result (IsCounted (index + 1)) }
-{
-    let mut child = child;
-    match step {
-        StrStep::Enter { .. } => child.inner += 1,
-        StrStep::Token { .. } => child.tokens += 1,
-        StrStep::Exit if child.inner > 0 => child.inner -= 1,
-        StrStep::Exit => {
-            children.push(ChildSpan {
-                step: child.step,
-                tokens: child.tokens,
-                start: child.start,
-                end: at,
-                node: Some(child.kind),
-            })?;
-            return Ok(PassState::UnderRoot);
-        }
-        StrStep::Error { .. } => {}
-    }
-    Ok(PassState::InChild { child })
-}
-
-// Reads a step. Returns the next state.
-#[inline(always)]
-fn pass_step(
-    children: &mut Vec<ChildSpan>,
-    state: PassState,
-    at: u32,
-    index: usize,
-    step: StrStep,
-) -> Result<PassState, AllocError>
-    requires small { index + 1 < 2 ^ 64 }
-    requires counted { IsCounted index state }
-    ensures children { IfOk result (λ after. (rest : List Given)
-        → children.new.items ++ remaining after (offset_after at step) (index + 1) rest
-        ≡ children.old.items ++ remaining state at index (step ∷ rest)) }
-    ensures closes { IfOk result (λ after. (rest : List Given)
-        → IsTrue (closes (depth state) (step ∷ rest))
-        → IsTrue (closes (depth after) rest)) }
-    ensures counted { IfOk result (IsCounted (index + 1)) }
-{
-    match state {
-        PassState::Outside => Ok(state),
-        PassState::UnderRoot => pass_under_root(children, at, index, step),
-        PassState::InChild { child } => pass_in_child(children, child, at, step),
-    }
-}
-
-// The end of the last token after a step, if before it that is `at`.
-fn offset_after(at: u32, step: StrStep) -> u32
-    ensures { result ≡ offset_after at step }
-{
-    match step {
-        StrStep::Token { end, .. } => end,
-        _ => at,
+        i += 1;
     }
 }
 
@@ -182,12 +87,34 @@ pub(crate) fn child_spans(
 {
     let mut children = children_with_room(alloc, room);
     // The first step enters the root.
-    let (mut state, mut at) = (PassState::UnderRoot, 0);
-    for i in 1..steps.len() {
-        // The prover takes a step that is passed twice by reference.
-        let step = &steps[i];
-        state = pass_step(&mut children, state, at, i, *step)?;
-        at = offset_after(at, *step);
+    let (mut i, mut at) = (1, 0);
+    loop {
+        match steps[i] {
+            StrStep::Enter { kind } => {
+                let NodeExit { tokens, end, next } = find_exit(steps, i + 1, at);
+                children.push(ChildSpan {
+                    step: i,
+                    tokens,
+                    start: at,
+                    end,
+                    node: Some(kind),
+                })?;
+                at = end;
+                i = next;
+            }
+            StrStep::Token { start, end, .. } => {
+                children.push(ChildSpan {
+                    step: i,
+                    tokens: 1,
+                    start,
+                    end,
+                    node: None,
+                })?;
+                at = end;
+                i += 1;
+            }
+            StrStep::Exit => return Ok(children),
+            StrStep::Error { .. } => i += 1,
+        }
     }
-    Ok(children)
 }
