@@ -1,19 +1,23 @@
 #!/usr/bin/env python3
 """Measures the program, and any second one beside it: processor time, speed and peak memory.
 
-Use: program.py [--times N] [--other PROGRAM] [--program PROGRAM] [--tables NAMES] [FILE..]
+Use: program.py [--times N] [--other PROGRAM] [--program PROGRAM] [--tables NAMES] [--seed N] [--count N] [FILE..]
 
 Each FILE is a SQL text; without one, statements.sql beside this script is repeated up to 10 MB. The program is the one
 that ./run builds, which is built first if need be; PROGRAM is any other that reads SQL on standard input. Each row is
 the least of N runs (5 if nothing is said), which take turns between the two programs. Their output goes to /dev/null.
 
-NAMES are one or more of these, with commas between them; all of them if nothing is said:
+NAMES are one or more of these, with commas between them; all of them but the last if nothing is said:
   texts     the files, and `make 100000`, which only the program that ./run builds knows
   growth    the first file, 1, 2, 4 and 8 times, with the ratio of the time to that of half the text
   hostile   texts of 20 MB that repeat what is bad for a lexer or a tree, and a group 100000 deep
   commands  the files under split, quote, squeeze and clauses of the first program, as ratios to its report
   hostile_commands
             the same of hostile texts of 10 and 20 MB, with the ratio of the time of 20 MB to that of 10 MB
+  random    N random texts of 10 MB (`--count N`, 100 if nothing is said; `--seed N` chooses which, 1 if nothing is
+            said), each an opening and a piece that is repeated: the ten with the highest ratio of time or memory to the
+            second program, and how many are above 1.1. A text that is above 1.05 is measured again, with three times
+            the runs, and the first result is dropped. Needs `--other`; left out unless it is named
 
 Time is user and system time of the process. Memory is its largest resident set. On Linux the figure includes the
 memory of this script, about 15 MB, so it says nothing below that.
@@ -21,6 +25,7 @@ memory of this script, about 15 MB, so it says nothing below that.
 import argparse
 import os
 import pathlib
+import random
 import subprocess
 import sys
 import tempfile
@@ -102,6 +107,26 @@ HOSTILE_TO_COMMANDS = {
 # The commands that read a text, without that of the report.
 COMMANDS = "split", "quote", "squeeze", "clauses"
 
+# What a random text begins with, and what its piece is made of.
+OPENINGS = "", "'", "E'", '"', "U&'", "/*", "--", "$a$", "$abcdef$", "\\set ", "select ", "(", "copy t from stdin;\n"
+ITEMS = (
+    "a", "b", "E", "x'", "e'", "_", "select", "\u00e4", "\u20ac", "\U0001f600", "1", "0x1", "1e5", ".", "'", "''", '"',
+    "\\", "/", "*", "/*", "*/", "-", "--", "$", "$$", "$a$", "$abcde", ",", ";", "(", ")", "+", "@", "#", ":",
+    "\\g", "\\.\n", " ", "\t", "\n",
+)
+LONGEST_PIECE = 8
+RANDOM_SIZE = 10 * MB
+
+# A random text is measured again if its ratio is above this.
+RATIO_TO_REPEAT = 1.05
+
+# A ratio that no random text should exceed.
+HIGHEST_RATIO = 1.1
+
+# The number of rows of random texts, and the width of their names.
+RANDOM_ROWS = 10
+RANDOM_NAME = 44
+
 
 def parts_of(path):
     """The bytes of a file, in parts."""
@@ -132,6 +157,11 @@ def least_of(calls, path, times):
     return [tuple(map(min, zip(*costs))) for costs in zip(*runs)]
 
 
+def highest_ratio(costs):
+    """The higher ratio of the first program to the second, of time or of memory."""
+    return max(first / second for first, second in zip(*costs))
+
+
 def row(name, size, costs):
     """A line of a table: what the first program costs, and the second, as ratios of the first to the second."""
     (time, memory), *others = costs
@@ -147,9 +177,10 @@ def row(name, size, costs):
 class Bench:
     """Runs the programs on texts, each of which it writes to a file, and prints a row for each."""
 
-    def __init__(self, programs, times, folder):
+    def __init__(self, programs, times, folder, openings_and_pieces=()):
         self.programs = programs
         self.times = times
+        self.openings_and_pieces = openings_and_pieces
         self.makes_texts = programs[0] == str(BUILT)
         self.path = pathlib.Path(folder) / "text"
 
@@ -213,6 +244,21 @@ class Bench:
             self.measure(name, repeated(start, piece, 20 * MB))
         self.measure("100000 deep", nested(100000))
 
+    def random(self, _files):
+        results = sorted((self.measure_random(*text) for text in self.openings_and_pieces), reverse=True)
+        for ratio, name, size, costs in results[:RANDOM_ROWS]:
+            print(row(name.ljust(RANDOM_NAME), size, costs))
+        above = sum(result[0] > HIGHEST_RATIO for result in results)
+        print(f"{len(results)} texts, {above} above {HIGHEST_RATIO}", flush=True)
+
+    def measure_random(self, opening, piece):
+        """The higher ratio on a text, of time or of memory, its name, its size, and the costs."""
+        self.write(repeated(opening, piece, RANDOM_SIZE))
+        costs = least_costs(self.programs, [], self.path, self.times)
+        if highest_ratio(costs) > RATIO_TO_REPEAT:
+            costs = least_costs(self.programs, [], self.path, 3 * self.times)
+        return highest_ratio(costs), f"{opening!r} {piece!r}", self.path.stat().st_size, costs
+
 
 # The tables by their names.
 TABLES = {
@@ -221,7 +267,16 @@ TABLES = {
     "hostile": Bench.hostile,
     "commands": Bench.commands,
     "hostile_commands": Bench.hostile_commands,
+    "random": Bench.random,
 }
+
+
+def random_texts(seed, count):
+    """The openings and the pieces of so many texts. The same seed gives the same texts."""
+    chance = random.Random(seed)
+    for _ in range(count):
+        length = chance.randint(1, LONGEST_PIECE)
+        yield chance.choice(OPENINGS), "".join(chance.choice(ITEMS) for _ in range(length))
 
 
 def repeated_statements(folder):
@@ -240,18 +295,22 @@ def main():
     parser.add_argument("--times", metavar="N", type=int, default=5)
     parser.add_argument("--program", metavar="PROGRAM")
     parser.add_argument("--other", metavar="PROGRAM")
-    parser.add_argument("--tables", metavar="NAMES", default=",".join(TABLES))
+    parser.add_argument("--tables", metavar="NAMES", default=",".join(name for name in TABLES if name != "random"))
+    parser.add_argument("--seed", metavar="N", type=int, default=1)
+    parser.add_argument("--count", metavar="N", type=int, default=100)
     words = parser.parse_args()
     tables = words.tables.split(",")
     for table in tables:
         if table not in TABLES:
             parser.error(f"no table {table}")
+    if "random" in tables and words.other is None:
+        parser.error("random needs --other")
     if words.program is None:
         subprocess.run([HERE.parent / "run", "make", "1"], stdout=subprocess.DEVNULL, check=True)
     programs = [words.program or str(BUILT)] + ([words.other] if words.other else [])
     with tempfile.TemporaryDirectory() as folder:
         files = words.files or [repeated_statements(folder)]
-        bench = Bench(programs, words.times, folder)
+        bench = Bench(programs, words.times, folder, list(random_texts(words.seed, words.count)))
         for table in tables:
             print(f"\n{table}")
             TABLES[table](bench, files)
