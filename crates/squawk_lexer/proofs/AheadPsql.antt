@@ -13,7 +13,7 @@ use Rattle.squawk_lexer.specs.PsqlParts.{is_psql_quote, is_escape, close_len, qu
 use Rattle.squawk_lexer.specs.Psql.{psql, command_word, word_end, options_end, output_start, output_end, command_end}
 use Rattle.squawk_lexer.proofs.TokenLaws.{output_start_on, output_end_on, psql_on}
 use Rattle.squawk_lexer.proofs.PsqlArgumentLaws.{pair_plain, rest_in}
-use Rattle.squawk_lexer.proofs.PsqlSteps.{blank_is_plain}
+use Rattle.squawk_lexer.proofs.ArgumentSteps.{blank_is_plain}
 use Rattle.squawk_lexer.proofs.Ahead.{Tests, PairTests, Follows, Looks, branch, pick, Alike, take_same, test, seen}
 use Rattle.squawk_lexer.proofs.AheadRuns.{prefix_looks, run_same}
 use Rattle.squawk_lexer.proofs.AheadClosed.{far, later, shorter, either_far}

@@ -1,5 +1,5 @@
 -- Runs within the first bytes of a text, from the mask of a vector of them.
-use Rattle.std.proofs.Common.{◌≡◌, ℕ, zero, suc, ◌+◌, ◌%◌, ◌^◌, ◌<◌, ◌≤◌, Bool, true, false, not, cond, ◌||◌, bit_or, List, [], ◌∷◌, map, length, get_or, take, drop, Fits, w8, refl, sym, ap, ap₂, ◌∙◌, arith}
+use Rattle.std.proofs.Common.{◌≡◌, ℕ, zero, suc, ◌+◌, ◌%◌, ◌^◌, ◌<◌, ◌≤◌, Bool, true, false, not, cond, ◌||◌, ◌&&◌, bit_or, List, [], ◌∷◌, map, length, get_or, take, drop, Fits, w8, refl, sym, ap, ap₂, ◌∙◌, arith}
 use Rattle.std.proofs.lemmas.Simd.{map-map, mask_l-mod, length-chunk, first_set_mask_l}
 use Rattle.std.proofs.lemmas.List.{length-map}
 use Rattle.std.specs.List.{prefix_len}
@@ -106,3 +106,24 @@ neither_top true true = refl
 neither_top true false = refl
 neither_top false true = refl
 neither_top false false = refl
+
+-- The same of four tests.
+pub none_top : (s t x y : Bool)
+    → not (top 7 (bit_or (bit_or (cond s 255 0) (cond t 255 0)) (bit_or (cond x 255 0) (cond y 255 0))))
+    ≡ (not (s || t) && not (x || y))
+none_top true true true true = refl
+none_top true true true false = refl
+none_top true true false true = refl
+none_top true true false false = refl
+none_top true false true true = refl
+none_top true false true false = refl
+none_top true false false true = refl
+none_top true false false false = refl
+none_top false true true true = refl
+none_top false true true false = refl
+none_top false true false true = refl
+none_top false true false false = refl
+none_top false false true true = refl
+none_top false false true false = refl
+none_top false false false true = refl
+none_top false false false false = refl

@@ -1,6 +1,6 @@
 -- The laws of quotes, arguments and marks of psql commands, and worked examples of the first
 -- marked argument.
-use Rattle.std.proofs.Common.{◌≡◌, ℕ, zero, suc, ◌+◌, ◌<◌, ◌≤◌, Bool, true, false, List, [], ◌∷◌, length, get_or, slice_get, drop, Option, Some, None, option_map, unwrap_or, eqb, cond, refl, sym, ap, subst, ◌∙◌, arith, codes}
+use Rattle.std.proofs.Common.{◌≡◌, ℕ, zero, suc, ◌+◌, ◌-◌, ◌<◌, ◌≤◌, Bool, true, false, List, [], ◌∷◌, length, get_or, slice_get, drop, Option, Some, None, option_map, unwrap_or, eqb, cond, refl, sym, ap, subst, ◌∙◌, arith, codes}
 use Rattle.std.specs.List.{prefix_len}
 use Rattle.std.proofs.lemmas.List.{length-drop, get_or-drop}
 use Rattle.std.proofs.lemmas.List.Sums.{prefix_len-le-length}
@@ -96,6 +96,18 @@ rest_in c cs = by (is_psql_quote c) (close_len c cs) (closes c cs)
     by false o h = omega arith
     by true None h = prefix_len-le-length is_not_line_end cs
     by true (Some n) (m, e, pieces, last) = omega (arith, e, within_some cs m c (sym last))
+
+-- A closed quote ends with the character that opened it.
+pub close_read : (q : ℕ) (cs : List ℕ) (n : ℕ) → close_len q cs ≡ Some n
+    → (Some q ≡ slice_get cs (n - 1)) × (1 ≤ n)
+close_read q cs n e = by (close_len q cs) (closes q cs) e
+  where
+    by : (o : Option ℕ) → Closes q cs o → o ≡ Some n → (Some q ≡ slice_get cs (n - 1)) × (1 ≤ n)
+    by None h e = absurd (cc)
+    by (Some k) (m, len, pieces, last) e =
+        let same : k ≡ n = cc in
+        let at : n - 1 ≡ m = omega arith in
+        (rw at (sym last), omega arith)
 
 -- ---- longest sequences of parts
 

@@ -143,10 +143,6 @@ other_one a b c e = rw (← e) (ap not (or_same (eqb c a)))
 
 -- ---- within a line
 
--- The class of all characters of a line but two of ASCII holds all characters beyond ASCII.
-pub uniform_neither_on_line : (a b : ℕ) → a < 128 → b < 128 → IsUniform (is_neither_on_line a b)
-uniform_neither_on_line a b p q x y h k = grind (arith, nat_tests)
-
 -- A run within a run is the run of both classes.
 both_runs : (p q : ℕ → Bool) (bs : List ℕ) → prefix_len q (take (prefix_len p bs) bs)
     ≡ prefix_len (λ x. p x && q x) bs

@@ -1,14 +1,25 @@
 -- First bytes of characters in UTF-8. A byte below 128 is an ASCII character by itself.
-use Rattle.std.specs.Prelude.{◌≡◌, ℕ, ◌+◌, ◌<◌, ◌==◌, not, if◌then◌else◌, List, length, slice_index}
+use Rattle.std.specs.Prelude.{◌≡◌, ℕ, ◌+◌, ◌<◌, ◌==◌, ◌||◌, nat_lt, not, if◌then◌else◌, List, length, slice_index}
 use Rattle.std.specs.Int.{w64, trailing_zeros}
 use Rattle.std.specs.Char.{encode_utf8}
-use Rattle.squawk_lexer.specs.Classes.{is_ident_cont, comma}
+use Rattle.squawk_lexer.specs.Classes.{is_ident_cont, is_blank, comma, open_bracket, close_bracket}
+use Rattle.squawk_lexer.specs.PsqlParts.{is_psql_quote, ends_arguments}
 
 -- A table of 256 entries, one for each byte, has an entry other than `,` exactly at the bytes that
 -- continue an identifier (`is_ident_cont`).
 pub record HasIdentCont (table : List ℕ) : Type 0 where
   pub len : length table ≡ 256
   pub each : (b : ℕ) → b < 256 → not (slice_index table b == comma) ≡ is_ident_cont b
+
+-- A table of 256 entries has `,` exactly at blanks, `[` at the bytes that open a quote in psql's
+-- arguments, `]` at those that end the arguments, and entries below `[` at all but the last two.
+pub record HasArgumentBytes (table : List ℕ) : Type 0 where
+  pub len : length table ≡ 256
+  pub blanks : (b : ℕ) → b < 256 → (slice_index table b == comma) ≡ is_blank b
+  pub quotes : (b : ℕ) → b < 256 → (slice_index table b == open_bracket) ≡ is_psql_quote b
+  pub ends : (b : ℕ) → b < 256 → (slice_index table b == close_bracket) ≡ ends_arguments b
+  pub skipped : (b : ℕ) → b < 256
+      → nat_lt (slice_index table b) open_bracket ≡ not (is_psql_quote b || ends_arguments b)
 
 -- The first byte of the UTF-8 encoding of c: c itself where c is ASCII.
 unfoldable pub first_byte : ℕ → ℕ

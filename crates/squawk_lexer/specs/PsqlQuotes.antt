@@ -1,8 +1,7 @@
 -- Indexes and characters in a quote of psql's arguments, for the functions that skip one.
-use Rattle.std.specs.Prelude.{ℕ, ◌+◌, ◌-◌, ◌==◌, List, take, drop, Option, None, option_map, if◌then◌else◌}
-use Rattle.std.specs.List.{last_or}
+use Rattle.std.specs.Prelude.{ℕ, ◌+◌, ◌==◌, List, drop, Option, option_map, if◌then◌else◌}
 use Rattle.squawk_lexer.specs.Classes.{apostrophe, backslash}
-use Rattle.squawk_lexer.specs.PsqlParts.{close_len}
+use Rattle.squawk_lexer.specs.PsqlParts.{close_len, quote_len, mark_after}
 use Rattle.squawk_lexer.specs.Stops.{stop_on_line}
 
 -- The index after the quote q that closes a quote, where index i of u is inside it. `None` where it
@@ -10,9 +9,13 @@ use Rattle.squawk_lexer.specs.Stops.{stop_on_line}
 abbrev pub close_end : ℕ → List ℕ → ℕ → Option ℕ
 close_end q u i = option_map (λ n. i + n) (close_len q (drop i u))
 
--- The last character of u from index i up to index j, or `None` where there is none between them.
-abbrev pub last_before : List ℕ → ℕ → ℕ → Option ℕ
-last_before u i j = last_or None (take (j - i) (drop i u))
+-- The index at which a quote ends, where index i of u is after its opening q.
+abbrev pub quote_end : ℕ → List ℕ → ℕ → ℕ
+quote_end q u i = i + quote_len q (drop i u)
+
+-- The mark of an argument after that quote, where it was `mark` before.
+abbrev pub mark_at : Option ℕ → ℕ → List ℕ → ℕ → Option ℕ
+mark_at mark q u i = mark_after mark q (drop i u)
 
 -- The index at or after i of the next character that may close the quote or begin an escape,
 -- or of the end of the line.

@@ -3,7 +3,7 @@
 ghost use Rattle.std.specs.Prelude.{◌≡◌, ◌+◌, ◌<◌, ◌≤◌, length, drop};
 ghost use Rattle.std.specs.List.{prefix_len};
 ghost use Rattle.squawk_lexer.specs.Classes.{is_ident_cont};
-ghost use Rattle.squawk_lexer.specs.Stops.{is_neither};
+ghost use Rattle.squawk_lexer.specs.Stops.{is_neither, is_neither_on_line};
 ghost use Rattle.squawk_lexer.specs.Bytes.{first_set};
 
 use std::simd::prelude::*;
@@ -62,4 +62,20 @@ pub(crate) fn run_until2(a: u8, b: u8, bytes: &[u8]) -> usize
     let v = u8x16::from_slice(bytes);
     let is_stop = v.simd_eq(u8x16::splat(a)) | v.simd_eq(u8x16::splat(b));
     first_set(is_stop.to_bitmask())
+}
+
+// The length of the run of bytes that are none of `a`, `b`, LF and CR, within the first `LANES`
+// bytes.
+#[inline(always)]
+pub(crate) fn run_until2_on_line(a: u8, b: u8, bytes: &[u8]) -> usize
+    requires { LANES ≤ length bytes.now }
+    ensures within { result ≤ LANES }
+    ensures prefix { result + prefix_len (is_neither_on_line a b) (drop result bytes.now)
+        ≡ prefix_len (is_neither_on_line a b) bytes.now }
+    ensures whole { result < LANES → result ≡ prefix_len (is_neither_on_line a b) bytes.now }
+{
+    let v = u8x16::from_slice(bytes);
+    let is_stop = v.simd_eq(u8x16::splat(a)) | v.simd_eq(u8x16::splat(b));
+    let is_line_end = v.simd_eq(u8x16::splat(b'\n')) | v.simd_eq(u8x16::splat(b'\r'));
+    first_set((is_stop | is_line_end).to_bitmask())
 }

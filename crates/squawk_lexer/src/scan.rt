@@ -10,7 +10,7 @@ ghost use Rattle.squawk_lexer.specs.Stops.{is_neither, is_neither_on_line};
 ghost use Rattle.squawk_lexer.specs.Bytes.{HasIdentCont};
 
 use crate::classes::{Class, Digits, is_digit_byte, is_in, is_whitespace};
-use crate::lanes::{LANES, ident_cont_run, run_until2};
+use crate::lanes::{LANES, ident_cont_run, run_until2, run_until2_on_line};
 use memchr::{memchr, memchr2, memchr3};
 
 // The entry of a byte is `,` if the byte ends an identifier. Otherwise the byte continues one, and
@@ -134,31 +134,33 @@ fn memchr_len_until2(a: u8, b: u8, bytes: &[u8]) -> usize
     first.unwrap_or(bytes.len())
 }
 
-// A call of `memchr` costs about as much as testing this many bytes one by one. So the first bytes
-// are tested in a loop, and `memchr` is called only if none of them ends the run.
-const BYTES_BEFORE_MEMCHR: usize = 8;
+// The number of bytes of a line that are tested one by one before `LANES` at once: most quotes in
+// the arguments of psql's commands are short.
+const NEAR_ON_LINE: usize = 4;
 
 // The number of bytes before the first `a`, `b`, LF or CR, or of all bytes if there is none.
+#[inline(always)]
 pub(crate) fn len_until2_on_line(a: u8, b: u8, bytes: &[u8]) -> usize
     ensures { result ≡ prefix_len (is_neither_on_line a b) bytes.now }
 {
-    let len = short_len_until2_on_line(a, b, bytes);
-    if len < BYTES_BEFORE_MEMCHR {
+    let len = near_len_until2_on_line(a, b, bytes);
+    if len < NEAR_ON_LINE {
         return len;
     }
-    len + memchr_len_until2_on_line(a, b, &bytes[len..])
+    len + far_len_until2_on_line(a, b, &bytes[len..])
 }
 
-// The same within the first `BYTES_BEFORE_MEMCHR` bytes.
-fn short_len_until2_on_line(a: u8, b: u8, bytes: &[u8]) -> usize
+// The same within the first `NEAR_ON_LINE` bytes.
+#[inline(always)]
+fn near_len_until2_on_line(a: u8, b: u8, bytes: &[u8]) -> usize
     ensures within { result ≤ length bytes.now }
     ensures prefix { result + prefix_len (is_neither_on_line a b) (drop result bytes.now)
         ≡ prefix_len (is_neither_on_line a b) bytes.now }
-    ensures whole { result < BYTES_BEFORE_MEMCHR
+    ensures whole { result < NEAR_ON_LINE
         → result ≡ prefix_len (is_neither_on_line a b) bytes.now }
 {
     let mut len = 0;
-    while len < bytes.len() && len < BYTES_BEFORE_MEMCHR && is_neither_on_line(a, b, bytes[len]) {
+    while len < bytes.len() && len < NEAR_ON_LINE && is_neither_on_line(a, b, bytes[len]) {
         len += 1;
     }
     len
@@ -170,8 +172,24 @@ fn is_neither_on_line(a: u8, b: u8, byte: u8) -> bool
     byte != a && byte != b && byte != b'\n' && byte != b'\r'
 }
 
-// The length of that run, found by `memchr`; not inlined either. The second search reads only what
-// the first one skipped, so both together are linear.
+// The length of that run, `LANES` bytes at once.
+fn far_len_until2_on_line(a: u8, b: u8, bytes: &[u8]) -> usize
+    ensures { result ≡ prefix_len (is_neither_on_line a b) bytes.now }
+{
+    let mut len = 0;
+    while len < NEAR && bytes.len() - len >= LANES {
+        let run = run_until2_on_line(a, b, &bytes[len..]);
+        if run < LANES {
+            return len + run;
+        }
+        // `run` is `LANES` here too.
+        len += LANES;
+    }
+    len + memchr_len_until2_on_line(a, b, &bytes[len..])
+}
+
+// The same, found by `memchr`; not inlined either. The second search reads only what the first one
+// skipped, so both together are linear.
 #[inline(never)]
 fn memchr_len_until2_on_line(a: u8, b: u8, bytes: &[u8]) -> usize
     ensures { result ≡ prefix_len (is_neither_on_line a b) bytes.now }

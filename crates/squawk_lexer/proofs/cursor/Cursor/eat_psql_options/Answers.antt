@@ -1,42 +1,27 @@
-use Rattle.std.proofs.Common.{◌≡◌, true, sym, ◌∙◌, arith}
-use Rattle.squawk_lexer.specs.PsqlParts.{ends_arguments}
-use Rattle.squawk_lexer.proofs.PsqlSteps.{marked_returns, marked_stop, marked_none}
-use Rattle.squawk_lexer.proofs.Steps.{within_some}
+use Rattle.squawk_lexer.proofs.ByteRuns.{skipped}
+use Rattle.squawk_lexer.proofs.ArgumentBytes.{passed_options}
 use Rattle.squawk_lexer.proofs.cursor.Cursor.eat_psql_options.Goals as goal
 
-pub returns-then-ends_arguments-clause-at : goal.returns-then-ends_arguments-clause-at
-returns-then-ends_arguments-clause-at c =
-    let ends : ends_arguments c.in-Some.c ≡ true = sym c.ends_arguments.ensures
-    ∙ c.if-ends_arguments.true in
-    let last = marked_stop c.loop-c.mark c.loop-c.self.text c.loop-c.self.at c.in-Some.c
-    c.in-Some.ensures ends in
-    (marked_returns c.loop-c.mark c.args.self.now.text c.args.self.now.at c.loop-c.self.text
-    c.loop-c.self.at c.loop-c.invariant.end c.loop-c.invariant.marked last).0
+pub range_from-self-inside-requires : goal.range_from-self-inside-requires
+range_from-self-inside-requires c =
+    let s = passed_options _ _ _ _ _ c.self.invariant c.options_end-end.ensures.at
+    c.options_end-end.ensures.found c.as_bytes.ensures.value in
+    λ _. s.0.boundary
 
-pub returns-then-ends_arguments-clause-found : goal.returns-then-ends_arguments-clause-found
-returns-then-ends_arguments-clause-found c =
-    let ends : ends_arguments c.in-Some.c ≡ true = sym c.ends_arguments.ensures
-    ∙ c.if-ends_arguments.true in
-    let last = marked_stop c.loop-c.mark c.loop-c.self.text c.loop-c.self.at c.in-Some.c
-    c.in-Some.ensures ends in
-    c.is_parenthesis.ensures
-    ∙ (marked_returns c.loop-c.mark c.args.self.now.text c.args.self.now.at c.loop-c.self.text
-    c.loop-c.self.at c.loop-c.invariant.end c.loop-c.invariant.marked last).1
-
-pub loop-c-smaller-then-not-is_blank : goal.loop-c-smaller-then-not-is_blank
-loop-c-smaller-then-not-is_blank c =
-    let within = within_some c.loop-c.self.text c.loop-c.self.at c.in-Some.c c.in-Some.ensures in
-    rw (c.eat_psql_arg_part-mark.ensures.text, c.eat_psql_arg_part-mark.ensures.at) (omega arith)
+pub invariant_of-self : goal.invariant_of-self
+invariant_of-self c =
+    let s = passed_options _ _ _ _ _ c.self.invariant c.options_end-end.ensures.at
+    c.options_end-end.ensures.found c.as_bytes.ensures.value in
+    (skipped _ _ _ _ _ s.0 c.range_from-self-inside.ensures.value).0
 
 pub returns-clause-at : goal.returns-clause-at
 returns-clause-at c =
-    let last = marked_none c.loop-c.mark c.loop-c.self.text c.loop-c.self.at c.in_default.ensures in
-    (marked_returns c.loop-c.mark c.args.self.now.text c.args.self.now.at c.loop-c.self.text
-    c.loop-c.self.at c.loop-c.invariant.end c.loop-c.invariant.marked last).0
+    let s = passed_options _ _ _ _ _ c.self.invariant c.options_end-end.ensures.at
+    c.options_end-end.ensures.found c.as_bytes.ensures.value in
+    rw (← c.self.view_is) (skipped _ _ _ _ _ s.0 c.range_from-self-inside.ensures.value).1
 
 pub returns-clause-found : goal.returns-clause-found
 returns-clause-found c =
-    let last = marked_none c.loop-c.mark c.loop-c.self.text c.loop-c.self.at c.in_default.ensures in
-    c.is_parenthesis-2.ensures
-    ∙ (marked_returns c.loop-c.mark c.args.self.now.text c.args.self.now.at c.loop-c.self.text
-    c.loop-c.self.at c.loop-c.invariant.end c.loop-c.invariant.marked last).1
+    let s = passed_options _ _ _ _ _ c.self.invariant c.options_end-end.ensures.at
+    c.options_end-end.ensures.found c.as_bytes.ensures.value in
+    rw (← c.self.view_is) s.1

@@ -1,7 +1,7 @@
 use Rattle.std.proofs.Common.{◌≡◌, ◌+◌, ◌-◌, ◌≤◌, length, drop}
 use Rattle.std.specs.List.{prefix_len}
 use Rattle.squawk_lexer.specs.Stops.{is_neither_on_line}
-use Rattle.squawk_lexer.proofs.scan.short_len_until2_on_line.Given as goal
+use Rattle.squawk_lexer.proofs.scan.near_len_until2_on_line.Given as goal
 
 abbrev pub invariant-loop-len : goal.invariant-loop-len
 invariant-loop-len l = record {
