@@ -17,8 +17,8 @@ const QUOTE: u8 = b'[';
 
 const END: u8 = b']';
 
-// The entry of a byte is `BLANK`, `QUOTE` or `END`, or `.` for all others. The entries of bytes that
-// are only skipped are below `QUOTE`, so that one test finds them.
+// The entry of a byte is `BLANK`, `QUOTE` or `END`, or `.` for all others. Bytes that are only
+// skipped have entries below `QUOTE`, so that one test finds them.
 static ARGUMENT_BYTES: [u8; 256] = *b"\
     .........,],,]..................\
     ,.[....[........................\
