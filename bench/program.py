@@ -75,6 +75,7 @@ HOSTILE = {
     "blanks after a psql command": ("\\set ", " "),
     "psql options": ("\\g (", "a='b' "),
     "quotes in psql options": ("\\g (", ":'"),
+    "long quotes to CR": ("", "\\a \"" + "a" * 70 + "\r"),
     "psql commands": ("", "\\g\n"),
     "current_timestamp": ("", "current_timestamp "),
     "create or replace": ("", "create or replace "),

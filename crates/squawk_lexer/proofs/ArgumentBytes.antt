@@ -17,6 +17,7 @@ use Rattle.squawk_lexer.specs.PsqlParts.{is_psql_quote, close_len, ends_argument
 use Rattle.squawk_lexer.specs.CursorModel.{IsRest, chars_before}
 use Rattle.squawk_lexer.proofs.ByteRuns.{high, some_bytes, IsSkip, skip}
 use Rattle.squawk_lexer.proofs.PsqlArgumentLaws.{rest_in, close_read}
+use Rattle.squawk_lexer.proofs.WithinLaws.{args_len_in, marked_in}
 use Rattle.squawk_lexer.proofs.QuoteBytes.{AreHigh, map_none, map_more, one_byte, in_bytes, in_bytes_one, in_bytes_ascii, byte_close, byte_quote}
 
 -- Characters, or bytes, beyond ASCII are parts by themselves.
@@ -26,6 +27,7 @@ args_one x ys big = let (more, no_quote) = plain x big in rw (more, no_quote) re
     plain : (x : ℕ) → 128 ≤ x → (ends_arguments x ≡ false) × (is_psql_quote x ≡ false)
     plain x big = (grind (arith, nat_tests), grind (arith, nat_tests))
 
+-- So are several.
 args_high : (xs ys : List ℕ) → AreHigh xs
     → arguments_len 0 (xs ++ ys) ≡ length xs + arguments_len 0 ys
 args_high [] ys all = omega arith
@@ -41,18 +43,6 @@ args_over (x ∷ xs) ys m =
     let next : length (x ∷ xs) + m ≡ suc (length xs + m) = omega arith in
     rw next (omega (arith, args_over xs ys m))
 
--- The arguments end within the text.
-args_in : (k : ℕ) (cs : List ℕ) → k ≤ length cs → arguments_len k cs ≤ length cs
-args_in k [] h = omega arith
-args_in zero (c ∷ cs) h =
-    by (cases_Bool (ends_arguments c)) (args_in (part_rest c cs) cs (rest_in c cs))
-  where
-    by : (ends_arguments c ≡ true) ⊎ (ends_arguments c ≡ false)
-        → arguments_len (part_rest c cs) cs ≤ length cs → arguments_len 0 (c ∷ cs) ≤ length (c ∷ cs)
-    by (inl ends) rest = rw ends (omega arith)
-    by (inr more) rest = rw more (omega (arith, rest))
-args_in (suc k) (c ∷ cs) h = omega (arith, args_in k cs (omega arith))
-
 -- A part in bytes ends where it does in characters.
 byte_part : (c : ℕ) (cs : List ℕ) → c < 128
     → part_rest c (encode_utf8_all cs) ≡ utf8_len (take (part_rest c cs) cs)
@@ -66,9 +56,10 @@ byte_part c cs low = by (cases_Bool (is_psql_quote c))
 -- The arguments at a character c end in bytes where they do in characters, if those after a part
 -- do.
 args_next : (c : ℕ) (cs : List ℕ)
-    → ((k : ℕ) → k ≤ length cs
-    → arguments_len (utf8_len (take k cs)) (encode_utf8_all cs) ≡ utf8_len (take (arguments_len k cs) cs))
-    → arguments_len 0 (encode_utf8_all (c ∷ cs)) ≡ utf8_len (take (arguments_len 0 (c ∷ cs)) (c ∷ cs))
+    → ((k : ℕ) → k ≤ length cs → arguments_len (utf8_len (take k cs)) (encode_utf8_all cs)
+    ≡ utf8_len (take (arguments_len k cs) cs))
+    → arguments_len 0 (encode_utf8_all (c ∷ cs))
+    ≡ utf8_len (take (arguments_len 0 (c ∷ cs)) (c ∷ cs))
 args_next c cs more = by (cases_lt c 128) (cases_Bool (ends_arguments c))
   where
     back : (n : ℕ) → utf8_len (take (1 + n) (c ∷ cs)) ≡ length (encode_utf8 c) + utf8_len (take n cs)
@@ -89,6 +80,8 @@ args_next c cs more = by (cases_lt c 128) (cases_Bool (ends_arguments c))
         ∙ omega (arith, more 0 (omega arith), back (arguments_len 0 cs))
         ∙ ap (λ n. utf8_len (take n (c ∷ cs))) (sym (args_one c cs big))
 
+-- The arguments over the encoding end where they do over the characters. The first k characters
+-- belong to a part that began before.
 byte_args : (cs : List ℕ) (k : ℕ) → k ≤ length cs
     → arguments_len (utf8_len (take k cs)) (encode_utf8_all cs)
     ≡ utf8_len (take (arguments_len k cs) cs)
@@ -113,6 +106,7 @@ last_append : (o : Option ℕ) (xs ys : List ℕ) → last_or o (xs ++ ys) ≡ l
 last_append o [] ys = refl
 last_append o (x ∷ xs) ys = last_append (Some x) xs ys
 
+-- The last of a list is that of what is before it only where the list is empty.
 last_some : (x : ℕ) (xs : List ℕ) (o : Option ℕ)
     → option_or (last_or (Some x) xs) o ≡ last_or (Some x) xs
 last_some x [] o = refl
@@ -126,6 +120,7 @@ last_else (x ∷ xs) o = last_some x xs o
 high_mark : (x : ℕ) → 128 ≤ x → is_parenthesis (Some x) ≡ false
 high_mark x big = grind (arith, nat_tests)
 
+-- So is the last of several bytes, and of those of a character.
 high_last : (o : Option ℕ) (x : ℕ) (xs : List ℕ) → AreHigh (x ∷ xs)
     → is_parenthesis (last_or o (x ∷ xs)) ≡ false
 high_last o x [] all = high_mark x (all 0 (omega arith))
@@ -222,8 +217,10 @@ marked_one mark x ys big =
       grind (arith, nat_tests),
     )
 
+-- And the last of several is their mark.
 marked_high : (mark : Option ℕ) (xs ys : List ℕ) → AreHigh xs
-    → marked_len 0 mark (xs ++ ys) ≡ option_map (λ n. n + length xs) (marked_len 0 (last_or mark xs) ys)
+    → marked_len 0 mark (xs ++ ys)
+    ≡ option_map (λ n. n + length xs) (marked_len 0 (last_or mark xs) ys)
 marked_high mark [] ys all = map_none (marked_len 0 mark ys)
 marked_high mark (x ∷ xs) ys all =
     marked_one mark x (xs ++ ys) (all 0 (omega arith))
@@ -232,7 +229,8 @@ marked_high mark (x ∷ xs) ys all =
 
 -- The bytes inside a part are only skipped.
 marked_over : (xs ys : List ℕ) (m : ℕ) (mark : Option ℕ)
-    → marked_len (length xs + m) mark (xs ++ ys) ≡ option_map (λ n. n + length xs) (marked_len m mark ys)
+    → marked_len (length xs + m) mark (xs ++ ys)
+    ≡ option_map (λ n. n + length xs) (marked_len m mark ys)
 marked_over [] ys m mark = let none : 0 + m ≡ m = omega arith in
     rw none (map_none (marked_len m mark ys))
 marked_over (x ∷ xs) ys m mark =
@@ -285,6 +283,7 @@ marked_next c cs mark p same more =
         ∙ in_bytes_one c cs (marked_len 0 (Some c) cs)
         ∙ ap (in_bytes (c ∷ cs)) (sym (marked_one mark c cs big))
 
+-- So does the first marked argument, if both marks before it are `)` or neither is.
 byte_marked : (cs : List ℕ) (k : ℕ) (mark p : Option ℕ) → k ≤ length cs
     → is_parenthesis p ≡ is_parenthesis mark
     → marked_len (utf8_len (take k cs)) p (encode_utf8_all cs) ≡ in_bytes cs (marked_len k mark cs)
@@ -298,39 +297,6 @@ byte_marked (c ∷ cs) (suc k) mark p h same =
     ∙ marked_over (encode_utf8 c) (encode_utf8_all cs) (utf8_len (take k cs)) p
     ∙ ap (option_map (λ n. n + length (encode_utf8 c))) (byte_marked cs k mark p (omega arith) same)
     ∙ in_bytes_one c cs (marked_len k mark cs)
-
--- Lengths found in a list of that many characters, and one more.
-map_in : (len n : ℕ) (o : Option ℕ) → ((m : ℕ) → o ≡ Some m → m ≤ len)
-    → option_map (λ n. n + 1) o ≡ Some n → n ≤ suc len
-map_in len n None h e = absurd (cc)
-map_in len n (Some m) h e = let same : m + 1 ≡ n = cc in omega (arith, h m refl)
-
-case_in : (len n : ℕ) (ends blank is : Bool) (o p : Option ℕ) → ((m : ℕ) → o ≡ Some m → m ≤ len)
-    → ((m : ℕ) → p ≡ Some m → m ≤ len)
-    → cond ends (cond is (Some 0) None)
-    (cond blank (cond is (Some 0) (option_map (λ n. n + 1) o)) (option_map (λ n. n + 1) p))
-    ≡ Some n
-    → n ≤ suc len
-case_in len n true blank true o p h g e = let none : n ≡ 0 = cc in omega arith
-case_in len n true blank false o p h g e = absurd (cc)
-case_in len n false true true o p h g e = let none : n ≡ 0 = cc in omega arith
-case_in len n false true false o p h g e = map_in len n o h e
-case_in len n false false is o p h g e = map_in len n p g e
-
--- The marked argument ends within the text.
-marked_in : (k : ℕ) (mark : Option ℕ) (cs : List ℕ) (n : ℕ) → k ≤ length cs
-    → marked_len k mark cs ≡ Some n → n ≤ length cs
-marked_in k mark [] n h e = by (is_parenthesis mark) e
-  where
-    by : (b : Bool) → cond b (Some 0) None ≡ Some n → n ≤ 0
-    by true e = let none : n ≡ 0 = cc in omega arith
-    by false e = absurd (cc)
-marked_in zero mark (c ∷ cs) n h e =
-    case_in (length cs) n (ends_arguments c) (is_blank c) (is_parenthesis mark) _ _
-    (λ m. marked_in 0 None cs m (omega arith))
-    (λ m. marked_in (part_rest c cs) (mark_after mark c cs) cs m (rest_in c cs)) e
-marked_in (suc k) mark (c ∷ cs) n h e =
-    map_in (length cs) n (marked_len k mark cs) (λ m. marked_in k mark cs m (omega arith)) e
 
 -- ---- skipping
 
@@ -346,18 +312,20 @@ passed_arguments token rest bs n r len same =
     ∙ byte_args (chars rest) 0 (omega arith) in
     let at : chars_before token rest + k ≡ arguments_end (chars token) (chars_before token rest) =
     ap (λ x. chars_before token rest + arguments_len 0 x) r.is in
-    rw (bytes, ← at) (skip token rest k r (args_in 0 (chars rest) (omega arith)))
+    rw (bytes, ← at) (skip token rest k r (args_len_in 0 (chars rest)))
 
+-- The length of the options in bytes, from the same in characters.
 unwrap_bytes : (cs : List ℕ) (o : Option ℕ) (a : ℕ)
     → unwrap_or (in_bytes cs o) (utf8_len (take a cs)) ≡ utf8_len (take (unwrap_or o a) cs)
 unwrap_bytes cs None a = refl
 unwrap_bytes cs (Some n) a = refl
 
-unwrap_in : (o : Option ℕ) (a len : ℕ) → ((n : ℕ) → o ≡ Some n → n ≤ len) → a ≤ len
-    → unwrap_or o a ≤ len
-unwrap_in None a len h within = within
-unwrap_in (Some n) a len h within = h n refl
+-- The options end within the text if both lengths do.
+unwrap_in : (o : Option ℕ) (a len : ℕ) → unwrap_or o len ≤ len → a ≤ len → unwrap_or o a ≤ len
+unwrap_in None a len found all = all
+unwrap_in (Some n) a len found all = found
 
+-- An argument with the mark is found in bytes where one is found in characters.
 is_some_bytes : (cs : List ℕ) (o : Option ℕ) → is_some (in_bytes cs o) ≡ is_some o
 is_some_bytes cs None = refl
 is_some_bytes cs (Some n) = refl
@@ -383,8 +351,7 @@ passed_options token rest bs n found r len is same =
     let bytes : n ≡ utf8_len (take (unwrap_or o a) cs) =
     len ∙ ap₂ unwrap_or marked args ∙ unwrap_bytes cs o a in
     let within : unwrap_or o a ≤ length cs =
-    unwrap_in o a (length cs) (λ m. marked_in 0 None cs m (omega arith)) (args_in 0 cs (omega arith))
-    in
+    unwrap_in o a (length cs) (marked_in 0 None cs) (args_len_in 0 cs) in
     let at : chars_before token rest + unwrap_or o a
     ≡ chars_before token rest
     + unwrap_or (marked_len_at (chars token) (chars_before token rest))

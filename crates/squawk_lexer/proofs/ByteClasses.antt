@@ -1,5 +1,4 @@
--- The table of the bytes that continue an identifier, and classes that hold all characters beyond
--- ASCII or none.
+-- The tables of bytes that the lexer reads, and classes that hold all characters beyond ASCII or none.
 use Rattle.std.proofs.Common.{◌≡◌, ℕ, zero, suc, ◌<◌, ◌≤◌, Bool, true, false, ◌&&◌, ◌||◌, ltb, not, eqb, eq-eqb, get_or, List, refl, sym, ◌∙◌, arith, inl, inr}
 use Rattle.std.specs.Bool.{beq}
 use Rattle.std.proofs.lemmas.Bool.{cases_eq}
@@ -73,7 +72,8 @@ entry_not x k t e other = sym e ∙ ne_eqb x k other
 
 -- An entry below 91 is that of a byte of which neither test holds, and any other is that of a byte
 -- of which one does.
-pub entry_below : (x : ℕ) (s t : Bool) → ltb x 91 ≡ not (s || t) → x < 91 → (s ≡ false) × (t ≡ false)
+pub entry_below : (x : ℕ) (s t : Bool) → ltb x 91 ≡ not (s || t) → x < 91
+    → (s ≡ false) × (t ≡ false)
 entry_below x false false e h = (refl, refl)
 entry_below x false true e h = absurd (grind (arith, nat_tests))
 entry_below x true t e h = absurd (grind (arith, nat_tests))

@@ -4,13 +4,13 @@ use Rattle.std.specs.List.{prefix_len, last_or}
 use Rattle.std.proofs.lemmas.Bool.Decides.{nat_tests}
 use Rattle.std.proofs.lemmas.Bool.{cases_lt, cases_eq, cases_Bool}
 use Rattle.squawk_lexer.specs.Position.{position_after}
-use Rattle.squawk_lexer.specs.Runs.{line_end}
+use Rattle.squawk_lexer.specs.Runs.{run_end, line_end}
 use Rattle.squawk_lexer.specs.Classes.{is_line_end, is_not_line_end}
-use Rattle.squawk_lexer.specs.PsqlQuotes.{close_end, quote_end, mark_at, piece_stop}
+use Rattle.squawk_lexer.specs.PsqlQuotes.{close_end, quote_end, mark_after_quote}
 use Rattle.squawk_lexer.proofs.PsqlArgumentLaws.{rest_in}
 use Rattle.std.proofs.lemmas.List.Sums.{prefix_len-le-length}
-use Rattle.squawk_lexer.specs.Stops.{is_neither, is_neither_on_line, stop_on_line}
-use Rattle.squawk_lexer.proofs.StopSteps.{some_read, run_kept, other_not, inside_on}
+use Rattle.squawk_lexer.specs.Stops.{is_neither, is_neither_on_line}
+use Rattle.squawk_lexer.proofs.StopSteps.{some_read, run_kept, other_not}
 use Rattle.squawk_lexer.specs.PsqlParts.{is_psql_quote, is_escape, close_len, quote_len}
 use Rattle.squawk_lexer.proofs.Steps.{drop_some, drop_none, drop_read, drop_past, after_some, after_within, after_past, ne_eqb, run_more, run_stop, run_at_end}
 
@@ -143,16 +143,20 @@ read_on [] (suc i) k = refl
 read_on (x ∷ u) (suc i) k = let next : suc i + k ≡ suc (i + k) = omega arith in
     rw next (read_on u i k)
 
--- ---- a quote from index i of u, at index j of v, which is the same text
-
--- The loop ends at the closing quote.
-pub quote_found : (q : ℕ) (u : List ℕ) (i : ℕ) (v : List ℕ) (j c : ℕ)
-    → close_end q v j ≡ close_end q u i → Some c ≡ slice_get v j → is_line_end c ≡ false → c ≡ q
-    → close_end q u i ≡ Some (j + 1)
-quote_found q u i v j c inv s plain is_q =
-    sym inv ∙ quote_close q v j c s plain is_q ∙ ap Some (after_some v j c s)
+-- The loop ends at the closing quote, at index j.
+pub quote_found : (q : ℕ) (u : List ℕ) (i j : ℕ) → close_end q u j ≡ close_end q u i → j < length u
+    → is_line_end (get_or u j 0) ≡ false → get_or u j 0 ≡ q → close_end q u i ≡ Some (j + 1)
+quote_found q u i j kept within plain is_q =
+    let read = some_read u j within in
+    sym kept ∙ quote_close q u j (get_or u j 0) read plain is_q
+    ∙ ap Some (after_some u j (get_or u j 0) read)
 
 -- ---- the search for the next piece that matters
+
+-- The index at or after i of the next character that may close the quote or begin an escape, or of
+-- the end of the line.
+abbrev piece_stop : ℕ → List ℕ → ℕ → ℕ
+piece_stop q u i = run_end (is_neither_on_line q (cond (eqb q 39) 92 q)) u i
 
 -- A character before the stop is a piece by itself, and does not close the quote.
 no_escape : (q c d : ℕ) → is_neither_on_line q (cond (eqb q 39) 92 q) c ≡ true
@@ -193,10 +197,9 @@ passed_one q u i c s t =
     rw (← after_some u i c s) (quote_plain q u i c s plain other single)
 
 -- All characters up to the stop are skipped.
-pub quote_passed : (q : ℕ) (u : List ℕ) (i : ℕ)
+quote_passed : (q : ℕ) (u : List ℕ) (i : ℕ)
     → (close_end q u i ≡ close_end q u (piece_stop q u i))
     × (line_end u i ≡ line_end u (piece_stop q u i))
-unfolding stop_on_line
 quote_passed q u i = (
   run_kept (close_end q u) (is_neither_on_line q (cond (eqb q 39) 92 q)) u
       (λ k c s t. (passed_one q u k c s t).0) i,
@@ -204,28 +207,17 @@ quote_passed q u i = (
       (λ k c s t. (passed_one q u k c s t).1) i,
 )
 
--- The stop is at or after i.
-pub passed_on : (q : ℕ) (u : List ℕ) (i : ℕ) → i ≤ piece_stop q u i
-passed_on q u i = inside_on q (cond (eqb q 39) 92 q) u i
-
--- The quote and its line end where they did, from j of v as from i of u.
-pub record IsPassed (q : ℕ) (u : List ℕ) (i : ℕ) (v : List ℕ) (j : ℕ) : Type 0 where
+-- Index j of the text is not before index i, and the quote and its line end where they did.
+pub record IsPassed (q : ℕ) (u : List ℕ) (i j : ℕ) : Type 0 where
+  pub within : j ≤ length u
   pub on : i ≤ j
-  pub close : close_end q v j ≡ close_end q u i
-  pub line : line_end v j ≡ line_end u i
+  pub close : close_end q u j ≡ close_end q u i
+  pub line : line_end u j ≡ line_end u i
 
--- So after the characters up to the stop.
-pub passed : (q : ℕ) (u : List ℕ) (i : ℕ) (v : List ℕ) (j : ℕ) → v ≡ u → j ≡ piece_stop q u i
-    → IsPassed q u i v j
-passed q u i v j same at =
-    let p = quote_passed q u i in
-    rw (same, at) (record { on = passed_on q u i; close = sym p.0; line = sym p.1 })
-
--- The search within a text from index i on, which is n long, ends at that stop.
-pub stop_in : (q e : ℕ) (u : List ℕ) (i n : ℕ) → e ≡ cond (eqb q 39) 92 q → i ≤ length u
+-- The search within a text from index i on, which is n long, ends at the stop.
+stop_in : (q e : ℕ) (u : List ℕ) (i n : ℕ) → e ≡ cond (eqb q 39) 92 q → i ≤ length u
     → n ≡ prefix_len (is_neither_on_line q e) (take (length u - i) (drop i u))
     → (i + n ≡ piece_stop q u i) × (i + n ≤ length u)
-unfolding stop_on_line
 stop_in q e u i n escape within len =
     let all : take (length u - i) (drop i u) ≡ drop i u =
     take_all (length u - i) (drop i u) (omega (arith, length-drop i u)) in
@@ -239,6 +231,20 @@ stop_in q e u i n escape within len =
         prefix_len-le-length (is_neither_on_line q (cond (eqb q 39) 92 q)) (drop i u),
       ),
     )
+
+-- So the search passes what is not the end of the quote.
+pub passed : (q e : ℕ) (u : List ℕ) (i n : ℕ) → e ≡ cond (eqb q 39) 92 q → i ≤ length u
+    → n ≡ prefix_len (is_neither_on_line q e) (take (length u - i) (drop i u))
+    → IsPassed q u i (i + n)
+passed q e u i n escape within len =
+    let (at, inside) = stop_in q e u i n escape within len in
+    let (close, line) = quote_passed q u i in
+    record {
+      within = inside;
+      on = omega arith;
+      close = ap (close_end q u) at ∙ sym close;
+      line = ap (line_end u) at ∙ sym line;
+    }
 
 -- Skipping one byte inside a quote, and one with the byte that it escapes.
 pub byte_two : (q : ℕ) (u : List ℕ) (i : ℕ) → i + 1 < length u → is_line_end (get_or u i 0) ≡ false
@@ -292,10 +298,10 @@ quote_past q u i h = quote_none q u i (sym (read_past u i h))
 
 -- A quote that is not closed, or is empty, keeps the mark.
 pub mark_kept : (mark : Option ℕ) (u : List ℕ) (i j : ℕ) → j ≡ quote_end 39 u i
-    → (is_some (close_end 39 u i) ≡ true → j ≤ i + 1) → mark ≡ mark_at mark 39 u i
+    → (is_some (close_end 39 u i) ≡ true → j ≤ i + 1) → mark ≡ mark_after_quote mark 39 u i
 mark_kept mark u i j end few = by (close_len 39 (drop i u)) refl
   where
-    by : (o : Option ℕ) → close_len 39 (drop i u) ≡ o → mark ≡ mark_at mark 39 u i
+    by : (o : Option ℕ) → close_len 39 (drop i u) ≡ o → mark ≡ mark_after_quote mark 39 u i
     by None e = rw e refl
     by (Some n) e =
         let short : quote_len 39 (drop i u) ≡ n = rw e refl in
@@ -306,14 +312,14 @@ mark_kept mark u i j end few = by (close_len 39 (drop i u)) refl
 -- A closed quote with text has the mark of its last character.
 pub mark_last : (mark : Option ℕ) (u : List ℕ) (i j : ℕ) → j ≡ quote_end 39 u i
     → is_some (close_end 39 u i) ≡ true → i + 1 < j
-    → (j - 2 < length u) × (Some (get_or u (j - 2) 0) ≡ mark_at mark 39 u i)
+    → (j - 2 < length u) × (Some (get_or u (j - 2) 0) ≡ mark_after_quote mark 39 u i)
 mark_last mark u i j end closed some = by (close_len 39 (drop i u)) refl
   where
     within : quote_len 39 (drop i u) ≤ length (drop i u)
     within = rest_in 39 (drop i u)
 
     by : (o : Option ℕ) → close_len 39 (drop i u) ≡ o
-        → (j - 2 < length u) × (Some (get_or u (j - 2) 0) ≡ mark_at mark 39 u i)
+        → (j - 2 < length u) × (Some (get_or u (j - 2) 0) ≡ mark_after_quote mark 39 u i)
     by None e = absurd (let no : is_some (close_end 39 u i) ≡ false = rw e refl in cc)
     by (Some n) e =
         let len : quote_len 39 (drop i u) ≡ n = rw e refl in

@@ -15,8 +15,6 @@ use Rattle.squawk_lexer.proofs.ByteRuns.{high, some_bytes, byte_run}
 abbrev pub AreHigh : List ℕ → Type 0
 AreHigh xs = (k : ℕ) → k < length xs → 128 ≤ get_or xs k 0
 
--- ---- quotes
-
 -- Lengths found further on.
 pub map_none : (o : Option ℕ) → o ≡ option_map (λ n. n + 0) o
 map_none None = refl
@@ -26,6 +24,8 @@ pub map_more : (o : Option ℕ) (k : ℕ) → option_map (λ n. n + 1) (option_m
     ≡ option_map (λ n. n + suc k) o
 map_more None k = refl
 map_more (Some m) k = ap Some (omega arith)
+
+-- ---- quotes
 
 -- A character, or a byte, beyond ASCII does not close a quote, and escapes nothing.
 close_one : (q x : ℕ) (ys : List ℕ) → q < 128 → 128 ≤ x
@@ -45,6 +45,7 @@ close_one q x (y ∷ ys) small big = rw (plain, other, single) refl
     single : is_escape q x y ≡ false
     single = grind (arith, nat_tests)
 
+-- Nor do several.
 close_high : (q : ℕ) (xs ys : List ℕ) → q < 128 → AreHigh xs
     → close_len q (xs ++ ys) ≡ option_map (λ n. n + length xs) (close_len q ys)
 close_high q [] ys small all = map_none (close_len q ys)
@@ -63,7 +64,7 @@ bytes_after c n cs =
 pub one_byte : (c : ℕ) → c < 128 → length (encode_utf8 c) ≡ 1
 one_byte c small = ap length (encode_ascii c small)
 
--- The length of a quote in bytes, from that in characters.
+-- A length in bytes, from the same length in characters.
 abbrev pub in_bytes : List ℕ → Option ℕ → Option ℕ
 in_bytes cs o = option_map (λ n. utf8_len (take n cs)) o
 
@@ -122,7 +123,8 @@ tail_high d b t e = by (cases_lt d 128)
 close_ascii : (q c d b : ℕ) (t ds : List ℕ) → q < 128 → c < 128 → encode_utf8 d ≡ b ∷ t
     → close_len q (encode_utf8_all ds) ≡ in_bytes ds (close_len q ds)
     → close_len q (b ∷ (t ++ encode_utf8_all ds)) ≡ in_bytes (d ∷ ds) (close_len q (d ∷ ds))
-    → close_len q (c ∷ b ∷ (t ++ encode_utf8_all ds)) ≡ in_bytes (c ∷ d ∷ ds) (close_len q (c ∷ d ∷ ds))
+    → close_len q (c ∷ b ∷ (t ++ encode_utf8_all ds))
+    ≡ in_bytes (c ∷ d ∷ ds) (close_len q (c ∷ d ∷ ds))
 close_ascii q c d b t ds small low e after next =
     by (cases_Bool (is_line_end c)) (cases_Bool (eqb c q)) (cases_Bool (is_escape q c d))
   where
@@ -154,7 +156,8 @@ close_next : (q c d : ℕ) (ds bs : List ℕ) → q < 128
     → close_len q (encode_utf8_all ds) ≡ in_bytes ds (close_len q ds)
     → close_len q (encode_utf8_all (d ∷ ds)) ≡ in_bytes (d ∷ ds) (close_len q (d ∷ ds))
     → encode_utf8 d ≡ bs
-    → close_len q (encode_utf8_all (c ∷ d ∷ ds)) ≡ in_bytes (c ∷ d ∷ ds) (close_len q (c ∷ d ∷ ds))
+    → close_len q (encode_utf8_all (c ∷ d ∷ ds))
+    ≡ in_bytes (c ∷ d ∷ ds) (close_len q (c ∷ d ∷ ds))
 close_next q c d ds [] small after next e =
     absurd (let none : length (encode_utf8 d) ≡ 0 = ap length e in omega (arith, some_bytes d))
 close_next q c d ds (b ∷ t) small after next e = by (cases_lt c 128)
@@ -199,9 +202,11 @@ byte_close q (c ∷ d ∷ ds) small =
     close_next q c d ds (encode_utf8 d) small (byte_close q ds small) (byte_close q (d ∷ ds) small)
     refl
 
+-- Characters beyond ASCII are no line ends.
 uniform_on_line : (b c : ℕ) → 128 ≤ b → 128 ≤ c → is_not_line_end b ≡ is_not_line_end c
 uniform_on_line b c p q = grind (arith, nat_tests)
 
+-- A quote, closed or not, is as long in bytes as its characters.
 pub byte_quote : (q : ℕ) (cs : List ℕ) → q < 128
     → quote_len q (encode_utf8_all cs) ≡ utf8_len (take (quote_len q cs) cs)
 byte_quote q cs small = by (close_len q cs) refl

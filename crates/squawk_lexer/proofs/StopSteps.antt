@@ -9,7 +9,7 @@ use Rattle.std.specs.List.{prefix_len}
 use Rattle.squawk_lexer.specs.Position.{position_after}
 use Rattle.squawk_lexer.specs.Runs.{run_end}
 use Rattle.squawk_lexer.specs.Bytes.{first_byte, IsAsciiRun}
-use Rattle.squawk_lexer.specs.Stops.{is_neither, stop_at, is_neither_on_line, stop_on_line}
+use Rattle.squawk_lexer.specs.Stops.{is_neither, stop_at, is_neither_on_line}
 use Rattle.squawk_lexer.proofs.ByteRuns.{IsUniform}
 use Rattle.squawk_lexer.proofs.ByteReads.{lead_ascii, lead_high}
 use Rattle.squawk_lexer.proofs.Steps.{drop_read, drop_past, after_some, within_some, get_some}
@@ -183,8 +183,3 @@ inside_run a b bs cs n m first part second =
     ∙ same_runs (λ x. not ((eqb x a || eqb x b) || eqb x 10)
     && not (eqb x 13)) (is_neither_on_line a b)
     (λ x. line_tests (eqb x a) (eqb x b) (eqb x 10) (eqb x 13)) bs)
-
--- A search on a line ends at or after its start.
-pub inside_on : (a b : ℕ) (u : List ℕ) (i : ℕ) → i ≤ stop_on_line a b u i
-unfolding stop_on_line
-inside_on a b u i = omega arith

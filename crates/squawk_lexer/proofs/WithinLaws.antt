@@ -227,16 +227,16 @@ prefix_in NoPrefix u e h = run_in is_ident_cont u 1 h
 -- ---- psql commands
 
 -- The parts of a psql command end within the text.
-args_in : (u : List ℕ) (i : ℕ) → i ≤ length u → arguments_end u i ≤ length u
-args_in u i h = omega (arith, len 0 (drop i u), length-drop i u)
-  where
-    len : (inside : ℕ) (v : List ℕ) → arguments_len inside v ≤ length v
-    len inside [] = omega arith
-    len zero (c ∷ cs) = less (ends_arguments c) 0 (1 + arguments_len (part_rest c cs) cs) _
-        (λ t. omega arith) (omega (arith, len (part_rest c cs) cs))
-    len (suc n) (c ∷ cs) = omega (arith, len n cs)
+pub args_len_in : (inside : ℕ) (v : List ℕ) → arguments_len inside v ≤ length v
+args_len_in inside [] = omega arith
+args_len_in zero (c ∷ cs) = less (ends_arguments c) 0 (1 + arguments_len (part_rest c cs) cs) _
+    (λ t. omega arith) (omega (arith, args_len_in (part_rest c cs) cs))
+args_len_in (suc n) (c ∷ cs) = omega (arith, args_len_in n cs)
 
-marked_in : (inside : ℕ) (mark : Option ℕ) (v : List ℕ)
+args_in : (u : List ℕ) (i : ℕ) → i ≤ length u → arguments_end u i ≤ length u
+args_in u i h = omega (arith, args_len_in 0 (drop i u), length-drop i u)
+
+pub marked_in : (inside : ℕ) (mark : Option ℕ) (v : List ℕ)
     → unwrap_or (marked_len inside mark v) (length v) ≤ length v
 marked_in inside mark [] = found (is_parenthesis mark) (Some 0) None _
     (λ t. omega arith) (omega arith)

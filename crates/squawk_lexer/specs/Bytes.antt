@@ -1,4 +1,5 @@
--- First bytes of characters in UTF-8. A byte below 128 is an ASCII character by itself.
+-- First bytes of characters in UTF-8, and tables of bytes. A byte below 128 is an ASCII character by
+-- itself.
 use Rattle.std.specs.Prelude.{◌≡◌, ℕ, ◌+◌, ◌<◌, ◌==◌, ◌||◌, nat_lt, not, if◌then◌else◌, List, length, slice_index}
 use Rattle.std.specs.Int.{w64, trailing_zeros}
 use Rattle.std.specs.Char.{encode_utf8}
@@ -12,7 +13,8 @@ pub record HasIdentCont (table : List ℕ) : Type 0 where
   pub each : (b : ℕ) → b < 256 → not (slice_index table b == comma) ≡ is_ident_cont b
 
 -- A table of 256 entries has `,` exactly at blanks, `[` at the bytes that open a quote in psql's
--- arguments, `]` at those that end the arguments, and entries below `[` at all but the last two.
+-- arguments, `]` at those that end the arguments, and an entry below `[` exactly at all bytes but
+-- those that open a quote or end the arguments.
 pub record HasArgumentBytes (table : List ℕ) : Type 0 where
   pub len : length table ≡ 256
   pub blanks : (b : ℕ) → b < 256 → (slice_index table b == comma) ≡ is_blank b

@@ -1,8 +1,6 @@
 -- Indexes and characters in a quote of psql's arguments, for the functions that skip one.
-use Rattle.std.specs.Prelude.{ℕ, ◌+◌, ◌==◌, List, drop, Option, option_map, if◌then◌else◌}
-use Rattle.squawk_lexer.specs.Classes.{apostrophe, backslash}
+use Rattle.std.specs.Prelude.{ℕ, ◌+◌, List, drop, Option, option_map}
 use Rattle.squawk_lexer.specs.PsqlParts.{close_len, quote_len, mark_after}
-use Rattle.squawk_lexer.specs.Stops.{stop_on_line}
 
 -- The index after the quote q that closes a quote, where index i of u is inside it. `None` where it
 -- is not closed.
@@ -14,10 +12,5 @@ abbrev pub quote_end : ℕ → List ℕ → ℕ → ℕ
 quote_end q u i = i + quote_len q (drop i u)
 
 -- The mark of an argument after that quote, where it was `mark` before.
-abbrev pub mark_at : Option ℕ → ℕ → List ℕ → ℕ → Option ℕ
-mark_at mark q u i = mark_after mark q (drop i u)
-
--- The index at or after i of the next character that may close the quote or begin an escape,
--- or of the end of the line.
-abbrev pub piece_stop : ℕ → List ℕ → ℕ → ℕ
-piece_stop q u i = stop_on_line q (if q == apostrophe then backslash else q) u i
+abbrev pub mark_after_quote : Option ℕ → ℕ → List ℕ → ℕ → Option ℕ
+mark_after_quote mark q u i = mark_after mark q (drop i u)

@@ -15,7 +15,3 @@ stop_at a b u i = run_end (is_neither a b) u i
 -- Any character but a, b, LF and CR.
 abbrev pub is_neither_on_line : ℕ → ℕ → ℕ → Bool
 is_neither_on_line a b c = is_neither a b c && is_not_line_end c
-
--- The index of the first a or b at or after index i on its line, or the end of the line.
-unfoldable pub stop_on_line : ℕ → ℕ → List ℕ → ℕ → ℕ
-stop_on_line a b u i = run_end (is_neither_on_line a b) u i

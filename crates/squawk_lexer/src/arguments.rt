@@ -3,7 +3,7 @@
 ghost use Rattle.std.specs.Prelude.{◌≡◌, ◌≢◌, ◌<◌, ◌≤◌, length, slice_index, unwrap_or, is_some, None, true, false};
 ghost use Rattle.squawk_lexer.specs.Classes.{is_line_end};
 ghost use Rattle.squawk_lexer.specs.Runs.{line_end};
-ghost use Rattle.squawk_lexer.specs.PsqlQuotes.{close_end, quote_end, mark_at};
+ghost use Rattle.squawk_lexer.specs.PsqlQuotes.{close_end, quote_end, mark_after_quote};
 ghost use Rattle.squawk_lexer.specs.PsqlParts as parts;
 ghost use Rattle.squawk_lexer.specs.Bytes.{HasArgumentBytes};
 
@@ -57,20 +57,20 @@ pub(crate) fn arguments_len(bytes: &[u8]) -> usize
     at
 }
 
-// Where the options of a command end.
+// The options of a command.
 #[derive(Clone, Copy)]
-pub(crate) struct OptionsEnd {
-    pub(crate) at: usize,
+pub(crate) struct Options {
+    pub(crate) len: usize,
     // Whether an argument ends them. Otherwise all arguments are options.
-    pub(crate) is_found: bool,
+    pub(crate) are_ended: bool,
 }
 
-// The end of the options at the start of a text: that of the first argument whose mark is `)`, or
-// else of all arguments. See `docs/GRAMMAR.md`, "psql commands".
-pub(crate) fn options_end(bytes: &[u8]) -> OptionsEnd
-    ensures at { result.at ≡ unwrap_or (parts.marked_len 0 None bytes.now)
+// The options at the start of a text. They end after the first argument whose mark is `)`, or else
+// after all arguments. See `docs/GRAMMAR.md`, "psql commands".
+pub(crate) fn find_options(bytes: &[u8]) -> Options
+    ensures len { result.len ≡ unwrap_or (parts.marked_len 0 None bytes.now)
         (parts.arguments_len 0 bytes.now) }
-    ensures found { result.is_found ≡ is_some (parts.marked_len 0 None bytes.now) }
+    ensures ended { result.are_ended ≡ is_some (parts.marked_len 0 None bytes.now) }
 {
     let table = argument_table();
     let mut mark = None;
@@ -89,14 +89,17 @@ pub(crate) fn options_end(bytes: &[u8]) -> OptionsEnd
             continue;
         }
         if is_parenthesis(mark) {
-            return OptionsEnd { at, is_found: true };
+            return Options {
+                len: at,
+                are_ended: true,
+            };
         }
         mark = None;
         at += 1;
     }
-    OptionsEnd {
-        at,
-        is_found: is_parenthesis(mark),
+    Options {
+        len: at,
+        are_ended: is_parenthesis(mark),
     }
 }
 
@@ -114,8 +117,8 @@ struct QuoteEnd {
     is_closed: bool,
 }
 
-// The mark of an argument after a quote with text from `start` up to `end`, where it was `mark`
-// before the quote.
+// The mark of an argument after the quote whose text begins at `start` and which ends at `end`.
+// Before the quote it was `mark`.
 #[inline(always)]
 fn mark_after_quote(
     mark: Option<u8>,
@@ -124,14 +127,15 @@ fn mark_after_quote(
     start: usize,
     end: QuoteEnd,
 ) -> Option<u8>
-    requires quote { parts.is_psql_quote quote ≡ true }
     requires start { start ≤ length bytes.now }
     requires at { end.at ≡ quote_end quote bytes.now start }
     requires closed { end.is_closed ≡ is_some (close_end quote bytes.now start) }
-    ensures { result ≡ mark_at mark quote bytes.now start }
+    ensures { result ≡ mark_after_quote mark quote bytes.now start }
 {
     match quote {
         b'\'' => {
+            // A quote that is not closed, or is empty, has no last byte. A byte of a character
+            // beyond ASCII is no `)`, and nor is the character.
             if end.is_closed && end.at > start + 1 {
                 Some(bytes[end.at - 2])
             } else {
@@ -143,7 +147,8 @@ fn mark_after_quote(
     }
 }
 
-// The end of the quote that was opened by `quote` before the index `start`.
+// The end of the quote that was opened by `quote` before the index `start`. Inlined, since most
+// quotes are short.
 #[inline(always)]
 fn quote_end(quote: u8, bytes: &[u8], start: usize) -> QuoteEnd
     requires quote { parts.is_psql_quote quote ≡ true }

@@ -75,7 +75,7 @@ pub(crate) fn run_until2_on_line(a: u8, b: u8, bytes: &[u8]) -> usize
     ensures whole { result < LANES → result ≡ prefix_len (is_neither_on_line a b) bytes.now }
 {
     let v = u8x16::from_slice(bytes);
-    let is_stop = v.simd_eq(u8x16::splat(a)) | v.simd_eq(u8x16::splat(b));
+    let is_either = v.simd_eq(u8x16::splat(a)) | v.simd_eq(u8x16::splat(b));
     let is_line_end = v.simd_eq(u8x16::splat(b'\n')) | v.simd_eq(u8x16::splat(b'\r'));
-    first_set((is_stop | is_line_end).to_bitmask())
+    first_set((is_either | is_line_end).to_bitmask())
 }

@@ -134,9 +134,9 @@ fn memchr_len_until2(a: u8, b: u8, bytes: &[u8]) -> usize
     first.unwrap_or(bytes.len())
 }
 
-// The number of bytes of a line that are tested one by one before `LANES` at once: most quotes in
+// The number of bytes that are tested one by one before `LANES` are tested at once: most quotes in
 // the arguments of psql's commands are short.
-const NEAR_ON_LINE: usize = 4;
+const BYTES_BEFORE_LANES: usize = 4;
 
 // The number of bytes before the first `a`, `b`, LF or CR, or of all bytes if there is none.
 #[inline(always)]
@@ -144,23 +144,23 @@ pub(crate) fn len_until2_on_line(a: u8, b: u8, bytes: &[u8]) -> usize
     ensures { result ≡ prefix_len (is_neither_on_line a b) bytes.now }
 {
     let len = near_len_until2_on_line(a, b, bytes);
-    if len < NEAR_ON_LINE {
+    if len < BYTES_BEFORE_LANES {
         return len;
     }
     len + far_len_until2_on_line(a, b, &bytes[len..])
 }
 
-// The same within the first `NEAR_ON_LINE` bytes.
+// The same within the first `BYTES_BEFORE_LANES` bytes.
 #[inline(always)]
 fn near_len_until2_on_line(a: u8, b: u8, bytes: &[u8]) -> usize
     ensures within { result ≤ length bytes.now }
     ensures prefix { result + prefix_len (is_neither_on_line a b) (drop result bytes.now)
         ≡ prefix_len (is_neither_on_line a b) bytes.now }
-    ensures whole { result < NEAR_ON_LINE
+    ensures whole { result < BYTES_BEFORE_LANES
         → result ≡ prefix_len (is_neither_on_line a b) bytes.now }
 {
     let mut len = 0;
-    while len < bytes.len() && len < NEAR_ON_LINE && is_neither_on_line(a, b, bytes[len]) {
+    while len < bytes.len() && len < BYTES_BEFORE_LANES && is_neither_on_line(a, b, bytes[len]) {
         len += 1;
     }
     len
@@ -188,8 +188,8 @@ fn far_len_until2_on_line(a: u8, b: u8, bytes: &[u8]) -> usize
     len + memchr_len_until2_on_line(a, b, &bytes[len..])
 }
 
-// The same, found by `memchr`; not inlined either. The second search reads only what the first one
-// skipped, so both together are linear.
+// The same, found by `memchr`. Not inlined, like `memchr_len_until2`. The second search reads only
+// what the first one skipped, so both together are linear.
 #[inline(never)]
 fn memchr_len_until2_on_line(a: u8, b: u8, bytes: &[u8]) -> usize
     ensures { result ≡ prefix_len (is_neither_on_line a b) bytes.now }

@@ -1,25 +1,21 @@
-use Rattle.std.proofs.Common.{◌≡◌, ◌+◌, Some, false, get_or, refl, sym, ◌∙◌, arith}
+use Rattle.std.proofs.Common.{◌≡◌, ◌+◌, ◌≤◌, length, Some, false, get_or, refl, sym, ◌∙◌, arith}
 use Rattle.squawk_lexer.specs.Classes.{is_line_end}
 use Rattle.squawk_lexer.specs.PsqlQuotes.{close_end}
 use Rattle.squawk_lexer.proofs.StopSteps.{some_read}
-use Rattle.squawk_lexer.proofs.PsqlSteps.{stop_in, passed, quote_found, quote_stop, quote_past, closed, unclosed}
+use Rattle.squawk_lexer.proofs.PsqlSteps.{passed, quote_found, quote_stop, quote_past, closed, unclosed}
 use Rattle.squawk_lexer.proofs.arguments.quote_end.Goals as goal
 
 pub overflow_add-at : goal.overflow_add-at
 overflow_add-at c =
-    omega (
-      arith,
-      (stop_in c.args.quote c.escape_or_quote-escape.result c.args.bytes.now c.args.start _
-          c.escape_or_quote-escape.ensures c.requires.start c.len_until2_on_line.ensures).1,
-    )
+    let p = passed c.args.quote c.escape_or_quote-escape.result c.args.bytes.now c.args.start _
+    c.escape_or_quote-escape.ensures c.requires.start c.len_until2_on_line.ensures in
+    omega (arith, p.within)
 
 pub loop-at-init : goal.loop-at-init
 loop-at-init c =
-    let u = c.args.bytes.now in
-    let s = stop_in c.args.quote c.escape_or_quote-escape.result u c.args.start _
+    let p = passed c.args.quote c.escape_or_quote-escape.result c.args.bytes.now c.args.start _
     c.escape_or_quote-escape.ensures c.requires.start c.len_until2_on_line.ensures in
-    let p = passed c.args.quote u c.args.start u _ refl s.0 in
-    record { within = s.1; on = p.on; close = p.close; line = p.line }
+    record { within = p.within; on = p.on; close = p.close; line = p.line }
 
 -- The quote is closed by the next byte.
 found : (c : goal.Then-bytes-at)
@@ -28,9 +24,8 @@ found c =
     let u = c.args.bytes.now in
     let plain : is_line_end (get_or u c.loop-at.at 0) ≡ false = sym c.is_line_end.ensures
     ∙ c.if-not-is_line_end.true in
-    quote_found c.args.quote u c.args.start u c.loop-at.at (get_or u c.loop-at.at 0)
-    c.loop-at.invariant.close (some_read u c.loop-at.at c.loop-at-test.true) plain
-    c.if-bytes-at.true
+    quote_found c.args.quote u c.args.start c.loop-at.at c.loop-at.invariant.close
+    c.loop-at-test.true plain c.if-bytes-at.true
 
 pub returns-then-bytes-at-clause-at : goal.returns-then-bytes-at-clause-at
 returns-then-bytes-at-clause-at c =
@@ -41,22 +36,18 @@ returns-then-bytes-at-clause-closed c = rw (found c) refl
 
 pub overflow_add-at-in-loop-at : goal.overflow_add-at-in-loop-at
 overflow_add-at-in-loop-at c =
-    omega (
-      arith,
-      (stop_in c.args.quote c.escape_or_quote-escape.result c.args.bytes.now
-          c.quoted_char_end-at.result _ c.escape_or_quote-escape.ensures
-          c.quoted_char_end-at.ensures.within c.len_until2_on_line-at.ensures).1,
-    )
+    let p = passed c.args.quote c.escape_or_quote-escape.result c.args.bytes.now
+    c.quoted_char_end-at.result _ c.escape_or_quote-escape.ensures
+    c.quoted_char_end-at.ensures.within c.len_until2_on_line-at.ensures in
+    omega (arith, p.within)
 
 pub loop-at-preserved : goal.loop-at-preserved
 loop-at-preserved c =
-    let u = c.args.bytes.now in
-    let s = stop_in c.args.quote c.escape_or_quote-escape.result u c.quoted_char_end-at.result _
-    c.escape_or_quote-escape.ensures c.quoted_char_end-at.ensures.within c.len_until2_on_line-at.ensures
-    in
-    let p = passed c.args.quote u c.quoted_char_end-at.result u _ refl s.0 in
+    let p = passed c.args.quote c.escape_or_quote-escape.result c.args.bytes.now
+    c.quoted_char_end-at.result _ c.escape_or_quote-escape.ensures
+    c.quoted_char_end-at.ensures.within c.len_until2_on_line-at.ensures in
     record {
-      within = s.1;
+      within = p.within;
       on = omega (arith, c.loop-at.invariant.on, c.quoted_char_end-at.ensures.forward);
       close = p.close ∙ c.quoted_char_end-at.ensures.close ∙ c.loop-at.invariant.close;
       line = p.line ∙ c.quoted_char_end-at.ensures.line ∙ c.loop-at.invariant.line;
@@ -81,13 +72,13 @@ returns-else-not-is_line_end-clause-closed c =
 
 pub returns-after-loop-at-clause-at : goal.returns-after-loop-at-clause-at
 returns-after-loop-at-clause-at c =
-    let e = quote_past c.args.quote c.args.bytes.now c.loop-at.at (omega (arith, c.loop-at-test.false))
-    in
+    let past : length c.args.bytes.now ≤ c.loop-at.at = omega (arith, c.loop-at-test.false) in
+    let e = quote_past c.args.quote c.args.bytes.now c.loop-at.at past in
     unclosed c.args.quote c.args.bytes.now c.args.start c.loop-at.at (sym c.loop-at.invariant.close
     ∙ e.0) (sym c.loop-at.invariant.line ∙ e.1)
 
 pub returns-after-loop-at-clause-closed : goal.returns-after-loop-at-clause-closed
 returns-after-loop-at-clause-closed c =
-    let e = quote_past c.args.quote c.args.bytes.now c.loop-at.at (omega (arith, c.loop-at-test.false))
-    in
+    let past : length c.args.bytes.now ≤ c.loop-at.at = omega (arith, c.loop-at-test.false) in
+    let e = quote_past c.args.quote c.args.bytes.now c.loop-at.at past in
     rw (sym c.loop-at.invariant.close ∙ e.0) refl

@@ -2,9 +2,9 @@ use Rattle.std.proofs.Common.{◌≡◌, true, false, cond, Some, None, get_or, 
 use Rattle.squawk_lexer.specs.Classes.{is_blank}
 use Rattle.squawk_lexer.specs.PsqlParts.{is_psql_quote, ends_arguments, arguments_end, is_parenthesis}
 use Rattle.squawk_lexer.proofs.ByteClasses.{entry_is, entry_not}
-use Rattle.squawk_lexer.proofs.ArgumentSteps.{marked_end, blank_is_plain, blank_goes_on, byte_quote, byte_marked, byte_single, byte_mark, byte_blank, byte_found, byte_end, byte_none, options_last, options_found}
-use Rattle.squawk_lexer.proofs.arguments.options_end.Goals as goal
-use Rattle.squawk_lexer.proofs.arguments.options_end.Goals.{then-loop-at-test+else-table-bytes-ne-END, else-loop-at-test}
+use Rattle.squawk_lexer.proofs.ArgumentSteps.{args_single, args_quote, blank_is_plain, blank_goes_on, marked_end, marked_single, marked_quote, marked_blank, marked_found, marked_stop, marked_none, options_last, options_found}
+use Rattle.squawk_lexer.proofs.arguments.find_options.Goals as goal
+use Rattle.squawk_lexer.proofs.arguments.find_options.Goals.{then-loop-at-test+else-table-bytes-ne-END, else-loop-at-test}
 
 pub loop-at-preserved-then-table-b-eq-QUOTE : goal.loop-at-preserved-then-table-b-eq-QUOTE
 loop-at-preserved-then-table-b-eq-QUOTE c =
@@ -16,9 +16,9 @@ loop-at-preserved-then-table-b-eq-QUOTE c =
     record {
       within = c.quote_end-end.ensures.within;
       end = ap (arguments_end u) c.quote_end-end.ensures.at
-          ∙ sym (byte_quote u i c.loop-at-test.true quote) ∙ c.loop-at.invariant.end;
+          ∙ sym (args_quote u i c.loop-at-test.true quote) ∙ c.loop-at.invariant.end;
       marked = ap₂ (λ m k. marked_end m u k) c.mark_after_quote-mark.ensures c.quote_end-end.ensures.at
-          ∙ sym (byte_marked c.loop-at.mark u i c.loop-at-test.true quote)
+          ∙ sym (marked_quote c.loop-at.mark u i c.loop-at-test.true quote)
           ∙ c.loop-at.invariant.marked;
     }
 
@@ -37,30 +37,30 @@ loop-at-preserved-then-table-b-ne-BLANK c =
     c.if-table-b-ne-BLANK.true in
     record {
       within = omega (arith, c.loop-at-test.true);
-      end = sym (byte_single u i c.loop-at-test.true no_quote more) ∙ c.loop-at.invariant.end;
-      marked = sym (byte_mark c.loop-at.mark u i c.loop-at-test.true no_quote more no_blank)
+      end = sym (args_single u i c.loop-at-test.true no_quote more) ∙ c.loop-at.invariant.end;
+      marked = sym (marked_single c.loop-at.mark u i c.loop-at-test.true no_quote more no_blank)
           ∙ c.loop-at.invariant.marked;
     }
 
-pub returns-then-is_parenthesis-clause-at : goal.returns-then-is_parenthesis-clause-at
-returns-then-is_parenthesis-clause-at c =
+pub returns-then-is_parenthesis-clause-len : goal.returns-then-is_parenthesis-clause-len
+returns-then-is_parenthesis-clause-len c =
     let u = c.args.bytes.now in
     let i = c.loop-at.at in
     let b = get_or u i 0 in
     let blank : is_blank b ≡ true = entry_is _ 44 (is_blank b)
     (c.argument_table-table.ensures.blanks b (c.type_inv.bytes i).fits) c.if-table-b-ne-BLANK.false in
-    let found = byte_found c.loop-at.mark u i c.loop-at-test.true blank
+    let found = marked_found c.loop-at.mark u i c.loop-at-test.true blank
     (sym c.is_parenthesis.ensures ∙ c.if-is_parenthesis.true) in
     (options_found c.loop-at.mark u i c.loop-at.invariant.marked found).0
 
-pub returns-then-is_parenthesis-clause-found : goal.returns-then-is_parenthesis-clause-found
-returns-then-is_parenthesis-clause-found c =
+pub returns-then-is_parenthesis-clause-ended : goal.returns-then-is_parenthesis-clause-ended
+returns-then-is_parenthesis-clause-ended c =
     let u = c.args.bytes.now in
     let i = c.loop-at.at in
     let b = get_or u i 0 in
     let blank : is_blank b ≡ true = entry_is _ 44 (is_blank b)
     (c.argument_table-table.ensures.blanks b (c.type_inv.bytes i).fits) c.if-table-b-ne-BLANK.false in
-    let found = byte_found c.loop-at.mark u i c.loop-at-test.true blank
+    let found = marked_found c.loop-at.mark u i c.loop-at-test.true blank
     (sym c.is_parenthesis.ensures ∙ c.if-is_parenthesis.true) in
     (options_found c.loop-at.mark u i c.loop-at.invariant.marked found).1
 
@@ -73,9 +73,9 @@ loop-at-preserved c =
     (c.argument_table-table.ensures.blanks b (c.type_inv.bytes i).fits) c.if-table-b-ne-BLANK.false in
     record {
       within = omega (arith, c.loop-at-test.true);
-      end = sym (byte_single u i c.loop-at-test.true (blank_is_plain b blank) (blank_goes_on b blank))
+      end = sym (args_single u i c.loop-at-test.true (blank_is_plain b blank) (blank_goes_on b blank))
           ∙ c.loop-at.invariant.end;
-      marked = sym (byte_blank c.loop-at.mark u i c.loop-at-test.true blank
+      marked = sym (marked_blank c.loop-at.mark u i c.loop-at-test.true blank
           (sym c.is_parenthesis.ensures ∙ c.if-is_parenthesis.false)) ∙ c.loop-at.invariant.marked;
     }
 
@@ -89,19 +89,19 @@ last c =
     let i = c.loop-at.at in
     let b = get_or u i 0 in
     elim c.loop-at-test.branch [
-      | then-loop-at-test+else-table-bytes-ne-END w ↦ byte_end c.loop-at.mark u i
+      | then-loop-at-test+else-table-bytes-ne-END w ↦ marked_stop c.loop-at.mark u i
           w.loop-at-test.true (entry_is _ 93 (ends_arguments b)
           (c.argument_table-table.ensures.ends b (c.type_inv.bytes i).fits) w.if-table-bytes-ne-END.false)
-      | else-loop-at-test w ↦ byte_none c.loop-at.mark u i (omega (arith, w.loop-at-test.false))
+      | else-loop-at-test w ↦ marked_none c.loop-at.mark u i (omega (arith, w.loop-at-test.false))
     ]
 
-pub returns-clause-at : goal.returns-clause-at
-returns-clause-at c =
+pub returns-clause-len : goal.returns-clause-len
+returns-clause-len c =
     (options_last c.loop-at.mark c.args.bytes.now c.loop-at.at c.loop-at.invariant.end
     c.loop-at.invariant.marked (last c)).0
 
-pub returns-clause-found : goal.returns-clause-found
-returns-clause-found c =
+pub returns-clause-ended : goal.returns-clause-ended
+returns-clause-ended c =
     c.is_parenthesis-2.ensures
     ∙ (options_last c.loop-at.mark c.args.bytes.now c.loop-at.at c.loop-at.invariant.end
     c.loop-at.invariant.marked (last c)).1

@@ -1,7 +1,7 @@
 use Rattle.std.proofs.Common.{◌≡◌, ◌-◌, ◌≤◌, length, None}
 use Rattle.squawk_lexer.specs.PsqlParts.{arguments_end}
 use Rattle.squawk_lexer.proofs.ArgumentSteps.{marked_end}
-use Rattle.squawk_lexer.proofs.arguments.options_end.Given as goal
+use Rattle.squawk_lexer.proofs.arguments.find_options.Given as goal
 
 abbrev pub invariant-loop-at : goal.invariant-loop-at
 invariant-loop-at l = record {
